@@ -1,13 +1,16 @@
 -- Laws of the definitions of specs/Lists.
-use mathlib.Core.Path.{_≡_, refl, ap, sym, _∙_}
+use mathlib.Core.Path.{_≡_, refl, ap, ap₂, sym, _∙_}
 use mathlib.Core.Bool.{Bool, true, false, cond, _&&_, true≢false, false≢true}
 use mathlib.Core.List.{List, [], _∷_, _++_, append-assoc}
-use Prim.Native.Nat.{ℕ, zero, suc, _+_, _≤_, _<_}
-use native.Mathlib.Numerals.{add-one}
+use Prim.Native.Nat.{ℕ, zero, suc, _+_, _-_, _≤_, _<_}
+use native.Mathlib.Nat.{add-zero}
+use native.Mathlib.Decide.{decLt}
 use native.Mathlib.Omega.{arith}
+use borrow.Author.Tests.{ltb-true, ltb-false, lt-ltb, le-ltb}
+use borrow.Author.Count.{below-more}
 use lib.Dec.{ltb}
-use lib.ListN.{length, getD, drop, set, length-append}
-use lib.Seq.{drop-cons, set-at}
+use lib.ListN.{length, getD, drop, set, length-append, length-drop, List·getD-append}
+use lib.Seq.{drop-cons, set-at, getD-append-add, getD-drop, ext-getD}
 use Rattle.basics.specs.Lists.{tabFrom, tab, filled, allBelow, who, first, someBelow}
 
 module _ {ℓ} {A : Type ℓ} where
@@ -21,4 +24,188 @@ module _ {ℓ} {A : Type ℓ} where
   length-tab g m = length-tabFrom g 0 m
 
   tabFrom-suc : (g : ℕ → A) (i m : ℕ) → tabFrom g i (suc m) ≡ tabFrom g i m ++ (g (i + m) ∷ [])
-  tabFrom-suc g i m = ?
+  unfolding tabFrom
+  tabFrom-suc g i zero = ap (λ (k : ℕ). g k ∷ []) (sym (add-zero i))
+  tabFrom-suc g i (suc m) =
+      ap (λ (l : List A). g i ∷ l) (tabFrom-suc g (suc i) m ∙ ap (λ (k : ℕ). tabFrom g (suc i) m ++ (g k ∷ [])) (omega arith))
+
+  -- one element more
+  pub tab-suc : (g : ℕ → A) (m : ℕ) → tab g (suc m) ≡ tab g m ++ (g m ∷ [])
+  unfolding tab
+  tab-suc g m = tabFrom-suc g 0 m ∙ ap (λ (k : ℕ). tabFrom g 0 m ++ (g k ∷ [])) (omega arith)
+
+  getD-tabFrom : (g : ℕ → A) (i m k : ℕ) (d : A) → k < m → getD (tabFrom g i m) k d ≡ g (i + k)
+  unfolding tabFrom
+  getD-tabFrom g i zero k d h = absurd (omega arith)
+  getD-tabFrom g i (suc m) zero d h = ap g (sym (add-zero i))
+  getD-tabFrom g i (suc m) (suc k) d h = getD-tabFrom g (suc i) m k d (omega arith) ∙ ap g (omega arith)
+
+  -- an element
+  pub getD-tab : (g : ℕ → A) (m k : ℕ) (d : A) → k < m → getD (tab g m) k d ≡ g k
+  unfolding tab
+  getD-tab g m k d h = getD-tabFrom g 0 m k d h ∙ ap g (omega arith)
+
+  -- two tables that agree below m are one
+  pub tab-ext : (f g : ℕ → A) (m : ℕ) → ((k : ℕ) → k < m → f k ≡ g k) → tab f m ≡ tab g m
+  unfolding tab tabFrom
+  tab-ext f g zero h = refl
+  tab-ext f g (suc m) h =
+      tab-suc f m ∙ ap₂ (λ (l : List A) (a : A). l ++ (a ∷ [])) (tab-ext f g m (λ k e. h k (omega arith))) (h m (omega arith)) ∙ sym (tab-suc g m)
+
+  -- a list is the table of its elements
+  pub tab-getD : (d : A) (l : List A) (m : ℕ) → length l ≡ m → tab (λ k. getD l k d) m ≡ l
+  tab-getD d l m e =
+      ext-getD d (tab (λ k. getD l k d) m) l (length-tab (λ k. getD l k d) m ∙ sym e)
+      (λ i h. getD-tab (λ k. getD l k d) m i d (rw length-tab at h))
+
+  pub filled-none : (g : ℕ → A) (d : List A) → filled g 0 d ≡ d
+  unfolding filled tab tabFrom
+  filled-none g d = refl
+
+  -- one store more: a loop that fills a list from the front
+  pub filled-more : (g : ℕ → A) (m : ℕ) (d : List A) (a : A) → m < length d → a ≡ g m → set (filled g m d) m a ≡ filled g (suc m) d
+  unfolding filled
+  filled-more g m d a h e =
+      ap (λ (l : List A). set (tab g m ++ l) m a) (drop-cons d m a h)
+      ∙ set-at (tab g m) (getD d m a) (drop (suc m) d) a m (length-tab g m)
+      ∙ ap (λ (x : A). tab g m ++ x ∷ drop (suc m) d) e
+      ∙ sym (ap (λ (l : List A). l ++ drop (suc m) d) (tab-suc g m) ∙ append-assoc (tab g m) (g m ∷ []) (drop (suc m) d))
+
+  pub length-filled : (g : ℕ → A) (m : ℕ) (d : List A) → m ≤ length d → length (filled g m d) ≡ length d
+  unfolding filled
+  length-filled g m d h = simp (length-append, length-tab, length-drop) (omega arith)
+
+  -- an element of the part written
+  pub getD-filled : (g : ℕ → A) (m : ℕ) (d : List A) (k : ℕ) (z : A) → k < m → getD (filled g m d) k z ≡ g k
+  unfolding filled
+  getD-filled g m d k z h =
+      List·getD-append (tab g m) (drop m d) z k (rw (length-tab g m) h) ∙ getD-tab g m k z h
+
+  -- an element past the part written
+  pub getD-filled-past : (g : ℕ → A) (m : ℕ) (d : List A) (k : ℕ) (z : A) → m ≤ k → getD (filled g m d) k z ≡ getD d k z
+  unfolding filled
+  getD-filled-past g m d k z h =
+      ap (λ (i : ℕ). getD (tab g m ++ drop m d) i z) (omega (arith, length-tab g m))
+      ∙ getD-append-add (tab g m) (drop m d) (k - m) z
+      ∙ getD-drop m d (k - m) z
+      ∙ ap (λ (i : ℕ). getD d i z) (omega arith)
+
+  pub filled-ext : (f g : ℕ → A) (m : ℕ) (d : List A) → ((k : ℕ) → k < m → f k ≡ g k) → filled f m d ≡ filled g m d
+  unfolding filled
+  filled-ext f g m d h = ap (λ (l : List A). l ++ drop m d) (tab-ext f g m h)
+
+-- the two halves of a test that holds
+pub and-left : (a b : Bool) → (a && b) ≡ true → a ≡ true
+and-left true b h = refl
+and-left false b h = h
+
+pub and-right : (a b : Bool) → (a && b) ≡ true → b ≡ true
+and-right true b h = h
+and-right false b h = absurd (false≢true h)
+
+pub and-both : (a b : Bool) → a ≡ true → b ≡ true → (a && b) ≡ true
+and-both a b p q = rw (p, q)
+
+module _ (p : ℕ → Bool) where
+  pub allBelow-none : allBelow p 0 ≡ true
+  unfolding allBelow
+  allBelow-none = refl
+
+  pub allBelow-suc : (m : ℕ) → allBelow p (suc m) ≡ (allBelow p m && p m)
+  unfolding allBelow
+  allBelow-suc m = refl
+
+  -- what a test over all says of each
+  pub allBelow-at : (m : ℕ) → allBelow p m ≡ true → (k : ℕ) → k < m → p k ≡ true
+  unfolding allBelow
+  allBelow-at zero h k l = absurd (omega arith)
+  allBelow-at (suc m) h k l = go (decLt k m) (allBelow-at m (and-left (allBelow p m) (p m) h) k)
+    where
+      go : Dec (k < m) → (k < m → p k ≡ true) → p k ≡ true
+      go (yes e) f = f e
+      go (no e) f = rw (let s : k ≡ m = omega arith in s) (and-right (allBelow p m) (p m) h)
+
+  pub allBelow-all : (m : ℕ) → ((k : ℕ) → k < m → p k ≡ true) → allBelow p m ≡ true
+  unfolding allBelow
+  allBelow-all zero h = refl
+  allBelow-all (suc m) h = and-both (allBelow p m) (p m) (allBelow-all m (λ k l. h k (omega arith))) (h m (omega arith))
+
+  -- a search that goes upward: what it finds, goes on with and ends with
+  pub first-none : first p 0 ≡ 0
+  unfolding first
+  first-none = refl
+
+  pub first-hit : (m : ℕ) → first p m ≡ m → p m ≡ true → first p (suc m) ≡ m
+  unfolding first
+  first-hit m e h = rw (le-ltb (first p m) m (omega arith), h)
+
+  pub first-on : (m : ℕ) → first p m ≡ m → p m ≡ false → first p (suc m) ≡ suc m
+  unfolding first
+  first-on m e h = rw (le-ltb (first p m) m (omega arith), h)
+
+  pub first-kept : (m : ℕ) → first p m < m → first p (suc m) ≡ first p m
+  unfolding first
+  first-kept m h = rw (lt-ltb (first p m) m h)
+
+  -- the three facts that make a number the first one
+  pub first-is : (m : ℕ) → (first p m ≤ m) × ((k : ℕ) → k < first p m → p k ≡ false) × (first p m < m → p (first p m) ≡ true)
+  unfolding first
+  first-is zero = (omega arith, (λ k h. absurd (omega arith)), λ h. absurd (omega arith))
+  first-is (suc m) = go (ltb (first p m) m) (p m) refl refl (first-is m)
+    where
+      go : (a b : Bool) → ltb (first p m) m ≡ a → p m ≡ b
+          → (first p m ≤ m) × ((k : ℕ) → k < first p m → p k ≡ false) × (first p m < m → p (first p m) ≡ true)
+          → (cond a (first p m) (cond b m (suc m)) ≤ suc m)
+          × ((k : ℕ) → k < cond a (first p m) (cond b m (suc m)) → p k ≡ false)
+          × (cond a (first p m) (cond b m (suc m)) < suc m → p (cond a (first p m) (cond b m (suc m))) ≡ true)
+      go true b e f h = (omega arith, h .1, λ l. h .2 (ltb-true (first p m) m e))
+      go false true e f h =
+          let s : first p m ≡ m = omega (arith, ltb-false (first p m) m e, h .0) in
+          (omega arith, (λ k l. h .1 k (omega arith)), λ l. f)
+      go false false e f h =
+          let s : first p m ≡ m = omega (arith, ltb-false (first p m) m e, h .0) in
+          (omega arith, (λ k l. below-more (λ i. p i ≡ false) m (λ i o. h .1 i (omega arith)) f k (omega arith)), λ l. absurd (omega arith))
+
+  pub first-le : (m : ℕ) → first p m ≤ m
+  first-le m = first-is m .0
+
+  pub first-before : (m k : ℕ) → k < first p m → p k ≡ false
+  first-before m = first-is m .1
+
+  pub first-at : (m : ℕ) → first p m < m → p (first p m) ≡ true
+  first-at m = first-is m .2
+
+  pub first-unique : (m r : ℕ) → r ≤ m → ((k : ℕ) → k < r → p k ≡ false) → (r < m → p r ≡ true) → first p m ≡ r
+  first-unique m r a b c = go (decLt (first p m) r) (decLt r (first p m))
+    where
+      go : Dec (first p m < r) → Dec (r < first p m) → first p m ≡ r
+      go (yes l) e = absurd (true≢false (sym (first-at m (omega arith)) ∙ b (first p m) l))
+      go (no l) (yes e) = absurd (true≢false (sym (c (omega (arith, first-le m))) ∙ first-before m r e))
+      go (no l) (no e) = omega arith
+
+  -- none has p
+  pub first-all : (m : ℕ) → ((k : ℕ) → k < m → p k ≡ false) → first p m ≡ m
+  first-all m h = first-unique m m (omega arith) h (λ l. absurd (omega arith))
+
+  -- some number below m has p, and what it takes to say so
+  pub someBelow-at : (m : ℕ) → someBelow p m ≡ true → (k : ℕ) × (k < m) × (p k ≡ true)
+  unfolding someBelow
+  someBelow-at m h =
+      let l : first p m < m = ltb-true (first p m) m h in
+      (first p m, l, first-at m l)
+
+  pub someBelow-by : (m k : ℕ) → k < m → p k ≡ true → someBelow p m ≡ true
+  unfolding someBelow
+  someBelow-by m k l h = lt-ltb (first p m) m (go (decLt k (first p m)))
+    where
+      go : Dec (k < first p m) → first p m < m
+      go (yes e) = absurd (true≢false (sym h ∙ first-before m k e))
+      go (no e) = omega arith
+
+  pub someBelow-none : (m : ℕ) → someBelow p m ≡ false → (k : ℕ) → k < m → p k ≡ false
+  unfolding someBelow
+  someBelow-none m h k l = first-before m k (omega (arith, ltb-false (first p m) m h))
+
+  pub none-someBelow : (m : ℕ) → ((k : ℕ) → k < m → p k ≡ false) → someBelow p m ≡ false
+  unfolding someBelow
+  none-someBelow m h = le-ltb (first p m) m (omega (arith, first-all m h))

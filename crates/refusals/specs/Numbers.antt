@@ -1,7 +1,10 @@
 -- The refusals of document 01, 'Who can cause which refusal', and their numbers there.
 use Prim.Native.Nat.{ℕ}
+use mathlib.Core.Bool.{Bool, true, false}
 use Rattle.refusals.specs.declared.Refusal.{Refusal}
 use Rattle.refusals.specs.declared.Refusal.the-variants.{ShortRecording, TruckCount, RoundCount, RecordingLength, EndBit, OwnLoss, Record, PlainRound, ShortBuffer, RoadLists, Seconds, NoTime, AllIdle, RoundsDone}
+use Rattle.refusals.specs.declared.Outcome.{Outcome}
+use Rattle.refusals.specs.declared.Outcome.the-variants.{Accepted, Refused}
 
 abbrev pub numberOf : Refusal → ℕ
 -- fewer than 2 bytes
@@ -32,3 +35,13 @@ numberOf NoTime = 12
 numberOf AllIdle = 13
 -- a step with 400 rounds already done
 numberOf RoundsDone = 14
+
+-- the number that stands for an outcome: 0 is no refusal
+abbrev pub outcomeNumber : Outcome → ℕ
+outcomeNumber Accepted = 0
+outcomeNumber (Refused r) = numberOf r
+
+-- it is no refusal
+abbrev pub accepted : Outcome → Bool
+accepted Accepted = true
+accepted (Refused r) = false

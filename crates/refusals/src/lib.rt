@@ -1,6 +1,6 @@
 // Why an input is refused. Document 01 numbers these conditions; `numberOf` in specs/ holds its numbers.
 ghost use mathlib.Core.Path.{_≡_};
-ghost use Rattle.refusals.specs.Numbers.{numberOf};
+ghost use Rattle.refusals.specs.Numbers.{numberOf, outcomeNumber};
 
 pub enum Refusal {
     // Whoever made the recording.
@@ -23,6 +23,12 @@ pub enum Refusal {
     RoundsDone,
 }
 
+// What a check of an input finds.
+pub enum Outcome {
+    Accepted,
+    Refused(Refusal),
+}
+
 // The number under which document 01 lists the refusal.
 pub fn number(r: Refusal) -> u8
     ensures { λ k. ⌜ k ≡ numberOf r ⌝ }
@@ -42,5 +48,15 @@ pub fn number(r: Refusal) -> u8
         Refusal::NoTime => 12,
         Refusal::AllIdle => 13,
         Refusal::RoundsDone => 14,
+    }
+}
+
+// The number of an outcome: 0 where the input is accepted.
+pub fn outcome_number(o: Outcome) -> u8
+    ensures { λ k. ⌜ k ≡ outcomeNumber o ⌝ }
+{
+    match o {
+        Outcome::Accepted => 0,
+        Outcome::Refused(r) => number(r),
     }
 }

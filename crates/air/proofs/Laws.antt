@@ -1,0 +1,210 @@
+-- Laws of what is sent, heard and missed in one round.
+use mathlib.Core.Path.{_≡_, refl, ap, ap₂, sym, _∙_}
+use mathlib.Core.Bool.{Bool, true, false, cond, not, _&&_, _||_, true≢false, false≢true}
+use mathlib.Core.List.{List, [], _∷_, _++_}
+use Prim.Native.Nat.{ℕ, zero, suc, _+_, _*_, _-_, _≤_, _<_}
+use native.Mathlib.Decide.{decLt}
+use native.Mathlib.Omega.{arith}
+use borrow.Author.Tests.{ltb-true, lt-ltb, leb-false, eq-eqb, eqb-true}
+use lib.Dec.{ltb, leb, eqb}
+use lib.ListN.{length, length-append}
+use Rattle.basics.specs.Lists.{who, allBelow, someBelow, first}
+use Rattle.basics.proofs.Laws.{and-left, and-right, and-both, allBelow-at, allBelow-all, someBelow-at, someBelow-none, none-someBelow}
+use Rattle.air.specs.Air.{Air, implies, sent, hears, heardBy, heard, misses, missesAny, judged, complete, majorityComplete, zeroComplete, accurate, inFull}
+
+-- how many of the first m have p
+abbrev count : (ℕ → Bool) → ℕ → ℕ
+count p m = length (who p m)
+
+count-suc : (p : ℕ → Bool) (m : ℕ) → count p (suc m) ≡ count p m + cond (p m) 1 0
+unfolding who
+count-suc p m = length-append (who p m) (cond (p m) (m ∷ []) []) ∙ ap (λ (k : ℕ). count p m + k) (go (p m))
+  where
+    go : (b : Bool) → length (cond b (m ∷ []) []) ≡ cond b 1 0
+    go true = refl
+    go false = refl
+
+-- two sets within s with no common element have sizes that add up to at most that of s
+overlap : (p q s : ℕ → Bool) (m : ℕ)
+    → ((k : ℕ) → k < m → p k ≡ true → s k ≡ true) → ((k : ℕ) → k < m → q k ≡ true → s k ≡ true)
+    → ((k : ℕ) → k < m → p k ≡ true → q k ≡ true → ⊥) → count p m + count q m ≤ count s m
+unfolding who
+overlap p q s zero hp hq h = omega arith
+overlap p q s (suc m) hp hq h =
+    go (p m) (q m) (s m) (count-suc p m) (count-suc q m) (count-suc s m) (hp m (omega arith)) (hq m (omega arith)) (h m (omega arith))
+    (overlap p q s m (λ k l. hp k (omega arith)) (λ k l. hq k (omega arith)) (λ k l. h k (omega arith)))
+  where
+    go : (a b c : Bool) → count p (suc m) ≡ count p m + cond a 1 0 → count q (suc m) ≡ count q m + cond b 1 0
+        → count s (suc m) ≡ count s m + cond c 1 0 → (a ≡ true → c ≡ true) → (b ≡ true → c ≡ true) → (a ≡ true → b ≡ true → ⊥)
+        → count p m + count q m ≤ count s m → count p (suc m) + count q (suc m) ≤ count s (suc m)
+    go true true c ep eq es hp hq h i = absurd (h refl refl)
+    go true false true ep eq es hp hq h i = omega arith
+    go true false false ep eq es hp hq h i = absurd (false≢true (hp refl))
+    go false true true ep eq es hp hq h i = omega arith
+    go false true false ep eq es hp hq h i = absurd (false≢true (hq refl))
+    go false false true ep eq es hp hq h i = omega arith
+    go false false false ep eq es hp hq h i = omega arith
+
+-- none of them, and at least one
+count-none : (p : ℕ → Bool) (m : ℕ) → count p m ≡ 0 → (k : ℕ) → k < m → p k ≡ false
+unfolding who
+count-none p zero e k h = absurd (omega arith)
+count-none p (suc m) e k h = go (p m) refl (count-suc p m) (decLt k m) (count-none p m)
+  where
+    go : (b : Bool) → p m ≡ b → count p (suc m) ≡ count p m + cond b 1 0 → Dec (k < m)
+        → (count p m ≡ 0 → (k : ℕ) → k < m → p k ≡ false) → p k ≡ false
+    go true f g d ih = absurd (omega arith)
+    go false f g (yes l) ih = ih (omega arith) k l
+    go false f g (no l) ih = rw (let s : k ≡ m = omega arith in s) f
+
+pub count-some : (p : ℕ → Bool) (m k : ℕ) → k < m → p k ≡ true → 0 < count p m
+count-some p m k h e = go (decLt 0 (count p m))
+  where
+    go : Dec (0 < count p m) → 0 < count p m
+    go (yes l) = l
+    go (no l) = absurd (true≢false (sym e ∙ count-none p m (omega arith) k h))
+
+-- the same numbers
+pub who-ext : (p q : ℕ → Bool) (m : ℕ) → ((k : ℕ) → k < m → p k ≡ q k) → who p m ≡ who q m
+unfolding who
+who-ext p q zero h = refl
+who-ext p q (suc m) h =
+    ap₂ (λ (l : List ℕ) (b : Bool). l ++ cond b (m ∷ []) []) (who-ext p q m (λ k l. h k (omega arith))) (h m (omega arith))
+
+pub implies-mp : (b c : Bool) → implies b c ≡ true → b ≡ true → c ≡ true
+implies-mp true c h e = h
+implies-mp false c h e = absurd (false≢true e)
+
+pub implies-by : (b c : Bool) → (b ≡ true → c ≡ true) → implies b c ≡ true
+implies-by true c h = h refl
+implies-by false c h = refl
+
+-- what every running truck has
+pub judged-at : (a : Air) (p : ℕ → Bool) → judged a p ≡ true → (i : ℕ) → i < a .trucks → a .running i ≡ true → p i ≡ true
+unfolding judged
+judged-at a p h i l r =
+    implies-mp (a .running i) (p i) (allBelow-at (λ k. implies (a .running k) (p k)) (a .trucks) h i l) r
+
+pub judged-by : (a : Air) (p : ℕ → Bool) → ((i : ℕ) → i < a .trucks → a .running i ≡ true → p i ≡ true) → judged a p ≡ true
+unfolding judged
+judged-by a p h =
+    allBelow-all (λ k. implies (a .running k) (p k)) (a .trucks) (λ k l. implies-by (a .running k) (p k) (h k l))
+
+module _ (a : Air) (i : ℕ) where
+  -- nothing is heard that was not sent
+  pub hears-sends : (j : ℕ) → hears a i j ≡ true → a .sends j ≡ true
+  unfolding hears
+  hears-sends j h = and-left (a .sends j) (eqb i j || not (a .lost i j)) h
+
+  -- a sender hears itself
+  pub hears-itself : a .sends i ≡ true → hears a i i ≡ true
+  unfolding hears
+  hears-itself h = rw (h, eq-eqb i i refl)
+
+  -- one who hears none hears nobody
+  pub heard-none : heard a i ≡ 0 → (j : ℕ) → j < a .trucks → hears a i j ≡ false
+  unfolding heard heardBy
+  heard-none e j l = count-none (hears a i) (a .trucks) e j l
+
+  pub heard-some : (j : ℕ) → j < a .trucks → hears a i j ≡ true → 0 < heard a i
+  unfolding heard heardBy
+  heard-some j l h = count-some (hears a i) (a .trucks) j l h
+
+  -- who misses nothing hears all that was sent
+  pub in-full : missesAny a i ≡ false → heardBy a i ≡ who (a .sends) (a .trucks)
+  unfolding missesAny heardBy misses
+  in-full h =
+      who-ext (hears a i) (a .sends) (a .trucks)
+      (λ k l. go (hears a i k) (a .sends k) (hears-sends k) (someBelow-none (λ j. a .sends j && not (hears a i j)) (a .trucks) h k l))
+    where
+      go : (b c : Bool) → (b ≡ true → c ≡ true) → (c && not b) ≡ false → b ≡ c
+      go true true f e = refl
+      go true false f e = sym (f refl)
+      go false true f e = sym e
+      go false false f e = refl
+
+-- a message is sent by somebody
+pub sent-none : (a : Air) → sent a ≡ 0 → (j : ℕ) → j < a .trucks → a .sends j ≡ false
+unfolding sent
+sent-none a e = count-none (a .sends) (a .trucks) e
+
+pub sent-some : (a : Air) (j : ℕ) → j < a .trucks → a .sends j ≡ true → 0 < sent a
+unfolding sent
+sent-some a = count-some (a .sends) (a .trucks)
+
+-- two who hear more than half of the messages each hear one message in common
+pub common : (a : Air) (i j : ℕ) → sent a < 2 * heard a i → sent a < 2 * heard a j
+    → (k : ℕ) × (k < a .trucks) × (hears a i k ≡ true) × (hears a j k ≡ true)
+unfolding sent heard heardBy
+common a i j hi hj = go (someBelow both (a .trucks)) refl
+  where
+    both : ℕ → Bool
+    both k = hears a i k && hears a j k
+
+    go : (b : Bool) → someBelow both (a .trucks) ≡ b → (k : ℕ) × (k < a .trucks) × (hears a i k ≡ true) × (hears a j k ≡ true)
+    go true e =
+        let s = someBelow-at both (a .trucks) e in
+        (s .0, s .1, and-left (hears a i (s .0)) (hears a j (s .0)) (s .2), and-right (hears a i (s .0)) (hears a j (s .0)) (s .2))
+    go false e =
+        absurd (omega (
+          arith,
+          overlap (hears a i) (hears a j) (a .sends) (a .trucks) (λ k l. hears-sends a i k) (λ k l. hears-sends a j k)
+              (λ k l p q. true≢false (sym (and-both (hears a i k) (hears a j k) p q) ∙ someBelow-none both (a .trucks) e k l)),
+        ))
+
+module _ (a : Air) (i : ℕ) (l : i < a .trucks) (r : a .running i ≡ true) where
+  -- no mark in a majority complete round with a message: more than half of the messages were heard
+  pub majority-hears : majorityComplete a ≡ true → a .marked i ≡ false → 0 < sent a → sent a < 2 * heard a i
+  unfolding majorityComplete
+  majority-hears h m s = go (leb (2 * heard a i) (sent a)) refl
+    where
+      go : (b : Bool) → leb (2 * heard a i) (sent a) ≡ b → sent a < 2 * heard a i
+      go true e =
+          absurd (false≢true (sym m ∙ implies-mp (ltb 0 (sent a) && leb (2 * heard a i) (sent a)) (a .marked i)
+          (judged-at a (λ i. implies (ltb 0 (sent a) && leb (2 * heard a i) (sent a)) (a .marked i)) h i l r)
+          (and-both (ltb 0 (sent a)) (leb (2 * heard a i) (sent a)) (lt-ltb 0 (sent a) s) e)))
+      go false e = leb-false (2 * heard a i) (sent a) e
+
+  -- no mark in a zero complete round and nothing heard: nothing was sent
+  pub zero-silent : zeroComplete a ≡ true → a .marked i ≡ false → heard a i ≡ 0 → sent a ≡ 0
+  unfolding zeroComplete
+  zero-silent h m z = go (decLt 0 (sent a))
+    where
+      go : Dec (0 < sent a) → sent a ≡ 0
+      go (yes s) =
+          absurd (false≢true (sym m ∙ implies-mp (ltb 0 (sent a) && eqb (heard a i) 0) (a .marked i)
+          (judged-at a (λ i. implies (ltb 0 (sent a) && eqb (heard a i) 0) (a .marked i)) h i l r)
+          (and-both (ltb 0 (sent a)) (eqb (heard a i) 0) (lt-ltb 0 (sent a) s) (eq-eqb (heard a i) 0 z))))
+      go (no s) = omega arith
+
+  -- no mark in an accurate round that was heard in full
+  pub accurate-clear : accurate a ≡ true → missesAny a i ≡ false → a .marked i ≡ false
+  unfolding accurate
+  accurate-clear h m = go (a .marked i) refl
+    where
+      go : (b : Bool) → a .marked i ≡ b → b ≡ false
+      go true e =
+          absurd (false≢true (sym m ∙ implies-mp (a .marked i) (missesAny a i) (judged-at a (λ i. implies (a .marked i) (missesAny a i)) h i l r) e))
+      go false e = refl
+
+-- nobody misses anything of a silent round
+pub silent-none : (a : Air) (i : ℕ) → sent a ≡ 0 → missesAny a i ≡ false
+unfolding missesAny misses
+silent-none a i e =
+    none-someBelow (λ j. a .sends j && not (hears a i j)) (a .trucks) (λ k l. rw (sent-none a e k l))
+
+-- a majority complete round is zero complete
+pub majority-zero : (a : Air) → majorityComplete a ≡ true → zeroComplete a ≡ true
+unfolding zeroComplete
+majority-zero a h =
+    judged-by a (λ i. implies (ltb 0 (sent a) && eqb (heard a i) 0) (a .marked i))
+    (λ i l r. implies-by (ltb 0 (sent a) && eqb (heard a i) 0) (a .marked i) (λ e. go i l r e (a .marked i) refl))
+  where
+    go : (i : ℕ) → i < a .trucks → a .running i ≡ true → (ltb 0 (sent a) && eqb (heard a i) 0) ≡ true → (b : Bool) → a .marked i ≡ b → b ≡ true
+    go i l r e true m = refl
+    go i l r e false m =
+        absurd (omega (
+          arith,
+          majority-hears a i l r h m (ltb-true 0 (sent a) (and-left (ltb 0 (sent a)) (eqb (heard a i) 0) e)),
+          eqb-true (heard a i) 0 (and-right (ltb 0 (sent a)) (eqb (heard a i) 0) e),
+        ))

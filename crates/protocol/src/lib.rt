@@ -1,0 +1,53 @@
+// The fleet record and the answers about it. specs/ has the rules of the two-round protocol; there is no code here.
+use refusals::Outcome;
+use refusals::Refusal;
+
+// How many different values a truck heard in the proposal round.
+pub enum Heard {
+    Nothing,
+    One,
+    Several,
+}
+
+// A decided truck's crusher is its estimate; the number is the round of the stop or the decision.
+pub enum State {
+    Running,
+    Stopped(u16),
+    Decided(u16),
+}
+
+// One truck: its opening and present estimate, and what it heard in the proposal round before: whether it had a mark, and how many values.
+pub struct Truck {
+    pub opening: u8,
+    pub estimate: u8,
+    pub mark: bool,
+    pub heard: Heard,
+    pub state: State,
+}
+
+// A fleet of n trucks with some rounds done. Places n and above of the array hold no truck of the fleet.
+pub struct Fleet {
+    pub n: u8,
+    pub done: u16,
+    pub trucks: [Truck; 32],
+}
+
+// What starting, stepping and running a fleet answer.
+pub struct Answer {
+    pub outcome: Outcome,
+    pub fleet: Fleet,
+}
+
+// For each class of marks the first round that breaks it, or 0.
+pub struct Grades {
+    pub complete: u16,
+    pub majority: u16,
+    pub zero: u16,
+    pub accurate: u16,
+}
+
+// What grading a recording answers.
+pub enum Grading {
+    Graded(Grades),
+    Refused(Refusal),
+}

@@ -1,2 +1,3 @@
 pub mod Round
 pub mod Air
+pub mod Runs

@@ -6,7 +6,7 @@ use lib.Dec.{eqb, leb, ltb}
 use lib.ListN.{getD}
 use Rattle.basics.specs.Lists.{filled}
 use Rattle.basics.specs.Bits.{odd}
-use Rattle.air.specs.Round.{stopBit, activeBit, markBit, lossBit}
+use Rattle.air.specs.Round.{stopBit, markBit, lossBit}
 use Rattle.air.specs.Air.{Air, heard, heardBy}
 use Rattle.protocol.specs.declared.Heard.{Heard}
 use Rattle.protocol.specs.declared.Heard.the-variants.{Nothing, One, Several}
@@ -113,6 +113,6 @@ plays a k w ts i =
     (vetoed k (markBit w i) (ltb 0 (heard a i)) (truck ts i))
 
 -- the trucks after round k with the words w; places n and above stay as they are
-unfoldable pub after : ℕ → ℕ → List ℕ → List Truck → List Truck
-after n k w ts =
-    filled (λ i. turn (truck ts i .state) (stopBit w i) (stops k (truck ts i)) (plays (airOf n (activeBit w) k w ts) k w ts i) (truck ts i)) n ts
+unfoldable pub after : ℕ → (ℕ → Bool) → ℕ → List ℕ → List Truck → List Truck
+after n active k w ts =
+    filled (λ i. turn (truck ts i .state) (stopBit w i) (stops k (truck ts i)) (plays (airOf n active k w ts) k w ts i) (truck ts i)) n ts

@@ -1,0 +1,87 @@
+-- Document 01, 'Bits of a recording': where each field of the packed form stands, and the packed form of plain openings and words.
+use Prim.Native.Nat.{ℕ, zero, suc, _+_, _*_, _-_, _/_, _%_, _^_}
+use mathlib.Core.Bool.{cond}
+use mathlib.Core.List.{List, [], _∷_, _++_}
+use lib.Dec.{ltb}
+use lib.ListN.{getD}
+use Rattle.basics.specs.Bits.{digit}
+use Rattle.basics.specs.Lists.{tab}
+
+-- bit p of the bytes, the most significant bit of the first byte being bit 0; 0 past the end
+unfoldable pub bitAt : List ℕ → ℕ → ℕ
+bitAt s p = digit (getD s (p / 8) 0) (7 - p % 8)
+
+-- k bits from place p as a number, the first worth most
+unfoldable pub numAt : (ℕ → ℕ) → ℕ → ℕ → ℕ
+numAt f p zero = 0
+numAt f p (suc k) = numAt f p k * 2 + f (p + k)
+
+-- k bits from place p as a word of plain form, the first worth 1: truck j at the bit worth 2 to the j
+unfoldable pub rowAt : (ℕ → ℕ) → ℕ → ℕ → ℕ
+rowAt f p zero = 0
+rowAt f p (suc k) = rowAt f p k + f (p + k) * 2 ^ k
+
+-- truck count n: 6 bits
+unfoldable pub trucksOf : List ℕ → ℕ
+trucksOf s = numAt (bitAt s) 0 6
+
+-- rounds R: 10 bits
+unfoldable pub roundsOf : List ℕ → ℕ
+roundsOf s = numAt (bitAt s) 6 10
+
+-- the opening of truck i: 4 bits
+unfoldable pub openingAt : List ℕ → ℕ → ℕ
+openingAt s i = numAt (bitAt s) (16 + 4 * i) 4
+
+-- n openings, truck 0 first
+unfoldable pub openingsOf : List ℕ → List ℕ
+openingsOf s = tab (openingAt s) (trucksOf s)
+
+-- the words of a round in plain form: stop, active, mark, and a row of loss bits for each truck
+abbrev pub roundWords : ℕ → ℕ
+roundWords n = 3 + n
+
+-- word w of the rounds, which follow the openings as one run of words of n bits
+unfoldable pub wordAt : List ℕ → ℕ → ℕ
+wordAt s w = rowAt (bitAt s) (16 + 4 * trucksOf s + w * trucksOf s) (trucksOf s)
+
+-- all rounds in plain form
+unfoldable pub wordsOf : List ℕ → List ℕ
+wordsOf s = tab (wordAt s) (roundsOf s * roundWords (trucksOf s))
+
+-- one round in plain form, rounds counted from 0 here
+unfoldable pub roundAt : List ℕ → ℕ → List ℕ
+roundAt s k = tab (λ w. wordAt s (k * roundWords (trucksOf s) + w)) (roundWords (trucksOf s))
+
+-- total bits
+unfoldable pub bitsFor : ℕ → ℕ → ℕ
+bitsFor n R = 16 + 4 * n + R * (3 * n + n * n)
+
+-- and the bytes that hold them
+unfoldable pub bytesFor : ℕ → ℕ → ℕ
+bytesFor n R = (bitsFor n R + 7) / 8
+
+-- m bytes from a function that gives each bit
+unfoldable pub pack : (ℕ → ℕ) → ℕ → List ℕ
+pack f m = tab (λ q. numAt f (8 * q) 8) m
+
+-- bit q of the run of words
+unfoldable pub roundBit : ℕ → List ℕ → ℕ → ℕ
+roundBit n words q = digit (getD words (q / n) 0) (q % n)
+
+-- bit q of the openings
+unfoldable pub openingBit : List ℕ → ℕ → ℕ
+openingBit openings q = digit (getD openings (q / 4) 0) (3 - q % 4)
+
+-- bit p of the packed form: n, R, openings, rounds, and 0 for the bits left in the last byte
+unfoldable pub packBit : ℕ → ℕ → List ℕ → List ℕ → ℕ → ℕ
+packBit n R openings words p =
+    cond (ltb p 6) (digit n (5 - p))
+    (cond (ltb p 16) (digit R (15 - p))
+    (cond (ltb p (16 + 4 * n)) (openingBit openings (p - 16))
+    (cond (ltb p (bitsFor n R)) (roundBit n words (p - (16 + 4 * n)))
+    0)))
+
+-- the packed form of n, R, openings and words
+unfoldable pub packed : ℕ → ℕ → List ℕ → List ℕ → List ℕ
+packed n R openings words = pack (packBit n R openings words) (bytesFor n R)

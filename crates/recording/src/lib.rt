@@ -1,0 +1,1 @@
+// The packed recording: its check, its reader and its writer.

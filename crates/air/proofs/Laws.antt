@@ -5,12 +5,12 @@ use mathlib.Core.List.{List, [], _∷_, _++_}
 use Prim.Native.Nat.{ℕ, zero, suc, _+_, _*_, _-_, _≤_, _<_}
 use native.Mathlib.Decide.{decLt}
 use native.Mathlib.Omega.{arith}
-use borrow.Author.Tests.{ltb-true, lt-ltb, leb-false, eq-eqb, eqb-true}
+use borrow.Author.Tests.{ltb-true, lt-ltb, leb-false, eq-eqb, eqb-true, not-true}
 use lib.Dec.{ltb, leb, eqb}
 use lib.ListN.{length, length-append}
 use Rattle.basics.specs.Lists.{who, allBelow, someBelow, first}
-use Rattle.basics.proofs.Laws.{and-left, and-right, and-both, allBelow-at, allBelow-all, someBelow-at, someBelow-none, none-someBelow}
-use Rattle.air.specs.Air.{Air, implies, sent, hears, heardBy, heard, misses, missesAny, judged, complete, majorityComplete, zeroComplete, accurate, inFull}
+use Rattle.basics.proofs.Laws.{and-left, and-right, and-both, allBelow-at, allBelow-all, someBelow-at, someBelow-by, someBelow-none, none-someBelow}
+use Rattle.air.specs.Air.{Air, implies, sent, hears, heardBy, heard, misses, missesAny, judged, complete, majorityComplete, zeroComplete, accurate, inFull, fewSenders, someRunning, calmRound}
 
 -- how many of the first m have p
 abbrev count : (ℕ → Bool) → ℕ → ℕ
@@ -63,6 +63,17 @@ count-some p m k h e = go (decLt 0 (count p m))
     go : Dec (0 < count p m) → 0 < count p m
     go (yes l) = l
     go (no l) = absurd (true≢false (sym e ∙ count-none p m (omega arith) k h))
+
+-- where there is at least one, here it is
+pub count-by : (p : ℕ → Bool) (m : ℕ) → 0 < count p m → (k : ℕ) × (k < m) × (p k ≡ true)
+unfolding who
+count-by p zero h = absurd (omega arith)
+count-by p (suc m) h = go (p m) refl (count-suc p m) (count-by p m)
+  where
+    go : (b : Bool) → p m ≡ b → count p (suc m) ≡ count p m + cond b 1 0
+        → (0 < count p m → (k : ℕ) × (k < m) × (p k ≡ true)) → (k : ℕ) × (k < suc m) × (p k ≡ true)
+    go true e f ih = (m, omega arith, e)
+    go false e f ih = let r = ih (omega arith) in (r .0, omega (arith, r .1), r .2)
 
 -- the same numbers
 pub who-ext : (p q : ℕ → Bool) (m : ℕ) → ((k : ℕ) → k < m → p k ≡ q k) → who p m ≡ who q m
@@ -131,6 +142,29 @@ sent-none a e = count-none (a .sends) (a .trucks) e
 pub sent-some : (a : Air) (j : ℕ) → j < a .trucks → a .sends j ≡ true → 0 < sent a
 unfolding sent
 sent-some a = count-some (a .sends) (a .trucks)
+
+pub sent-by : (a : Air) → 0 < sent a → (j : ℕ) × (j < a .trucks) × (a .sends j ≡ true)
+unfolding sent
+sent-by a = count-by (a .sends) (a .trucks)
+
+-- in a round in which nobody sends
+pub nobody-sends : (a : Air) → ((j : ℕ) → j < a .trucks → a .sends j ≡ false) → sent a ≡ 0
+nobody-sends a h = go (decLt 0 (sent a))
+  where
+    go : Dec (0 < sent a) → sent a ≡ 0
+    go (yes l) = let r = sent-by a l in absurd (true≢false (sym (r .2) ∙ h (r .0) (r .1)))
+    go (no l) = omega arith
+
+-- nothing is heard in a silent round
+pub silent-heard : (a : Air) (i : ℕ) → sent a ≡ 0 → heard a i ≡ 0
+unfolding heard heardBy
+silent-heard a i e = go (decLt 0 (count (hears a i) (a .trucks)))
+  where
+    go : Dec (0 < count (hears a i) (a .trucks)) → count (hears a i) (a .trucks) ≡ 0
+    go (yes l) =
+        let r = count-by (hears a i) (a .trucks) l in
+        absurd (true≢false (sym (hears-sends a i (r .0) (r .2)) ∙ sent-none a e (r .0) (r .1)))
+    go (no l) = omega arith
 
 -- two who hear more than half of the messages each hear one message in common
 pub common : (a : Air) (i j : ℕ) → sent a < 2 * heard a i → sent a < 2 * heard a j
@@ -208,3 +242,32 @@ majority-zero a h =
           majority-hears a i l r h m (ltb-true 0 (sent a) (and-left (ltb 0 (sent a)) (eqb (heard a i) 0) e)),
           eqb-true (heard a i) 0 (and-right (ltb 0 (sent a)) (eqb (heard a i) 0) e),
         ))
+
+-- what a calm round with one to b senders is to a running truck: it has no mark and hears all that was sent
+pub calm-hears : (b : ℕ) (proposes : Bool) (a : Air) (i : ℕ) → i < a .trucks → a .running i ≡ true → calmRound b proposes a ≡ true
+    → fewSenders b a ≡ true → (a .marked i ≡ false) × (heardBy a i ≡ who (a .sends) (a .trucks))
+unfolding calmRound inFull
+calm-hears b proposes a i l r c f =
+    let two = and-left (accurate a && implies (fewSenders b a) (inFull a)) (implies (proposes && someRunning a) (fewSenders b a)) c in
+    let all = implies-mp (fewSenders b a) (inFull a) (and-right (accurate a) (implies (fewSenders b a) (inFull a)) two) f in
+    let none = not-true (missesAny a i) (judged-at a (λ i. not (missesAny a i)) all i l r) in
+    (accurate-clear a i l r (and-left (accurate a) (implies (fewSenders b a) (inFull a)) two) none, in-full a i none)
+
+-- a calm round for proposals with a truck running has one to b senders
+pub calm-few : (b : ℕ) (a : Air) (i : ℕ) → i < a .trucks → a .running i ≡ true → calmRound b true a ≡ true → fewSenders b a ≡ true
+unfolding calmRound someRunning
+calm-few b a i l r c =
+    implies-mp (someRunning a) (fewSenders b a)
+    (and-right (accurate a && implies (fewSenders b a) (inFull a)) (implies (someRunning a) (fewSenders b a)) c)
+    (someBelow-by (a .running) (a .trucks) i l r)
+
+pub few-some : (b : ℕ) (a : Air) → fewSenders b a ≡ true → 0 < sent a
+unfolding fewSenders
+few-some b a h = ltb-true 0 (sent a) (and-left (ltb 0 (sent a)) (leb (sent a) b) h)
+
+-- a calm round is accurate
+pub calm-accurate : (b : ℕ) (proposes : Bool) (a : Air) → calmRound b proposes a ≡ true → accurate a ≡ true
+unfolding calmRound
+calm-accurate b proposes a c =
+    and-left (accurate a) (implies (fewSenders b a) (inFull a))
+    (and-left (accurate a && implies (fewSenders b a) (inFull a)) (implies (proposes && someRunning a) (fewSenders b a)) c)

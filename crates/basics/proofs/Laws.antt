@@ -1,16 +1,17 @@
 -- Laws of the definitions of specs/Lists.
 use mathlib.Core.Path.{_≡_, refl, ap, ap₂, sym, _∙_}
-use mathlib.Core.Bool.{Bool, true, false, cond, _&&_, true≢false, false≢true}
+use mathlib.Core.Bool.{Bool, true, false, cond, not, _&&_, true≢false, false≢true}
 use mathlib.Core.List.{List, [], _∷_, _++_, append-assoc}
-use Prim.Native.Nat.{ℕ, zero, suc, _+_, _-_, _≤_, _<_}
+use Prim.Native.Nat.{ℕ, zero, suc, _+_, _-_, _%_, _≤_, _<_}
 use native.Mathlib.Nat.{add-zero}
 use native.Mathlib.Decide.{decLt}
 use native.Mathlib.Omega.{arith}
-use borrow.Author.Tests.{ltb-true, ltb-false, lt-ltb, le-ltb}
+use borrow.Author.Tests.{ltb-true, ltb-false, lt-ltb, le-ltb, eq-eqb, ne-eqb, eqb-true, eqb-false}
 use borrow.Author.Count.{below-more}
 use lib.Dec.{ltb}
 use lib.ListN.{length, getD, drop, set, length-append, length-drop, List·getD-append}
 use lib.Seq.{drop-cons, set-at, getD-append-add, getD-drop, ext-getD}
+use Rattle.basics.specs.Bits.{odd}
 use Rattle.basics.specs.Lists.{tabFrom, tab, filled, allBelow, who, first, someBelow}
 
 module _ {ℓ} {A : Type ℓ} where
@@ -93,6 +94,14 @@ module _ {ℓ} {A : Type ℓ} where
   pub filled-ext : (f g : ℕ → A) (m : ℕ) (d : List A) → ((k : ℕ) → k < m → f k ≡ g k) → filled f m d ≡ filled g m d
   unfolding filled
   filled-ext f g m d h = ap (λ (l : List A). l ++ drop m d) (tab-ext f g m h)
+
+-- parity takes turns
+pub odd-suc : (k : ℕ) → odd (suc k) ≡ not (odd k)
+odd-suc k = go (odd k) refl
+  where
+    go : (b : Bool) → odd k ≡ b → odd (suc k) ≡ not b
+    go true e = ne-eqb (suc k % 2) 1 (λ h. omega (arith, eqb-true (k % 2) 1 e))
+    go false e = eq-eqb (suc k % 2) 1 (let h : k % 2 ≡ 1 → ⊥ = eqb-false (k % 2) 1 e in omega arith)
 
 -- the two halves of a test that holds
 pub and-left : (a b : Bool) → (a && b) ≡ true → a ≡ true

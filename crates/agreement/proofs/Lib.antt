@@ -1,0 +1,4 @@
+pub mod OneRound
+pub mod Agree
+pub mod Settle
+pub mod Good

@@ -2,3 +2,4 @@ pub mod OneRound
 pub mod Agree
 pub mod Settle
 pub mod Good
+pub mod Whole

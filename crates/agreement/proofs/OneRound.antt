@@ -20,6 +20,7 @@ use Rattle.protocol.specs.declared.Heard.the-variants.{Nothing, One, Several}
 use Rattle.protocol.specs.declared.State.{State}
 use Rattle.protocol.specs.declared.State.the-variants.{Running, Stopped, Decided}
 use Rattle.protocol.specs.declared.Truck.{Truck}
+use Rattle.agreement.specs.Claims.{isDecided}
 use Rattle.protocol.specs.Rules.{opened, truck, isRunning, isSeveral, isOne, runs, vetoes, allSame, different, leastOr, stops, proposed, decides, vetoed, turn, airOf, valuesHeard, plays, after}
 
 -- the values of the numbers below m that have p
@@ -112,16 +113,6 @@ pub least-any : (d e : ℕ) (vs : List ℕ) (u : ℕ) → List·Memᴰ u vs → 
 unfolding leastOr
 least-any d e [] u m = absurd (List·Memᴰ·not-nil m)
 least-any d e (v ∷ vs) u m = refl
-
-abbrev pub isDecided : State → Bool
-isDecided Running = false
-isDecided (Stopped k) = false
-isDecided (Decided k) = true
-
-running-state : (s : State) → isRunning s ≡ true → s ≡ Running
-running-state Running h = refl
-running-state (Stopped k) h = absurd (false≢true h)
-running-state (Decided k) h = absurd (false≢true h)
 
 module _ (n : ℕ) (active : ℕ → Bool) (k : ℕ) (w : List ℕ) (ts : List Truck) where
   abbrev pub air : Air

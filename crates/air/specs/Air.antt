@@ -83,10 +83,10 @@ unfoldable pub calmRound : ℕ → Bool → Air → Bool
 calmRound b proposes a =
     accurate a && implies (fewSenders b a) (inFull a) && implies (proposes && someRunning a) (fewSenders b a)
 
--- rounds S to S + d - 1 of the R rounds are there and calm with b; `proposes` says of a round's number whether it is for proposals
+-- rounds S to S + d are among the rounds 1 to R and calm with b; `proposes` says of a round's number whether it is for proposals
 unfoldable pub calmFor : ℕ → (ℕ → Bool) → (ℕ → Air) → ℕ → ℕ → ℕ → Bool
 calmFor d proposes airs R S b =
-    leb 1 S && leb (S + d) (R + 1) && allBelow (λ e. calmRound b (proposes (S + e)) (airs (S + e))) d
+    leb 1 S && leb (S + d) R && allBelow (λ e. calmRound b (proposes (S + e)) (airs (S + e))) (suc d)
 
 -- the first of the rounds 1 to R that breaks a class, or 0
 unfoldable pub firstBreak : (Air → Bool) → (ℕ → Air) → ℕ → ℕ

@@ -26,9 +26,9 @@ airAt n openings rounds k =
     let w = rounds (k - 1) in
     airOf n (activeBit w) k w (trucksAt n openings rounds (k - 1))
 
--- calm from S with b, in R rounds
+-- the R rounds are calm from S with b: rounds S to S + 4
 unfoldable pub calm : ℕ → List ℕ → (ℕ → List ℕ) → ℕ → ℕ → ℕ → Bool
-calm n openings rounds R S b = calmFor 5 odd (airAt n openings rounds) R S b
+calm n openings rounds R S b = calmFor 4 odd (airAt n openings rounds) R S b
 
 -- a grading: for each of the four classes the first of R rounds that breaks it, or 0
 unfoldable pub gradesOf : ℕ → List ℕ → (ℕ → List ℕ) → ℕ → Grades

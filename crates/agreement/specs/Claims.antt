@@ -1,0 +1,67 @@
+-- What demand 3 says (document 01, 'Whole lists of steps'). Who runs, sends, hears, misses, stops and decides is `trucksAt` and `airAt`: it follows from n, the openings and the words of the rounds.
+use mathlib.Core.Path.{_≡_}
+use mathlib.Core.Bool.{Bool, true, false}
+use mathlib.Core.List.{List}
+use Prim.Native.Nat.{ℕ, _+_, _≤_, _<_}
+use lib.ListN.{length, getD}
+use Rattle.basics.specs.Bits.{odd}
+use Rattle.air.specs.Air.{majorityComplete, zeroComplete}
+use Rattle.refusals.specs.declared.Outcome.the-variants.{Accepted}
+use Rattle.recording.specs.Packed.{trucksOf, roundsOf, openingsOf, roundAt}
+use Rattle.protocol.specs.declared.State.{State}
+use Rattle.protocol.specs.declared.State.the-variants.{Running, Stopped, Decided}
+use Rattle.protocol.specs.declared.Fleet.{Fleet}
+use Rattle.protocol.specs.Rules.{truck}
+use Rattle.protocol.specs.Runs.{airAt, calm}
+use Rattle.protocol.specs.Fleets.{started, stepped, ran}
+use Rattle.protocol.specs.Steps.{lastRecord, taken, roundIn, recordingOf}
+
+abbrev pub isDecided : State → Bool
+isDecided Running = false
+isDecided (Stopped k) = false
+isDecided (Decided k) = true
+
+-- decided or stopped, in a round of at most m
+abbrev pub EndedBy : ℕ → State → Type 0
+EndedBy m Running = ⊥
+EndedBy m (Stopped k) = k ≤ m
+EndedBy m (Decided k) = k ≤ m
+
+-- the decided trucks below n: no two hold different crushers, and each holds one of the n openings
+pub record Agreed (n : ℕ) (openings : List ℕ) (f : Fleet) : Type 0 where
+  pub same : (i j : ℕ) → i < n → j < n → isDecided (truck (f .trucks) i .state) ≡ true → isDecided (truck (f .trucks) j .state) ≡ true
+      → truck (f .trucks) i .estimate ≡ truck (f .trucks) j .estimate
+  pub opening : (i : ℕ) → i < n → isDecided (truck (f .trucks) i .state) ≡ true
+      → (j : ℕ) × (j < n) × (truck (f .trucks) i .estimate ≡ getD openings j 0)
+
+-- marks are majority complete in each of R rounds
+abbrev pub MajorityMarks : ℕ → List ℕ → (ℕ → List ℕ) → ℕ → Type 0
+MajorityMarks n openings rounds R = (k : ℕ) → 1 ≤ k → k ≤ R → majorityComplete (airAt n openings rounds k) ≡ true
+
+-- marks are majority complete in odd rounds and zero complete in even ones
+abbrev pub MixedMarks : ℕ → List ℕ → (ℕ → List ℕ) → ℕ → Type 0
+MixedMarks n openings rounds R =
+    (k : ℕ) → 1 ≤ k → k ≤ R
+    → (odd k ≡ true → majorityComplete (airAt n openings rounds k) ≡ true) × (odd k ≡ false → zeroComplete (airAt n openings rounds k) ≡ true)
+
+-- what demand 3 says of the record f that R rounds leave
+pub record Claim (n : ℕ) (openings : List ℕ) (rounds : ℕ → List ℕ) (R : ℕ) (f : Fleet) : Type 0 where
+  -- with majority complete marks in every round taken
+  pub agreement : MajorityMarks n openings rounds R → Agreed n openings f
+  -- with calm from S with b: each truck below n is decided or stopped, in a round of at most S + 4
+  pub deciding : (S b : ℕ) → calm n openings rounds R S b ≡ true → (i : ℕ) → i < n → EndedBy (S + 4) (truck (f .trucks) i .state)
+
+-- of a start with n and openings and a list of steps, refused ones included: the claim for the record returned last and the rounds taken, and that running the list's recording
+-- is accepted and returns that record
+pub record StepsClaim (n : ℕ) (openings : List ℕ) (steps : List (List ℕ)) : Type 0 where
+  pub claim : Claim n openings (roundIn (taken n steps)) (length (taken n steps)) (lastRecord (started n openings .fleet) steps)
+  pub asRun : ran (recordingOf n openings steps) ≡ record { outcome = Accepted; fleet = lastRecord (started n openings .fleet) steps }
+
+-- of a recording
+abbrev pub RunClaim : List ℕ → Type 0
+RunClaim s = Claim (trucksOf s) (openingsOf s) (roundAt s) (roundsOf s) (ran s .fleet)
+
+-- the whole of demand 3: of every list of steps after an accepted start, and of every accepted recording run
+pub record Demand : Type 0 where
+  pub steps : (n : ℕ) (openings : List ℕ) (steps : List (List ℕ)) → started n openings .outcome ≡ Accepted → StepsClaim n openings steps
+  pub run : (s : List ℕ) → ran s .outcome ≡ Accepted → RunClaim s

@@ -1,2 +1,4 @@
 pub mod Digits
 pub mod Accepted
+pub mod Packing
+pub mod RoundTrip

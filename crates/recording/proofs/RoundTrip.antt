@@ -147,3 +147,109 @@ pub read-back : (n R : ℕ) (openings words : List ℕ) → plainCheck n R openi
 read-back n R openings words h =
     let g : GoodPlain n R openings words = plain-good n R openings words h in
     (good-bytes (packed n R openings words) (good-back n R openings words g), trucks-back n R openings words g, rounds-back n R openings words g, openings-back n R openings words g, words-back n R openings words g)
+
+-- ---- writing what was read
+-- every recording's openings are n crushers
+pub openings-read : (s : List ℕ) → GoodOpenings (trucksOf s) (openingsOf s)
+unfolding openingsOf openingAt
+openings-read s =
+    record {
+      count = length-tab (openingAt s) (trucksOf s);
+      opening = λ i h.
+          rw (getD-tab (openingAt s) (trucksOf s) i 0 h)
+          (let l : numAt (bitAt s) (16 + 4 * i) 4 < 16 = numAt-lt (bitAt s) (bitAt-lt s) (16 + 4 * i) 4 in omega arith);
+    }
+
+module _ (s : List ℕ) where
+  n : ℕ
+  n = trucksOf s
+
+  R : ℕ
+  R = roundsOf s
+
+  word-lt : (w : ℕ) → wordAt s w < 2 ^ trucksOf s
+  unfolding wordAt
+  word-lt w = rowAt-lt (bitAt s) (bitAt-lt s) (16 + 4 * trucksOf s + w * trucksOf s) (trucksOf s)
+
+  word-read : (w : ℕ) → w < roundsOf s * (3 + trucksOf s) → getD (wordsOf s) w 0 ≡ wordAt s w
+  unfolding wordsOf
+  word-read w h = getD-tab (wordAt s) (roundsOf s * (3 + trucksOf s)) w 0 h
+
+  words-read : ((k : ℕ) → k < roundsOf s * trucksOf s → ownBit (wordAt s) (trucksOf s) k ≡ false) → GoodRounds (trucksOf s) (roundsOf s) (wordsOf s)
+  unfolding wordsOf
+  words-read own =
+      record {
+        count = length-tab (wordAt s) (roundsOf s * (3 + trucksOf s));
+        word = λ w h. rw (word-read w h) (word-lt w);
+        own = λ k h. own-ext (λ w. getD (wordsOf s) w 0) (wordAt s) (trucksOf s) (roundsOf s) word-read k h ∙ own k h;
+      }
+
+  pub plain-read : GoodBytes s → GoodPlain (trucksOf s) (roundsOf s) (openingsOf s) (wordsOf s)
+  plain-read b =
+      record {
+        some = b .frame .some;
+        most = b .frame .most;
+        rounds = b .frame .rounds;
+        openings-good = openings-read s;
+        rounds-good = words-read (b .own);
+      }
+
+  -- each bit of the packed form is the bit that was read
+  digit-trucks : (p : ℕ) → p < 6 → digit (trucksOf s) (5 - p) ≡ bitAt s p
+  unfolding trucksOf
+  digit-trucks p h = numAt-digit (bitAt s) (bitAt-lt s) 0 6 (5 - p) (omega arith) ∙ ap (bitAt s) (omega arith)
+
+  digit-rounds : (p : ℕ) → 6 ≤ p → p < 16 → digit (roundsOf s) (15 - p) ≡ bitAt s p
+  unfolding roundsOf
+  digit-rounds p l h = numAt-digit (bitAt s) (bitAt-lt s) 6 10 (15 - p) (omega arith) ∙ ap (bitAt s) (omega arith)
+
+  digit-openings : (p : ℕ) → 16 ≤ p → p < 16 + 4 * trucksOf s → openingBit (openingsOf s) (p - 16) ≡ bitAt s p
+  unfolding openingBit openingsOf openingAt
+  digit-openings p l h =
+      let o : ℕ = (p - 16) / 4 in
+      ap (λ (a : ℕ). digit a (3 - (p - 16) % 4)) (getD-tab (openingAt s) (trucksOf s) o 0 (omega arith))
+      ∙ numAt-digit (bitAt s) (bitAt-lt s) (16 + 4 * o) 4 (3 - (p - 16) % 4) (omega arith)
+      ∙ ap (bitAt s) (omega arith)
+
+  digit-words : 0 < trucksOf s → (p : ℕ) → 16 + 4 * trucksOf s ≤ p → p < bitsFor (trucksOf s) (roundsOf s)
+      → roundBit (trucksOf s) (wordsOf s) (p - (16 + 4 * trucksOf s)) ≡ bitAt s p
+  unfolding roundBit wordAt n R
+  digit-words z p l h =
+      let q : ℕ = p - (16 + 4 * n) in
+      let e : q < R * (3 + n) * n = omega (arith, bits-flat n R) in
+      let d : q / n * n + q % n ≡ q = div-add-mod' q n in
+      ap (λ (a : ℕ). digit a (q % n)) (word-read (q / n) (div-lt-iff-lt-mul z .1 e))
+      ∙ rowAt-digit (bitAt s) (bitAt-lt s) (16 + 4 * n + q / n * n) n (q % n) (mod-lt q z)
+      ∙ ap (bitAt s) (omega arith)
+
+  bit-same : GoodFrame s → (p : ℕ) → p < 8 * bytesFor (trucksOf s) (roundsOf s)
+      → packBit (trucksOf s) (roundsOf s) (openingsOf s) (wordsOf s) p ≡ bitAt s p
+  unfolding n R
+  bit-same b p h = go (decLt p 6) (decLt p 16) (decLt p (16 + 4 * n)) (decLt p (bitsFor n R))
+    where
+      os : List ℕ
+      os = openingsOf s
+
+      ws : List ℕ
+      ws = wordsOf s
+
+      go : Dec (p < 6) → Dec (p < 16) → Dec (p < 16 + 4 * n) → Dec (p < bitsFor n R) → packBit n R os ws p ≡ bitAt s p
+      go (yes a) d₂ d₃ d₄ = bit-trucks n R os ws p a ∙ digit-trucks p a
+      go (no a) (yes c) d₃ d₄ = bit-rounds n R os ws p (omega arith) c ∙ digit-rounds p (omega arith) c
+      go (no a) (no c) (yes d) d₄ = bit-openings n R os ws p (omega arith) d ∙ digit-openings p (omega arith) d
+      go (no a) (no c) (no d) (yes e) = bit-words n R os ws p (omega arith) e ∙ digit-words (b .some) p (omega arith) e
+      go (no a) (no c) (no d) (no e) = bit-end n R os ws p (omega arith) ∙ sym (b .ends p (omega arith) (omega (arith, b .size)))
+
+  pub packed-same : GoodFrame s → ((q : ℕ) → q < length s → getD s q 0 < 256) → packed (trucksOf s) (roundsOf s) (openingsOf s) (wordsOf s) ≡ s
+  unfolding packed n R
+  packed-same b h =
+      pack-ext (packBit n R (openingsOf s) (wordsOf s)) (bitAt s) (bytesFor n R) (bit-same b)
+      ∙ pack-bitAt s (bytesFor n R) (b .size) (λ q l. h q (omega (arith, b .size)))
+
+-- what is read of an accepted recording is accepted for writing, and is written as the same bytes
+pub write-back : (s : List ℕ) → ((q : ℕ) → q < length s → getD s q 0 < 256) → checkOf s ≡ Accepted
+    → (plainCheck (trucksOf s) (roundsOf s) (openingsOf s) (wordsOf s) ≡ Accepted)
+    × (packed (trucksOf s) (roundsOf s) (openingsOf s) (wordsOf s) ≡ s)
+write-back s bytes h =
+    let b : GoodBytes s = bytes-good s h in
+    (good-plain (trucksOf s) (roundsOf s) (openingsOf s) (wordsOf s) (plain-read s b), packed-same s (b .frame) bytes)

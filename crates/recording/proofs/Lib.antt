@@ -2,3 +2,4 @@ pub mod Digits
 pub mod Accepted
 pub mod Packing
 pub mod RoundTrip
+pub mod Rounds

@@ -26,7 +26,7 @@ unfolding ownBit
 own-at f n r i h = ap₂ (λ (a b : ℕ). bit (f (a * (3 + n) + (3 + b))) b) (digits-div r h) (digits-mod r h)
 
 -- own bit k of R rounds, by its round and its truck
-own-split : (n R k : ℕ) → k < R * n → (0 < n) × (k / n < R) × (k % n < n) × (k ≡ k / n * n + k % n)
+pub own-split : (n R k : ℕ) → k < R * n → (0 < n) × (k / n < R) × (k % n < n) × (k ≡ k / n * n + k % n)
 own-split zero R k h = absurd (omega arith)
 own-split (suc n) R k h =
     let z : 0 < suc n = omega arith in
@@ -167,11 +167,11 @@ module _ (s : List ℕ) where
   R : ℕ
   R = roundsOf s
 
-  word-lt : (w : ℕ) → wordAt s w < 2 ^ trucksOf s
+  pub word-lt : (w : ℕ) → wordAt s w < 2 ^ trucksOf s
   unfolding wordAt
   word-lt w = rowAt-lt (bitAt s) (bitAt-lt s) (16 + 4 * trucksOf s + w * trucksOf s) (trucksOf s)
 
-  word-read : (w : ℕ) → w < roundsOf s * (3 + trucksOf s) → getD (wordsOf s) w 0 ≡ wordAt s w
+  pub word-read : (w : ℕ) → w < roundsOf s * (3 + trucksOf s) → getD (wordsOf s) w 0 ≡ wordAt s w
   unfolding wordsOf
   word-read w h = getD-tab (wordAt s) (roundsOf s * (3 + trucksOf s)) w 0 h
 

@@ -85,3 +85,8 @@ packBit n R openings words p =
 -- the packed form of n, R, openings and words
 unfoldable pub packed : ℕ → ℕ → List ℕ → List ℕ → List ℕ
 packed n R openings words = pack (packBit n R openings words) (bytesFor n R)
+
+-- rounds in plain form one after the other
+unfoldable pub joined : List (List ℕ) → List ℕ
+joined [] = []
+joined (r ∷ rs) = r ++ joined rs

@@ -1,0 +1,273 @@
+-- What it says of an input that no refusal holds of it, each condition by itself, and that these together say it.
+use mathlib.Core.Path.{_≡_, refl, ap, sym, _∙_}
+use mathlib.Core.Bool.{Bool, true, false, not, _||_}
+use mathlib.Core.List.{List}
+use Prim.Native.Nat.{ℕ, zero, suc, _+_, _*_, _-_, _/_, _%_, _^_, _≤_, _<_}
+use native.Mathlib.Omega.{arith}
+use borrow.Author.Tests.{ltb-false, leb-false, eqb-true, eqb-false, le-ltb, lt-leb, eq-eqb, ne-eqb, not-false}
+use lib.Dec.{ltb, leb, eqb}
+use lib.ListN.{length, getD}
+use Rattle.refusals.specs.declared.Refusal.{Refusal}
+use Rattle.refusals.specs.declared.Refusal.the-variants.{ShortRecording, TruckCount, RoundCount, RecordingLength, EndBit, OwnLoss, Record, PlainRound}
+use Rattle.refusals.specs.declared.Outcome.{Outcome}
+use Rattle.refusals.specs.declared.Outcome.the-variants.{Accepted, Refused}
+use Rattle.basics.specs.Lists.{someBelow}
+use Rattle.basics.proofs.Laws.{someBelow-none, none-someBelow}
+use Rattle.recording.specs.Packed.{bitAt, trucksOf, roundsOf, wordAt, bitsFor, bytesFor, roundWords}
+use Rattle.recording.specs.Checks.{refuse, andThen, tooShort, badTrucks, badRounds, badLength, endBit, ownBit, ownLoss, badOpenings, badWords, highBit, frameCheck, ownCheck, checkOf, roundsCheck, plainCheck}
+use Rattle.recording.proofs.Digits.{digit-lt}
+
+-- ---- a refusal and what comes after it
+refused-not : {A : Type 0} (r : Refusal) → Refused r ≡ Accepted → A
+refused-not r h = let z : _≡_ {A = ℕ} 0 1 = cc in absurd (omega arith)
+
+pub refuse-false : (b : Bool) (r : Refusal) (o : Outcome) → refuse b r o ≡ Accepted → b ≡ false
+refuse-false true r o h = refused-not r h
+refuse-false false r o h = refl
+
+pub refuse-rest : (b : Bool) (r : Refusal) (o : Outcome) → refuse b r o ≡ Accepted → o ≡ Accepted
+refuse-rest true r o h = refused-not r h
+refuse-rest false r o h = h
+
+pub refuse-on : (b : Bool) (r : Refusal) (o : Outcome) → b ≡ false → o ≡ Accepted → refuse b r o ≡ Accepted
+refuse-on b r o h e = rw (h, e)
+
+pub then-first : (a b : Outcome) → andThen a b ≡ Accepted → a ≡ Accepted
+then-first Accepted b h = refl
+then-first (Refused r) b h = h
+
+pub then-second : (a b : Outcome) → andThen a b ≡ Accepted → b ≡ Accepted
+then-second Accepted b h = h
+then-second (Refused r) b h = refused-not r h
+
+or-left : (a b : Bool) → (a || b) ≡ false → a ≡ false
+or-left true b h = h
+or-left false b h = refl
+
+or-right : (a b : Bool) → (a || b) ≡ false → b ≡ false
+or-right true b h = let z : _≡_ {A = ℕ} 0 1 = cc in absurd (omega arith)
+or-right false b h = h
+
+or-none : (a b : Bool) → a ≡ false → b ≡ false → (a || b) ≡ false
+or-none a b p q = rw (p, q)
+
+-- ---- the conditions, one by one
+pub trucks-in : (n : ℕ) → badTrucks n ≡ false → (0 < n) × (n ≤ 32)
+unfolding badTrucks
+trucks-in n h =
+    let z : n ≡ 0 → ⊥ = eqb-false n 0 (or-left (eqb n 0) (ltb 32 n) h) in
+    (omega arith, ltb-false 32 n (or-right (eqb n 0) (ltb 32 n) h))
+
+pub in-trucks : (n : ℕ) → 0 < n → n ≤ 32 → badTrucks n ≡ false
+unfolding badTrucks
+in-trucks n a b = or-none (eqb n 0) (ltb 32 n) (ne-eqb n 0 (λ e. omega arith)) (le-ltb 32 n b)
+
+pub rounds-in : (R : ℕ) → badRounds R ≡ false → R ≤ 400
+unfolding badRounds
+rounds-in R h = ltb-false 400 R h
+
+pub in-rounds : (R : ℕ) → R ≤ 400 → badRounds R ≡ false
+unfolding badRounds
+in-rounds R h = le-ltb 400 R h
+
+pub record GoodOpenings (n : ℕ) (openings : List ℕ) : Type 0 where
+  pub count : length openings ≡ n
+  pub opening : (i : ℕ) → i < n → getD openings i 0 ≤ 15
+
+module _ (n : ℕ) (openings : List ℕ) where
+  wrong : Bool
+  wrong = not (eqb (length openings) n)
+
+  above : Bool
+  above = someBelow (λ i. ltb 15 (getD openings i 0)) (length openings)
+
+  pub openings-in : badOpenings n openings ≡ false → GoodOpenings n openings
+  unfolding badOpenings wrong above
+  openings-in h =
+      let e : length openings ≡ n = eqb-true (length openings) n (not-false (eqb (length openings) n) (or-left wrong above h)) in
+      record {
+        count = e;
+        opening = λ i l.
+            ltb-false 15 (getD openings i 0)
+            (someBelow-none (λ k. ltb 15 (getD openings k 0)) (length openings) (or-right wrong above h) i (omega arith));
+      }
+
+  pub in-openings : GoodOpenings n openings → badOpenings n openings ≡ false
+  unfolding badOpenings wrong above
+  in-openings g =
+      or-none wrong above (ap not (eq-eqb (length openings) n (g .count)))
+      (none-someBelow (λ k. ltb 15 (getD openings k 0)) (length openings)
+      (λ i l. le-ltb 15 (getD openings i 0) (g .opening i (omega (arith, g .count)))))
+
+pub record GoodRounds (n R : ℕ) (words : List ℕ) : Type 0 where
+  pub count : length words ≡ R * (3 + n)
+  pub word : (w : ℕ) → w < R * (3 + n) → getD words w 0 < 2 ^ n
+  pub own : (k : ℕ) → k < R * n → ownBit (λ w. getD words w 0) n k ≡ false
+
+module _ (n R : ℕ) (words : List ℕ) where
+  miscount : Bool
+  miscount = not (eqb (length words) (R * (3 + n)))
+
+  high : Bool
+  high = someBelow (λ w. highBit n (getD words w 0)) (length words)
+
+  owned : Bool
+  owned = ownLoss (λ w. getD words w 0) n R
+
+  pub rounds-good : roundsCheck n R words ≡ Accepted → GoodRounds n R words
+  unfolding roundsCheck badWords ownLoss highBit miscount high owned
+  rounds-good h =
+      let b : badWords n R words ≡ false = refuse-false (badWords n R words) PlainRound (refuse owned OwnLoss Accepted) h in
+      let e : length words ≡ R * (3 + n) = eqb-true (length words) (R * (3 + n)) (not-false (eqb (length words) (R * (3 + n))) (or-left miscount high b)) in
+      record {
+        count = e;
+        word = λ w l.
+            leb-false (2 ^ n) (getD words w 0)
+            (someBelow-none (λ k. leb (2 ^ n) (getD words k 0)) (length words) (or-right miscount high b) w (omega arith));
+        own = λ k l.
+            someBelow-none (ownBit (λ w. getD words w 0) n) (R * n)
+            (refuse-false owned OwnLoss Accepted (refuse-rest (badWords n R words) PlainRound (refuse owned OwnLoss Accepted) h)) k l;
+      }
+
+  pub good-rounds : GoodRounds n R words → roundsCheck n R words ≡ Accepted
+  unfolding roundsCheck badWords ownLoss highBit miscount high owned
+  good-rounds g =
+      refuse-on (badWords n R words) PlainRound (refuse owned OwnLoss Accepted)
+      (or-none miscount high (ap not (eq-eqb (length words) (R * (3 + n)) (g .count)))
+      (none-someBelow (λ k. leb (2 ^ n) (getD words k 0)) (length words)
+      (λ w l. lt-leb (2 ^ n) (getD words w 0) (g .word w (omega (arith, g .count))))))
+      (refuse-on owned OwnLoss Accepted (none-someBelow (ownBit (λ w. getD words w 0) n) (R * n) (g .own)) refl)
+
+pub record GoodPlain (n R : ℕ) (openings words : List ℕ) : Type 0 where
+  pub some : 0 < n
+  pub most : n ≤ 32
+  pub rounds : R ≤ 400
+  pub openings-good : GoodOpenings n openings
+  pub rounds-good : GoodRounds n R words
+
+module _ (n R : ℕ) (openings words : List ℕ) where
+  after-2 : Outcome
+  after-2 = refuse (badRounds R) RoundCount (refuse (badOpenings n openings) Record (roundsCheck n R words))
+
+  after-3 : Outcome
+  after-3 = refuse (badOpenings n openings) Record (roundsCheck n R words)
+
+  pub plain-good : plainCheck n R openings words ≡ Accepted → GoodPlain n R openings words
+  unfolding plainCheck after-2 after-3
+  plain-good h =
+      let t : (0 < n) × (n ≤ 32) = trucks-in n (refuse-false (badTrucks n) TruckCount after-2 h) in
+      let h₂ : after-2 ≡ Accepted = refuse-rest (badTrucks n) TruckCount after-2 h in
+      let h₃ : after-3 ≡ Accepted = refuse-rest (badRounds R) RoundCount after-3 h₂ in
+      record {
+        some = t .0;
+        most = t .1;
+        rounds = rounds-in R (refuse-false (badRounds R) RoundCount after-3 h₂);
+        openings-good = openings-in n openings (refuse-false (badOpenings n openings) Record (roundsCheck n R words) h₃);
+        rounds-good = rounds-good n R words (refuse-rest (badOpenings n openings) Record (roundsCheck n R words) h₃);
+      }
+
+  pub good-plain : GoodPlain n R openings words → plainCheck n R openings words ≡ Accepted
+  unfolding plainCheck after-2 after-3
+  good-plain g =
+      refuse-on (badTrucks n) TruckCount after-2 (in-trucks n (g .some) (g .most))
+      (refuse-on (badRounds R) RoundCount after-3 (in-rounds R (g .rounds))
+      (refuse-on (badOpenings n openings) Record (roundsCheck n R words) (in-openings n openings (g .openings-good))
+      (good-rounds n R words (g .rounds-good))))
+
+-- ---- a recording
+pub bitAt-lt : (s : List ℕ) (p : ℕ) → bitAt s p < 2
+unfolding bitAt
+bitAt-lt s p = digit-lt (getD s (p / 8) 0) (7 - p % 8)
+
+pub record GoodFrame (s : List ℕ) : Type 0 where
+  pub long : 2 ≤ length s
+  pub some : 0 < trucksOf s
+  pub most : trucksOf s ≤ 32
+  pub rounds : roundsOf s ≤ 400
+  pub size : length s ≡ bytesFor (trucksOf s) (roundsOf s)
+  pub ends : (p : ℕ) → bitsFor (trucksOf s) (roundsOf s) ≤ p → p < 8 * length s → bitAt s p ≡ 0
+
+module _ (s : List ℕ) where
+  n : ℕ
+  n = trucksOf s
+
+  R : ℕ
+  R = roundsOf s
+
+  r-5 : Outcome
+  r-5 = refuse (endBit s) EndBit Accepted
+
+  r-4 : Outcome
+  r-4 = refuse (badLength s) RecordingLength r-5
+
+  r-3 : Outcome
+  r-3 = refuse (badRounds R) RoundCount r-4
+
+  r-2 : Outcome
+  r-2 = refuse (badTrucks n) TruckCount r-3
+
+  ends-zero : endBit s ≡ false → (p : ℕ) → bitsFor n R ≤ p → p < 8 * length s → bitAt s p ≡ 0
+  unfolding endBit n R
+  ends-zero h p l u =
+      let total : ℕ = bitsFor n R in
+      let e : total + (p - total) ≡ p = omega arith in
+      let z : eqb (bitAt s (total + (p - total))) 1 ≡ false
+      = someBelow-none (λ j. eqb (bitAt s (total + j)) 1) (8 * length s - total) h (p - total) (omega arith) in
+      let d : bitAt s p ≡ 1 → ⊥ = eqb-false (bitAt s p) 1 (ap (λ (q : ℕ). eqb (bitAt s q) 1) (sym e) ∙ z) in
+      omega (arith, bitAt-lt s p)
+
+  zero-ends : ((p : ℕ) → bitsFor n R ≤ p → p < 8 * length s → bitAt s p ≡ 0) → endBit s ≡ false
+  unfolding endBit n R
+  zero-ends h =
+      none-someBelow (λ j. eqb (bitAt s (bitsFor n R + j)) 1) (8 * length s - bitsFor n R)
+      (λ j l. ap (λ (b : ℕ). eqb b 1) (h (bitsFor n R + j) (omega arith) (omega arith)))
+
+  pub frame-good : frameCheck s ≡ Accepted → GoodFrame s
+  unfolding frameCheck tooShort badLength n R r-2 r-3 r-4 r-5
+  frame-good h =
+      let h₁ : r-2 ≡ Accepted = refuse-rest (tooShort s) ShortRecording r-2 h in
+      let h₂ : r-3 ≡ Accepted = refuse-rest (badTrucks n) TruckCount r-3 h₁ in
+      let h₃ : r-4 ≡ Accepted = refuse-rest (badRounds R) RoundCount r-4 h₂ in
+      let h₄ : r-5 ≡ Accepted = refuse-rest (badLength s) RecordingLength r-5 h₃ in
+      let t : (0 < n) × (n ≤ 32) = trucks-in n (refuse-false (badTrucks n) TruckCount r-3 h₁) in
+      record {
+        long = ltb-false (length s) 2 (refuse-false (tooShort s) ShortRecording r-2 h);
+        some = t .0;
+        most = t .1;
+        rounds = rounds-in R (refuse-false (badRounds R) RoundCount r-4 h₂);
+        size = eqb-true (length s) (bytesFor n R)
+            (not-false (eqb (length s) (bytesFor n R)) (refuse-false (badLength s) RecordingLength r-5 h₃));
+        ends = ends-zero (refuse-false (endBit s) EndBit Accepted h₄);
+      }
+
+  pub good-frame : GoodFrame s → frameCheck s ≡ Accepted
+  unfolding frameCheck tooShort badLength n R r-2 r-3 r-4 r-5
+  good-frame g =
+      refuse-on (tooShort s) ShortRecording r-2 (le-ltb (length s) 2 (g .long))
+      (refuse-on (badTrucks n) TruckCount r-3 (in-trucks n (g .some) (g .most))
+      (refuse-on (badRounds R) RoundCount r-4 (in-rounds R (g .rounds))
+      (refuse-on (badLength s) RecordingLength r-5 (ap not (eq-eqb (length s) (bytesFor n R) (g .size)))
+      (refuse-on (endBit s) EndBit Accepted (zero-ends (g .ends)) refl))))
+
+pub record GoodBytes (s : List ℕ) : Type 0 where
+  pub frame : GoodFrame s
+  pub own : (k : ℕ) → k < roundsOf s * trucksOf s → ownBit (wordAt s) (trucksOf s) k ≡ false
+
+pub bytes-good : (s : List ℕ) → checkOf s ≡ Accepted → GoodBytes s
+unfolding checkOf ownCheck ownLoss
+bytes-good s h =
+    record {
+      frame = frame-good s (then-first (frameCheck s) (ownCheck s) h);
+      own = λ k l.
+          someBelow-none (ownBit (wordAt s) (trucksOf s)) (roundsOf s * trucksOf s)
+          (refuse-false (ownLoss (wordAt s) (trucksOf s) (roundsOf s)) OwnLoss Accepted (then-second (frameCheck s) (ownCheck s) h)) k l;
+    }
+
+pub good-bytes : (s : List ℕ) → GoodBytes s → checkOf s ≡ Accepted
+unfolding checkOf ownCheck ownLoss
+good-bytes s g =
+    let f : frameCheck s ≡ Accepted = good-frame s (g .frame) in
+    let o : ownCheck s ≡ Accepted
+    = refuse-on (ownLoss (wordAt s) (trucksOf s) (roundsOf s)) OwnLoss Accepted
+    (none-someBelow (ownBit (wordAt s) (trucksOf s)) (roundsOf s * trucksOf s) (g .own)) refl in
+    rw (f, o)

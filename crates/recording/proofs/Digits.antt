@@ -1,0 +1,130 @@
+-- Binary digits, and the two numbers that a run of bits makes: `numAt` with the first bit worth most, `rowAt` with the first bit worth 1.
+use mathlib.Core.Path.{_≡_, refl, ap, ap₂, sym, _∙_}
+use Prim.Native.Nat.{ℕ, zero, suc, _+_, _*_, _-_, _/_, _%_, _^_, _≤_, _<_}
+use native.Mathlib.Nat.{mod-lt, mod-eq-of-lt, mul-le-mul-right, pow-suc, div-one, div-div-eq-div-mul, add-zero, mul-comm}
+use native.Mathlib.Decide.{decLt}
+use native.Mathlib.Omega.{arith}
+use lib.Dec.{lit<}
+use lib.Pow.{mod-pow-add, mod-mod-pow, field, high, low, pow-pos, pow-add}
+use Rattle.basics.specs.Bits.{digit}
+use Rattle.recording.specs.Packed.{numAt, rowAt}
+
+pub digit-lt : (v j : ℕ) → digit v j < 2
+digit-lt v j = mod-lt (v / 2 ^ j) (lit< tt)
+
+-- the lowest digit, and the digits above it
+pub digit-zero : (x : ℕ) {b : ℕ} → b < 2 → digit (x * 2 + b) 0 ≡ b
+digit-zero x h = omega arith
+
+pub digit-suc : (x : ℕ) {b : ℕ} (j : ℕ) → b < 2 → digit (x * 2 + b) (suc j) ≡ digit x j
+digit-suc x {b} j h =
+    ap (λ (a : ℕ). (x * 2 + b) / a % 2) (pow-suc 2 j ∙ mul-comm (2 ^ j) 2)
+    ∙ ap (λ (a : ℕ). a % 2) (sym (div-div-eq-div-mul (x * 2 + b) 2 (2 ^ j)))
+    ∙ ap (λ (a : ℕ). a / 2 ^ j % 2) (let e : (x * 2 + b) / 2 ≡ x = omega arith in e)
+
+-- the digits below the k-th do not see what stands above
+pub digit-mod : (v k j : ℕ) → j < k → digit (v % 2 ^ k) j ≡ digit v j
+digit-mod v k j h =
+    let d : ℕ = k - j - 1 in
+    let e : k ≡ d + 1 + j = omega arith in
+    ap (λ (a : ℕ). v % 2 ^ a / 2 ^ j % 2) e
+    ∙ ap (λ (a : ℕ). a % 2) (field v (d + 1) j)
+    ∙ mod-mod-pow (v / 2 ^ j) d 1
+
+-- numbers below 2 to the k are their digits
+low-same : (v w k : ℕ) → ((j : ℕ) → j < k → digit v j ≡ digit w j) → v % 2 ^ k ≡ w % 2 ^ k
+low-same v w zero h = omega arith
+low-same v w (suc k) h = step v ∙ ap₂ (λ (a b : ℕ). a * 2 ^ k + b) (h k (omega arith)) (low-same v w k (λ j l. h j (omega arith))) ∙ sym (step w)
+  where
+    step : (x : ℕ) → x % 2 ^ suc k ≡ digit x k * 2 ^ k + x % 2 ^ k
+    step x = ap (λ (a : ℕ). x % 2 ^ a) (let e : suc k ≡ 1 + k = omega arith in e) ∙ mod-pow-add x 1 k
+
+pub same-digits : (v w k : ℕ) → v < 2 ^ k → w < 2 ^ k → ((j : ℕ) → j < k → digit v j ≡ digit w j) → v ≡ w
+same-digits v w k p q h = sym (mod-eq-of-lt p) ∙ low-same v w k h ∙ mod-eq-of-lt q
+
+pub numAt-ext : (f g : ℕ → ℕ) (p q k : ℕ) → ((i : ℕ) → i < k → f (p + i) ≡ g (q + i)) → numAt f p k ≡ numAt g q k
+unfolding numAt
+numAt-ext f g p q zero h = refl
+numAt-ext f g p q (suc k) h = ap₂ (λ (a b : ℕ). a * 2 + b) (numAt-ext f g p q k (λ i l. h i (omega arith))) (h k (omega arith))
+
+pub rowAt-ext : (f g : ℕ → ℕ) (p q k : ℕ) → ((i : ℕ) → i < k → f (p + i) ≡ g (q + i)) → rowAt f p k ≡ rowAt g q k
+unfolding rowAt
+rowAt-ext f g p q zero h = refl
+rowAt-ext f g p q (suc k) h = ap₂ (λ (a b : ℕ). a + b * 2 ^ k) (rowAt-ext f g p q k (λ i l. h i (omega arith))) (h k (omega arith))
+
+-- of a function that gives bits
+module _ (f : ℕ → ℕ) (bits : (i : ℕ) → f i < 2) where
+  pub numAt-lt : (p k : ℕ) → numAt f p k < 2 ^ k
+  unfolding numAt
+  numAt-lt p zero = lit< tt
+  numAt-lt p (suc k) = omega (arith, numAt-lt p k, bits (p + k), pow-suc 2 k)
+
+  pub rowAt-lt : (p k : ℕ) → rowAt f p k < 2 ^ k
+  unfolding rowAt
+  rowAt-lt p zero = lit< tt
+  rowAt-lt p (suc k) =
+      let m : f (p + k) * 2 ^ k ≤ 1 * 2 ^ k = mul-le-mul-right (2 ^ k) (let b : f (p + k) ≤ 1 = omega (arith, bits (p + k)) in b) in
+      omega (arith, rowAt-lt p k, pow-suc 2 k)
+
+  -- the digits of the one
+  pub numAt-digit : (p k j : ℕ) → j < k → digit (numAt f p k) j ≡ f (p + (k - suc j))
+  unfolding numAt
+  numAt-digit p zero j h = absurd (omega arith)
+  numAt-digit p (suc k) zero h = digit-zero (numAt f p k) (bits (p + k)) ∙ ap f (omega arith)
+  numAt-digit p (suc k) (suc j) h =
+      digit-suc (numAt f p k) j (bits (p + k)) ∙ numAt-digit p k j (omega arith) ∙ ap f (omega arith)
+
+  -- and of the other
+  pub rowAt-digit : (p k j : ℕ) → j < k → digit (rowAt f p k) j ≡ f (p + j)
+  unfolding rowAt
+  rowAt-digit p zero j h = absurd (omega arith)
+  rowAt-digit p (suc k) j h = go (decLt j k) (rowAt-digit p k j)
+    where
+      lo : ℕ
+      lo = rowAt f p k
+
+      hi : ℕ
+      hi = f (p + k)
+
+      turned : lo + hi * 2 ^ k ≡ hi * 2 ^ k + lo
+      turned = omega arith
+
+      go : Dec (j < k) → (j < k → digit lo j ≡ f (p + j)) → digit (lo + hi * 2 ^ k) j ≡ f (p + j)
+      go (yes l) ih =
+          sym (digit-mod (lo + hi * 2 ^ k) k j l)
+          ∙ ap (λ (a : ℕ). digit (a % 2 ^ k) j) turned
+          ∙ ap (λ (a : ℕ). digit a j) (low hi k (rowAt-lt p k))
+          ∙ ih l
+      go (no l) ih =
+          let e : j ≡ k = omega arith in
+          ap (λ (a : ℕ). digit (lo + hi * 2 ^ k) a) e
+          ∙ ap (λ (a : ℕ). a / 2 ^ k % 2) turned
+          ∙ ap (λ (a : ℕ). a % 2) (high hi k (rowAt-lt p k))
+          ∙ mod-eq-of-lt (bits (p + k))
+          ∙ ap (λ (a : ℕ). f (p + a)) (sym e)
+
+  -- a number is read back from its digits
+  pub numAt-is : (p k v : ℕ) → v < 2 ^ k → ((i : ℕ) → i < k → f (p + i) ≡ digit v (k - suc i)) → numAt f p k ≡ v
+  numAt-is p k v l h =
+      same-digits (numAt f p k) v k (numAt-lt p k) l
+      (λ j o. numAt-digit p k j o ∙ h (k - suc j) (omega arith) ∙ ap (digit v) (omega arith))
+
+  pub rowAt-is : (p k v : ℕ) → v < 2 ^ k → ((i : ℕ) → i < k → f (p + i) ≡ digit v i) → rowAt f p k ≡ v
+  rowAt-is p k v l h = same-digits (rowAt f p k) v k (rowAt-lt p k) l (λ j o. rowAt-digit p k j o ∙ h j o)
+
+-- a run of bits in two parts
+pub numAt-add : (f : ℕ → ℕ) (p a b : ℕ) → numAt f p (a + b) ≡ numAt f p a * 2 ^ b + numAt f (p + a) b
+unfolding numAt
+numAt-add f p a zero = ap (numAt f p) (add-zero a) ∙ omega arith
+numAt-add f p a (suc b) =
+    ap (numAt f p) (let e : a + suc b ≡ suc (a + b) = omega arith in e)
+    ∙ ap₂ (λ (x y : ℕ). x * 2 + f y) (numAt-add f p a b) (let e : p + (a + b) ≡ p + a + b = omega arith in e)
+    ∙ omega (arith, ap (λ (x : ℕ). numAt f p a * x) (pow-suc 2 b))
+
+pub rowAt-add : (f : ℕ → ℕ) (p a b : ℕ) → rowAt f p (a + b) ≡ rowAt f p a + rowAt f (p + a) b * 2 ^ a
+unfolding rowAt
+rowAt-add f p a zero = ap (rowAt f p) (add-zero a) ∙ omega arith
+rowAt-add f p a (suc b) =
+    ap (rowAt f p) (let e : a + suc b ≡ suc (a + b) = omega arith in e)
+    ∙ ap₂ (λ (x y : ℕ). x + y) (rowAt-add f p a b) (ap₂ (λ (x y : ℕ). f x * y) (let e : p + (a + b) ≡ p + a + b = omega arith in e) (pow-add 2 a b))
+    ∙ omega arith

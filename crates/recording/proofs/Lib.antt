@@ -1,0 +1,5 @@
+pub mod Digits
+pub mod Accepted
+pub mod Packing
+pub mod RoundTrip
+pub mod Rounds

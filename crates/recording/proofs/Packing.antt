@@ -1,0 +1,115 @@
+-- Bytes and the bits they are packed from; the bits of the packed form, region by region.
+use mathlib.Core.Path.{_≡_, refl, ap, ap₂, sym, _∙_}
+use mathlib.Core.Bool.{Bool, true, false, cond}
+use mathlib.Core.List.{List}
+use Prim.Native.Nat.{ℕ, zero, suc, _+_, _*_, _-_, _/_, _%_, _^_, _≤_, _<_}
+use native.Mathlib.Nat.{mul-le-mul-right}
+use native.Mathlib.Omega.{arith}
+use borrow.Author.Tests.{lt-ltb, le-ltb}
+use lib.Dec.{lit<, ltb}
+use lib.ListN.{length, getD}
+use lib.Seq.{ext-getD}
+use Rattle.basics.specs.Bits.{digit}
+use Rattle.basics.specs.Lists.{tab}
+use Rattle.basics.proofs.Laws.{length-tab, getD-tab, tab-ext}
+use Rattle.recording.specs.Packed.{bitAt, numAt, bitsFor, bytesFor, pack, packBit, openingBit, roundBit}
+use Rattle.recording.proofs.Digits.{digit-lt, numAt-digit, numAt-is, numAt-lt, numAt-ext}
+use Rattle.recording.proofs.Accepted.{bitAt-lt}
+
+pub length-pack : (f : ℕ → ℕ) (m : ℕ) → length (pack f m) ≡ m
+unfolding pack
+length-pack f m = length-tab (λ q. numAt f (8 * q) 8) m
+
+pub pack-ext : (f g : ℕ → ℕ) (m : ℕ) → ((p : ℕ) → p < 8 * m → f p ≡ g p) → pack f m ≡ pack g m
+unfolding pack
+pack-ext f g m h =
+    tab-ext (λ q. numAt f (8 * q) 8) (λ q. numAt g (8 * q) 8) m (λ q l. numAt-ext f g (8 * q) (8 * q) 8 (λ i o. h (8 * q + i) (omega arith)))
+
+-- a packed bit is read where it was put
+pub bitAt-pack : (f : ℕ → ℕ) → ((i : ℕ) → f i < 2) → (m p : ℕ) → p < 8 * m → bitAt (pack f m) p ≡ f p
+unfolding bitAt pack
+bitAt-pack f bits m p h =
+    ap (λ (b : ℕ). digit b (7 - p % 8)) (getD-tab (λ q. numAt f (8 * q) 8) m (p / 8) 0 (omega arith))
+    ∙ numAt-digit f bits (8 * (p / 8)) 8 (7 - p % 8) (omega arith)
+    ∙ ap f (omega arith)
+
+-- bit i of byte q
+pub bitAt-byte : (s : List ℕ) (q i : ℕ) → i < 8 → bitAt s (8 * q + i) ≡ digit (getD s q 0) (8 - suc i)
+unfolding bitAt
+bitAt-byte s q i l = ap₂ (λ (a b : ℕ). digit (getD s a 0) b) (omega arith) (omega arith)
+
+pub byte-is : (s : List ℕ) (q : ℕ) → getD s q 0 < 256 → numAt (bitAt s) (8 * q) 8 ≡ getD s q 0
+byte-is s q h = numAt-is (bitAt s) (bitAt-lt s) (8 * q) 8 (getD s q 0) h (bitAt-byte s q)
+
+-- bytes are what their bits pack to
+pub pack-bitAt : (s : List ℕ) (m : ℕ) → length s ≡ m → ((q : ℕ) → q < m → getD s q 0 < 256) → pack (bitAt s) m ≡ s
+unfolding pack
+pack-bitAt s m e h =
+    let g : ℕ → ℕ = λ q. numAt (bitAt s) (8 * q) 8 in
+    ext-getD 0 (tab g m) s (length-tab g m ∙ sym e)
+    (λ q l.
+    let o : q < m = omega (arith, length-tab g m) in
+    getD-tab g m q 0 o ∙ byte-is s q (h q o))
+
+-- the packed form's bytes are bytes
+pub pack-byte : (f : ℕ → ℕ) → ((i : ℕ) → f i < 2) → (m q : ℕ) → q < m → getD (pack f m) q 0 < 256
+unfolding pack
+pack-byte f bits m q h = rw (getD-tab (λ i. numAt f (8 * i) 8) m q 0 h) (numAt-lt f bits (8 * q) 8)
+
+-- ---- sizes
+pub bits-flat : (n R : ℕ) → bitsFor n R ≡ 16 + 4 * n + R * (3 + n) * n
+unfolding bitsFor
+bits-flat n R = omega arith
+
+pub bytes-hold : (n R : ℕ) → (bitsFor n R ≤ 8 * bytesFor n R) × (8 * bytesFor n R < bitsFor n R + 8)
+unfolding bytesFor
+bytes-hold n R = omega arith
+
+-- the last bit of word w stands before the end
+pub word-ends : (n R w i : ℕ) → w < R * (3 + n) → i < n → 16 + 4 * n + w * n + i < bitsFor n R
+word-ends n R w i h l =
+    let m : suc w * n ≤ R * (3 + n) * n = mul-le-mul-right n h in
+    omega (arith, bits-flat n R)
+
+module _ (n R : ℕ) (openings words : List ℕ) where
+  -- ---- the regions
+  pub bit-trucks : (p : ℕ) → p < 6 → packBit n R openings words p ≡ digit n (5 - p)
+  unfolding packBit
+  bit-trucks p h = rw (lt-ltb p 6 h)
+
+  pub bit-rounds : (p : ℕ) → 6 ≤ p → p < 16 → packBit n R openings words p ≡ digit R (15 - p)
+  unfolding packBit
+  bit-rounds p l h = rw (le-ltb p 6 l, lt-ltb p 16 h)
+
+  pub bit-openings : (p : ℕ) → 16 ≤ p → p < 16 + 4 * n → packBit n R openings words p ≡ openingBit openings (p - 16)
+  unfolding packBit
+  bit-openings p l h =
+      rw (le-ltb p 6 (let o : 6 ≤ p = omega arith in o), le-ltb p 16 l, lt-ltb p (16 + 4 * n) h)
+
+  pub bit-words : (p : ℕ) → 16 + 4 * n ≤ p → p < bitsFor n R → packBit n R openings words p ≡ roundBit n words (p - (16 + 4 * n))
+  unfolding packBit
+  bit-words p l h =
+      rw (le-ltb p 6 (let o : 6 ≤ p = omega arith in o), le-ltb p 16 (let o : 16 ≤ p = omega arith in o), le-ltb p (16 + 4 * n) l, lt-ltb p (bitsFor n R) h)
+
+  pub bit-end : (p : ℕ) → bitsFor n R ≤ p → packBit n R openings words p ≡ 0
+  unfolding packBit
+  bit-end p h =
+      let l : 16 + 4 * n ≤ p = omega (arith, bits-flat n R) in
+      rw (le-ltb p 6 (let o : 6 ≤ p = omega arith in o), le-ltb p 16 (let o : 16 ≤ p = omega arith in o), le-ltb p (16 + 4 * n) l, le-ltb p (bitsFor n R) h)
+
+  cond-lt : (b : Bool) (x y : ℕ) → x < 2 → y < 2 → cond b x y < 2
+  cond-lt true x y p q = p
+  cond-lt false x y p q = q
+
+  pub packBit-lt : (p : ℕ) → packBit n R openings words p < 2
+  unfolding packBit openingBit roundBit
+  packBit-lt p =
+      let o : ℕ = p - 16 in
+      let q : ℕ = p - (16 + 4 * n) in
+      let w : ℕ = cond (ltb p (bitsFor n R)) (roundBit n words q) 0 in
+      let v : ℕ = cond (ltb p (16 + 4 * n)) (openingBit openings o) w in
+      let u : ℕ = cond (ltb p 16) (digit R (15 - p)) v in
+      let dw : w < 2 = cond-lt (ltb p (bitsFor n R)) (roundBit n words q) 0 (digit-lt (getD words (q / n) 0) (q % n)) (lit< tt) in
+      let dv : v < 2 = cond-lt (ltb p (16 + 4 * n)) (openingBit openings o) w (digit-lt (getD openings (o / 4) 0) (3 - o % 4)) dw in
+      let du : u < 2 = cond-lt (ltb p 16) (digit R (15 - p)) v (digit-lt R (15 - p)) dv in
+      cond-lt (ltb p 6) (digit n (5 - p)) u (digit-lt n (5 - p)) du

@@ -3,3 +3,5 @@ pub mod Agree
 pub mod Settle
 pub mod Good
 pub mod Whole
+pub mod Steps
+pub mod Demand3

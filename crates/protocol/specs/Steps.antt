@@ -1,11 +1,11 @@
 -- Whole lists of steps (document 01, 'Whole lists of steps').
 use Prim.Native.Nat.{ℕ, suc}
 use mathlib.Core.Bool.{Bool, cond, _&&_}
-use mathlib.Core.List.{List, [], _∷_, _++_}
+use mathlib.Core.List.{List, [], _∷_}
 use lib.Dec.{ltb}
 use lib.ListN.{length, getD}
 use Rattle.refusals.specs.Numbers.{accepted}
-use Rattle.recording.specs.Packed.{packed}
+use Rattle.recording.specs.Packed.{joined, packed}
 use Rattle.recording.specs.Checks.{roundCheck}
 use Rattle.protocol.specs.declared.Fleet.{Fleet}
 use Rattle.protocol.specs.Fleets.{started, stepped}
@@ -30,11 +30,6 @@ taken n ws = takenFrom n 0 ws
 -- the words of round k of a list of rounds, counted from 0
 abbrev pub roundIn : List (List ℕ) → ℕ → List ℕ
 roundIn rs k = getD rs k []
-
--- rounds one after the other
-unfoldable pub joined : List (List ℕ) → List ℕ
-joined [] = []
-joined (w ∷ ws) = w ++ joined ws
 
 -- the recording of a list: its n, its openings and its taken rounds
 unfoldable pub recordingOf : ℕ → List ℕ → List (List ℕ) → List ℕ

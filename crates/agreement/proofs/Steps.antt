@@ -1,0 +1,208 @@
+-- A list of steps leaves the record of the run of its taken rounds.
+use mathlib.Core.Path.{_≡_, refl, ap, ap₂, sym, subst, _∙_}
+use mathlib.Core.Bool.{Bool, true, false, cond, not, _&&_, true≢false, false≢true}
+use mathlib.Core.List.{List, [], _∷_, _++_, append-assoc, append-nil}
+use Prim.Native.Nat.{ℕ, zero, suc, _+_, _-_, _≤_, _<_}
+use native.Mathlib.Numerals.{add-one}
+use native.Mathlib.Omega.{arith}
+use borrow.Author.Tests.{lt-ltb, le-ltb, le-leb, ltb-true, eqb-true, eqb-false}
+use lib.Dec.{leb, ltb, eqb}
+use lib.ListN.{length, getD, length-append, List·getD-append}
+use lib.Seq.{getD-append-seam}
+use Rattle.basics.specs.Lists.{allBelow}
+use Rattle.basics.proofs.Laws.{and-left, and-right, allBelow-all}
+use Rattle.air.specs.Round.{activeBit}
+use Rattle.air.specs.Runs.{stateAt}
+use Rattle.refusals.specs.declared.Refusal.{Refusal}
+use Rattle.refusals.specs.declared.Refusal.the-variants.{TruckCount, Record, RoundsDone}
+use Rattle.refusals.specs.declared.Outcome.{Outcome}
+use Rattle.refusals.specs.declared.Outcome.the-variants.{Accepted, Refused}
+use Rattle.refusals.specs.Numbers.{accepted}
+use Rattle.recording.specs.Packed.{trucksOf, roundsOf, openingsOf, wordsOf, roundAt, packed, joined}
+use Rattle.recording.specs.Checks.{refuse, badTrucks, badOpenings, checkOf, roundCheck}
+use Rattle.recording.proofs.Accepted.{GoodOpenings, refuse-false, refuse-rest, trucks-in, openings-in}
+use Rattle.recording.proofs.RoundTrip.{read-back}
+use Rattle.recording.proofs.Rounds.{joined-accepted, round-back}
+use Rattle.protocol.specs.declared.Truck.{Truck}
+use Rattle.protocol.specs.declared.Fleet.{Fleet}
+use Rattle.protocol.specs.declared.Answer.{Answer}
+use Rattle.protocol.specs.Rules.{truck, after}
+use Rattle.protocol.specs.Runs.{trucksAt, openedTrucks}
+use Rattle.protocol.specs.Fleets.{answer, blank, startCheck, started, goodTruck, goodFleet, stepCheck, nextFleet, stepped, fleetAt, ran}
+use Rattle.protocol.specs.Steps.{lastRecord, isTaken, takenFrom, taken, roundIn, recordingOf}
+use Rattle.agreement.proofs.Good.{Good, good-whole, good-next}
+use Rattle.agreement.proofs.Whole.{at-suc, opened-truck, throughout}
+
+-- a run looks at its own rounds only
+pub rounds-ext : (n : ℕ) (openings : List ℕ) (r q : ℕ → List ℕ) (R : ℕ) → ((k : ℕ) → k < R → r k ≡ q k) → trucksAt n openings r R ≡ trucksAt n openings q R
+unfolding trucksAt stateAt
+rounds-ext n openings r q zero h = refl
+rounds-ext n openings r q (suc k) h =
+    ap₂ (λ (w : List ℕ) (ts : List Truck). after n (activeBit w) (suc k) w ts) (h k (omega arith)) (rounds-ext n openings r q k (λ j l. h j (omega arith)))
+
+-- what was taken: rounds that 8 and 6 accept, and no more than 400
+pub taken-accepted : (n c : ℕ) (ws : List (List ℕ)) (k : ℕ) → k < length (takenFrom n c ws) → roundCheck n (getD (takenFrom n c ws) k []) ≡ Accepted
+unfolding takenFrom isTaken
+taken-accepted n c [] k l = absurd (omega arith)
+taken-accepted n c (w ∷ ws) k l =
+    go (isTaken n c w) refl (taken-accepted n (suc c) ws) (taken-accepted n c ws) k l
+  where
+    ok : (o : Outcome) → accepted o ≡ true → o ≡ Accepted
+    ok Accepted h = refl
+    ok (Refused r) h = absurd (false≢true h)
+
+    go : (b : Bool) → isTaken n c w ≡ b
+        → ((k : ℕ) → k < length (takenFrom n (suc c) ws) → roundCheck n (getD (takenFrom n (suc c) ws) k []) ≡ Accepted)
+        → ((k : ℕ) → k < length (takenFrom n c ws) → roundCheck n (getD (takenFrom n c ws) k []) ≡ Accepted)
+        → (k : ℕ) → k < length (cond b (w ∷ takenFrom n (suc c) ws) (takenFrom n c ws))
+        → roundCheck n (getD (cond b (w ∷ takenFrom n (suc c) ws) (takenFrom n c ws)) k []) ≡ Accepted
+    go true e f g zero l = ok (roundCheck n w) (and-left (accepted (roundCheck n w)) (ltb c 400) e)
+    go true e f g (suc k) l = f k (omega arith)
+    go false e f g zero l = g zero l
+    go false e f g (suc k) l = g (suc k) l
+
+pub taken-few : (n c : ℕ) (ws : List (List ℕ)) → c ≤ 400 → c + length (takenFrom n c ws) ≤ 400
+unfolding takenFrom isTaken
+taken-few n c [] h = omega arith
+taken-few n c (w ∷ ws) h = go (isTaken n c w) refl (taken-few n (suc c) ws) (taken-few n c ws h)
+  where
+    go : (b : Bool) → isTaken n c w ≡ b → (suc c ≤ 400 → suc c + length (takenFrom n (suc c) ws) ≤ 400) → c + length (takenFrom n c ws) ≤ 400
+        → c + length (cond b (w ∷ takenFrom n (suc c) ws) (takenFrom n c ws)) ≤ 400
+    go true e f g = omega (arith, f (ltb-true c 400 (and-right (accepted (roundCheck n w)) (ltb c 400) e)))
+    go false e f g = g
+
+-- a start, by what it was given
+pub record Start (n : ℕ) (openings : List ℕ) : Type 0 where
+  pub some : 0 < n
+  pub most : n ≤ 32
+  pub trucks : badTrucks n ≡ false
+  pub crushers : badOpenings n openings ≡ false
+  pub accept : startCheck n openings ≡ Accepted
+
+pub start-by : (n : ℕ) (openings : List ℕ) → startCheck n openings ≡ Accepted → Start n openings
+unfolding startCheck
+start-by n openings h =
+    let t = refuse-false (badTrucks n) TruckCount (refuse (badOpenings n openings) Record Accepted) h in
+    let r = trucks-in n t in
+    record {
+      some = r .0;
+      most = r .1;
+      trucks = t;
+      crushers = refuse-false (badOpenings n openings) Record Accepted (refuse-rest (badTrucks n) TruckCount (refuse (badOpenings n openings) Record Accepted) h);
+      accept = h;
+    }
+
+module _ (n : ℕ) (openings : List ℕ) (start : Start n openings) where
+  -- every record on the way passes refusal 7
+  pub good-at : (rounds : ℕ → List ℕ) (k i : ℕ) → i < n → Good k (truck (trucksAt n openings rounds k) i)
+  good-at rounds k =
+      throughout n openings rounds (λ k ts. (i : ℕ) → i < n → Good k (truck ts i)) k
+      (λ i l.
+      let o : leb (getD openings i 0) 15 ≡ true = le-leb (getD openings i 0) 15 (openings-in n openings (start .crushers) .opening i l) in
+      rw (opened-truck n openings rounds i (omega (arith, start .most))) (record { opening = o; estimate = o; state = refl; memory = refl }))
+      (λ k l h. good-next n (activeBit (rounds k)) k (rounds k) (trucksAt n openings rounds k) h)
+      k (omega arith)
+
+  pub good-fleet : (rounds : ℕ → List ℕ) (k : ℕ) → k ≤ 400 → goodFleet (fleetAt n openings rounds k) ≡ true
+  unfolding goodFleet fleetAt
+  good-fleet rounds k l =
+      rw (start .trucks, le-leb k 400 l)
+      (allBelow-all (λ i. goodTruck k (truck (trucksAt n openings rounds k) i)) n (λ i li. good-whole k (truck (trucksAt n openings rounds k) i) (good-at rounds k i li)))
+
+  -- what a step makes of such a record: the next one where its round is taken, else the same
+  pub step-taken : (rounds : ℕ → List ℕ) (k : ℕ) (w : List ℕ) → k ≤ 400
+      → stepped (fleetAt n openings rounds k) w .fleet ≡ cond (isTaken n k w) (nextFleet (fleetAt n openings rounds k) w) (fleetAt n openings rounds k)
+  unfolding stepped stepCheck isTaken fleetAt
+  step-taken rounds k w l = rw (good-fleet rounds k l) (go (roundCheck n w) (eqb k 400) refl)
+    where
+      f : Fleet
+      f = fleetAt n openings rounds k
+
+      go : (o : Outcome) (b : Bool) → eqb k 400 ≡ b
+          → answer (refuse b RoundsDone o) (nextFleet f w) f .fleet ≡ cond (accepted o && ltb k 400) (nextFleet f w) f
+      go Accepted true e = rw (le-ltb k 400 (omega (arith, eqb-true k 400 e)))
+      go (Refused r) true e = refl
+      go Accepted false e = rw (lt-ltb k 400 (let x : k ≡ 400 → ⊥ = eqb-false k 400 e in omega arith))
+      go (Refused r) false e = refl
+
+  -- a taken round is one more round of the run
+  next-is : (pre : List (List ℕ)) (w : List ℕ)
+      → nextFleet (fleetAt n openings (roundIn pre) (length pre)) w ≡ fleetAt n openings (roundIn (pre ++ (w ∷ []))) (length (pre ++ (w ∷ [])))
+  unfolding nextFleet fleetAt
+  next-is pre w =
+      ap₂ (λ (c : ℕ) (ts : List Truck). record { n = n; done = c; trucks = ts }) (add-one (length pre) ∙ sym longer)
+      (ap (λ (c : ℕ). after n (activeBit w) c w (trucksAt n openings (roundIn pre) (length pre))) (add-one (length pre))
+      ∙ ap₂ (λ (v : List ℕ) (ts : List Truck). after n (activeBit v) (suc (length pre)) v ts) (sym (getD-append-seam pre w [] []))
+      (rounds-ext n openings (roundIn pre) (roundIn (pre ++ (w ∷ []))) (length pre) (λ k l. sym (List·getD-append pre (w ∷ []) [] k l)))
+      ∙ sym (at-suc n openings (roundIn (pre ++ (w ∷ []))) (length pre))
+      ∙ ap (trucksAt n openings (roundIn (pre ++ (w ∷ [])))) (sym longer))
+    where
+      longer : length (pre ++ (w ∷ [])) ≡ suc (length pre)
+      longer = length-append pre (w ∷ []) ∙ add-one (length pre)
+
+  -- the record returned last, after the rounds `pre` were taken
+  steps-from : (pre ws : List (List ℕ)) → length pre ≤ 400
+      → lastRecord (fleetAt n openings (roundIn pre) (length pre)) ws
+      ≡ fleetAt n openings (roundIn (pre ++ takenFrom n (length pre) ws)) (length (pre ++ takenFrom n (length pre) ws))
+  unfolding lastRecord takenFrom isTaken
+  steps-from pre [] l = ap (λ (rs : List (List ℕ)). fleetAt n openings (roundIn rs) (length rs)) (sym (append-nil pre))
+  steps-from pre (w ∷ ws) l =
+      ap (λ (f : Fleet). lastRecord f ws) (step-taken (roundIn pre) (length pre) w l)
+      ∙ go (isTaken n (length pre) w) refl (steps-from (pre ++ (w ∷ [])) ws) (steps-from pre ws l)
+    where
+      f : Fleet
+      f = fleetAt n openings (roundIn pre) (length pre)
+
+      longer : length (pre ++ (w ∷ [])) ≡ suc (length pre)
+      longer = length-append pre (w ∷ []) ∙ add-one (length pre)
+
+      below : isTaken n (length pre) w ≡ true → length (pre ++ (w ∷ [])) ≤ 400
+      below e = omega (arith, longer, ltb-true (length pre) 400 (and-right (accepted (roundCheck n w)) (ltb (length pre) 400) e))
+
+      go : (b : Bool) → isTaken n (length pre) w ≡ b
+          → (length (pre ++ (w ∷ [])) ≤ 400 → lastRecord (fleetAt n openings (roundIn (pre ++ (w ∷ []))) (length (pre ++ (w ∷ [])))) ws
+          ≡ fleetAt n openings (roundIn ((pre ++ (w ∷ [])) ++ takenFrom n (length (pre ++ (w ∷ []))) ws)) (length ((pre ++ (w ∷ [])) ++ takenFrom n (length (pre ++ (w ∷ []))) ws)))
+          → lastRecord f ws ≡ fleetAt n openings (roundIn (pre ++ takenFrom n (length pre) ws)) (length (pre ++ takenFrom n (length pre) ws))
+          → lastRecord (cond b (nextFleet f w) f) ws
+          ≡ fleetAt n openings (roundIn (pre ++ cond b (w ∷ takenFrom n (suc (length pre)) ws) (takenFrom n (length pre) ws)))
+          (length (pre ++ cond b (w ∷ takenFrom n (suc (length pre)) ws) (takenFrom n (length pre) ws)))
+      go true e ih same =
+          ap (λ (g : Fleet). lastRecord g ws) (next-is pre w) ∙ ih (below e)
+          ∙ ap (λ (rs : List (List ℕ)). fleetAt n openings (roundIn rs) (length rs))
+          (append-assoc pre (w ∷ []) (takenFrom n (length (pre ++ (w ∷ []))) ws) ∙ ap (λ (c : ℕ). pre ++ w ∷ takenFrom n c ws) longer)
+      go false e ih same = same
+
+  -- the record returned last by a list of steps
+  pub steps-are : (ws : List (List ℕ)) → lastRecord (started n openings .fleet) ws ≡ fleetAt n openings (roundIn (taken n ws)) (length (taken n ws))
+  unfolding started fleetAt trucksAt stateAt
+  steps-are ws = ap (λ (f : Fleet). lastRecord f ws) begun ∙ steps-from [] ws (omega arith)
+    where
+      begun : started n openings .fleet ≡ fleetAt n openings (roundIn []) 0
+      begun = ap (λ (o : Outcome). answer o (record { n = n; done = 0; trucks = openedTrucks openings }) blank .fleet) (start .accept)
+
+  -- running the list's recording
+  pub recording-run : (ws : List (List ℕ))
+      → ran (recordingOf n openings ws) ≡ record { outcome = Accepted; fleet = fleetAt n openings (roundIn (taken n ws)) (length (taken n ws)) }
+  unfolding ran recordingOf fleetAt
+  recording-run ws =
+      ap (λ (o : Outcome). answer o (fleetAt (trucksOf s) (openingsOf s) (roundAt s) (roundsOf s)) blank) (back .0)
+      ∙ ap (λ (f : Fleet). record { outcome = Accepted; fleet = f })
+      (ap₂ (λ (m R : ℕ). fleetAt m (openingsOf s) (roundAt s) R) (back .1) (back .2)
+      ∙ ap (λ (os : List ℕ). fleetAt n os (roundAt s) (length rs)) (back .3)
+      ∙ ap (λ (ts : List Truck). record { n = n; done = length rs; trucks = ts })
+      (rounds-ext n openings (roundAt s) (roundIn rs) (length rs) (round-back n rs each openings (start .some) (start .most) few (start .crushers))))
+    where
+      rs : List (List ℕ)
+      rs = taken n ws
+
+      s : List ℕ
+      s = packed n (length rs) openings (joined rs)
+
+      each : (k : ℕ) → k < length rs → roundCheck n (getD rs k []) ≡ Accepted
+      each = taken-accepted n 0 ws
+
+      few : length rs ≤ 400
+      few = omega (arith, taken-few n 0 ws (omega arith))
+
+      back : (checkOf s ≡ Accepted) × (trucksOf s ≡ n) × (roundsOf s ≡ length rs) × (openingsOf s ≡ openings) × (wordsOf s ≡ joined rs)
+      back = read-back n (length rs) openings (joined rs) (joined-accepted n rs each openings (start .some) (start .most) few (start .crushers))

@@ -3,6 +3,7 @@ use mathlib.Core.Path.{_≡_, refl, ap, sym, _∙_}
 use mathlib.Core.Bool.{false≢true}
 use mathlib.Core.List.{List}
 use Prim.Native.Nat.{ℕ, _≤_}
+use native.Mathlib.Omega.{arith}
 use lib.ListN.{length}
 use Rattle.refusals.specs.declared.Outcome.{Outcome}
 use Rattle.refusals.specs.declared.Outcome.the-variants.{Accepted, Refused}
@@ -16,7 +17,7 @@ use Rattle.protocol.specs.Steps.{lastRecord, taken, roundIn, recordingOf}
 use Rattle.protocol.specs.Runs.{openedTrucks}
 use Rattle.agreement.specs.Claims.{Claim, StepsClaim, RunClaim, Demand}
 use Rattle.agreement.proofs.Whole.{majority-agreed, decided-by}
-use Rattle.agreement.proofs.Steps.{Start, start-by, steps-are, recording-run}
+use Rattle.agreement.proofs.Steps.{Start, start-by, taken-few, step-outcome, steps-are, recording-run}
 
 -- the claim for what R rounds leave of up to 32 trucks
 pub claim-at : (n : ℕ) (openings : List ℕ) (rounds : ℕ → List ℕ) (R : ℕ) → n ≤ 32 → Claim n openings rounds R (fleetAt n openings rounds R)
@@ -36,6 +37,7 @@ steps-claim n openings steps h =
     let e = steps-are n openings s steps in
     record {
       claim = rw e (claim-at n openings (roundIn (taken n steps)) (length (taken n steps)) (s .most));
+      nextStep = λ w. rw e (step-outcome n openings s (roundIn (taken n steps)) (length (taken n steps)) w (taken-few n 0 steps (omega arith)));
       asRun = recording-run n openings s steps ∙ ap (λ (f : Fleet). record { outcome = Accepted; fleet = f }) (sym e);
     }
 

@@ -109,6 +109,19 @@ module _ (n : ℕ) (openings : List ℕ) (start : Start n openings) where
       rw (start .trucks, le-leb k 400 l)
       (allBelow-all (λ i. goodTruck k (truck (trucksAt n openings rounds k) i)) n (λ i li. good-whole k (truck (trucksAt n openings rounds k) i) (good-at rounds k i li)))
 
+  -- of such a record a step can only be refused 14, 8 and 6
+  pub step-outcome : (rounds : ℕ → List ℕ) (k : ℕ) (w : List ℕ) → k ≤ 400
+      → stepped (fleetAt n openings rounds k) w .outcome ≡ refuse (eqb k 400) RoundsDone (roundCheck n w)
+  unfolding stepped stepCheck fleetAt
+  step-outcome rounds k w l = rw (good-fleet rounds k l) (go (refuse (eqb k 400) RoundsDone (roundCheck n w)))
+    where
+      f : Fleet
+      f = fleetAt n openings rounds k
+
+      go : (o : Outcome) → answer o (nextFleet f w) f .outcome ≡ o
+      go Accepted = refl
+      go (Refused r) = refl
+
   -- what a step makes of such a record: the next one where its round is taken, else the same
   pub step-taken : (rounds : ℕ → List ℕ) (k : ℕ) (w : List ℕ) → k ≤ 400
       → stepped (fleetAt n openings rounds k) w .fleet ≡ cond (isTaken n k w) (nextFleet (fleetAt n openings rounds k) w) (fleetAt n openings rounds k)

@@ -3,10 +3,13 @@ use mathlib.Core.Path.{_≡_}
 use mathlib.Core.Bool.{Bool, true, false}
 use mathlib.Core.List.{List}
 use Prim.Native.Nat.{ℕ, _+_, _≤_, _<_}
+use lib.Dec.{eqb}
 use lib.ListN.{length, getD}
 use Rattle.basics.specs.Bits.{odd}
 use Rattle.air.specs.Air.{majorityComplete, zeroComplete}
 use Rattle.refusals.specs.declared.Outcome.the-variants.{Accepted}
+use Rattle.refusals.specs.declared.Refusal.the-variants.{RoundsDone}
+use Rattle.recording.specs.Checks.{refuse, roundCheck}
 use Rattle.recording.specs.Packed.{trucksOf, roundsOf, openingsOf, roundAt}
 use Rattle.protocol.specs.declared.State.{State}
 use Rattle.protocol.specs.declared.State.the-variants.{Running, Stopped, Decided}
@@ -55,6 +58,9 @@ pub record Claim (n : ℕ) (openings : List ℕ) (rounds : ℕ → List ℕ) (R 
 -- is accepted and returns that record
 pub record StepsClaim (n : ℕ) (openings : List ℕ) (steps : List (List ℕ)) : Type 0 where
   pub claim : Claim n openings (roundIn (taken n steps)) (length (taken n steps)) (lastRecord (started n openings .fleet) steps)
+  -- of the next step only 14, 8 and 6 can be refused: no record that a start and steps returned is refused 7
+  pub nextStep : (w : List ℕ) → stepped (lastRecord (started n openings .fleet) steps) w .outcome
+      ≡ refuse (eqb (length (taken n steps)) 400) RoundsDone (roundCheck n w)
   pub asRun : ran (recordingOf n openings steps) ≡ record { outcome = Accepted; fleet = lastRecord (started n openings .fleet) steps }
 
 -- of a recording

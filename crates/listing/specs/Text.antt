@@ -1,0 +1,61 @@
+-- The printed text (document 01, 'Runs worked through'), as bytes.
+use Prim.Native.Nat.{ℕ, zero, suc, _+_, _/_, _%_}
+use Prim.Native.Char.{code}
+use Prim.Native.String as string
+use Prim.Native.String.{String}
+use mathlib.Core.Bool.{true, false}
+use mathlib.Core.List.{List, [], _∷_, _++_}
+use lib.Dec.{ltb}
+use Rattle.refusals.specs.Numbers.{numberOf}
+use Rattle.refusals.specs.declared.Outcome.{Outcome}
+use Rattle.refusals.specs.declared.Outcome.the-variants.{Accepted, Refused}
+use Rattle.protocol.specs.declared.State.{State}
+use Rattle.protocol.specs.declared.State.the-variants.{Running, Stopped, Decided}
+use Rattle.protocol.specs.declared.Truck.{Truck}
+use Rattle.protocol.specs.declared.Fleet.{Fleet}
+use Rattle.protocol.specs.declared.Answer.{Answer}
+use Rattle.protocol.specs.Rules.{truck}
+use Rattle.protocol.specs.Fleets.{ran}
+
+-- the bytes of a text
+abbrev pub text : String → List ℕ
+text string.[] = []
+text (string._∷_ c s) = code c ∷ text s
+
+-- a number in decimal, of at most `digits` digits
+unfoldable pub decimalIn : ℕ → ℕ → List ℕ
+decimalIn zero k = []
+decimalIn (suc digits) k =
+    elim (ltb k 10) [ true ↦ (48 + k) ∷ [] | false ↦ decimalIn digits (k / 10) ++ ((48 + k % 10) ∷ []) ]
+
+-- a number in decimal; none that is printed has more than five digits
+unfoldable pub decimal : ℕ → List ℕ
+decimal k = decimalIn 5 k
+
+-- state, crusher (a decision or the present estimate), and for decided or stopped trucks the round
+unfoldable pub stateText : State → ℕ → List ℕ
+stateText Running v = text "running " ++ decimal v
+stateText (Stopped k) v = text "stopped " ++ decimal v ++ text " round " ++ decimal k
+stateText (Decided k) v = text "decided " ++ decimal v ++ text " round " ++ decimal k
+
+-- the line of truck i: truck, opening, state, crusher, round
+unfoldable pub truckLine : ℕ → Truck → List ℕ
+truckLine i t = decimal i ++ text " opened " ++ decimal (t .opening) ++ text " " ++ stateText (t .state) (t .estimate) ++ text "\n"
+
+-- the lines of the trucks below n
+unfoldable pub truckLines : List Truck → ℕ → List ℕ
+truckLines ts zero = []
+truckLines ts (suc i) = truckLines ts i ++ truckLine i (truck ts i)
+
+-- the whole listing: the two header counts, then a line for each truck
+unfoldable pub listingOf : Fleet → List ℕ
+listingOf f = text "trucks " ++ decimal (f .n) ++ text " rounds " ++ decimal (f .done) ++ text "\n" ++ truckLines (f .trucks) (f .n)
+
+-- the listing of a run, or the one line of a refusal
+unfoldable pub printedFor : Outcome → Fleet → List ℕ
+printedFor Accepted f = listingOf f
+printedFor (Refused r) f = text "refused " ++ decimal (numberOf r) ++ text "\n"
+
+-- what is printed for a recording
+unfoldable pub printed : List ℕ → List ℕ
+printed s = let a = ran s in printedFor (a .outcome) (a .fleet)

@@ -1,0 +1,1 @@
+// The text that the program prints for a recording.

@@ -37,7 +37,7 @@ steps-claim n openings steps h =
     let e = steps-are n openings s steps in
     record {
       claim = rw e (claim-at n openings (roundIn (taken n steps)) (length (taken n steps)) (s .most));
-      nextStep = λ w. rw e (step-outcome n openings s (roundIn (taken n steps)) (length (taken n steps)) w (taken-few n 0 steps (omega arith)));
+      nextStep = λ w. rw e (step-outcome n openings s (roundIn (taken n steps)) (length (taken n steps)) w (omega (arith, taken-few n 0 steps (omega arith))));
       asRun = recording-run n openings s steps ∙ ap (λ (f : Fleet). record { outcome = Accepted; fleet = f }) (sym e);
     }
 

@@ -1,4 +1,4 @@
-// The fleet record and the answers about it. specs/ has the rules of the two-round protocol; there is no code here.
+// The fleet record and the answers about it. specs/ has the rules of the two-round protocol, proofs/Demand3 the theorem about whole lists of steps and whole runs; there is no code here.
 use refusals::Outcome;
 use refusals::Refusal;
 

@@ -23,15 +23,15 @@ use Rattle.recording.specs.Checks.{refuse, badTrucks, badOpenings, checkOf, rou
 use Rattle.recording.proofs.Accepted.{GoodOpenings, refuse-false, refuse-rest, trucks-in, openings-in}
 use Rattle.recording.proofs.RoundTrip.{read-back}
 use Rattle.recording.proofs.Rounds.{joined-accepted, round-back}
 use Rattle.protocol.specs.declared.Truck.{Truck}
 use Rattle.protocol.specs.declared.Fleet.{Fleet}
 use Rattle.protocol.specs.declared.Answer.{Answer}
 use Rattle.protocol.specs.Rules.{truck, after}
 use Rattle.protocol.specs.Runs.{trucksAt, openedTrucks}
 use Rattle.protocol.specs.Fleets.{answer, blank, startCheck, started, goodTruck, goodFleet, stepCheck, nextFleet, stepped, fleetAt, ran}
 use Rattle.protocol.specs.Steps.{lastRecord, isTaken, takenFrom, taken, roundIn, recordingOf}
-use Rattle.agreement.proofs.Good.{Good, good-whole, good-next}
-use Rattle.agreement.proofs.Whole.{at-suc, opened-truck, throughout}
+use Rattle.protocol.proofs.Good.{Good, good-whole, good-next}
+use Rattle.protocol.proofs.Whole.{at-suc, opened-truck, throughout}
 
 -- a run looks at its own rounds only
 pub rounds-ext : (n : ℕ) (openings : List ℕ) (r q : ℕ → List ℕ) (R : ℕ) → ((k : ℕ) → k < R → r k ≡ q k) → trucksAt n openings r R ≡ trucksAt n openings q R

@@ -15,13 +15,13 @@ use Rattle.basics.proofs.Laws.{getD-filled, and-left, and-right, and-both}
 use Rattle.air.specs.Round.{stopBit, markBit}
 use Rattle.air.specs.Air.{Air, heard, heardBy, hears}
 use Rattle.air.proofs.Laws.{hears-sends}
 use Rattle.protocol.specs.declared.Heard.{Heard}
 use Rattle.protocol.specs.declared.Heard.the-variants.{Nothing, One, Several}
 use Rattle.protocol.specs.declared.State.{State}
 use Rattle.protocol.specs.declared.State.the-variants.{Running, Stopped, Decided}
 use Rattle.protocol.specs.declared.Truck.{Truck}
-use Rattle.agreement.specs.Claims.{isDecided}
+use Rattle.protocol.specs.Claims.{isDecided}
 use Rattle.protocol.specs.Rules.{opened, truck, isRunning, isSeveral, isOne, runs, vetoes, allSame, different, leastOr, stops, proposed, decides, vetoed, turn, airOf, valuesHeard, plays, after}
 
 -- the values of the numbers below m that have p
 module _ (f : ℕ → ℕ) (p : ℕ → Bool) where

@@ -9,13 +9,13 @@ use Rattle.basics.specs.Lists.{who}
 use Rattle.basics.specs.Bits.{odd}
 use Rattle.air.specs.Air.{Air, sent, heard, heardBy, calmRound}
 use Rattle.air.proofs.Laws.{sent-by, nobody-sends, silent-heard, silent-none, accurate-clear, calm-hears, calm-few, few-some, calm-accurate}
 use Rattle.protocol.specs.declared.Heard.{Heard}
 use Rattle.protocol.specs.declared.Heard.the-variants.{Nothing, One, Several}
 use Rattle.protocol.specs.declared.State.{State}
 use Rattle.protocol.specs.declared.State.the-variants.{Running, Stopped, Decided}
 use Rattle.protocol.specs.declared.Truck.{Truck}
 use Rattle.protocol.specs.Rules.{truck, isRunning, isSeveral, isOne, runs, vetoes, different, leastOr, proposed, decides, vetoed, airOf, valuesHeard, plays}
-use Rattle.agreement.proofs.OneRound.{value-of, of-value, all-one, least-any, air, next, sender-runs, running-runs, veto-sends, plays-proposal, plays-veto, next-played, next-idle}
+use Rattle.protocol.proofs.OneRound.{value-of, of-value, all-one, least-any, air, next, sender-runs, running-runs, veto-sends, plays-proposal, plays-veto, next-played, next-idle}
 
 -- no truck runs any more
 abbrev pub Ended : ℕ → List Truck → Type 0

@@ -10,13 +10,13 @@ use Rattle.basics.specs.Bits.{odd}
 use Rattle.basics.proofs.Laws.{someBelow-at, someBelow-none}
 use Rattle.air.specs.Air.{Air, sent, heard, hears, majorityComplete, zeroComplete}
 use Rattle.air.proofs.Laws.{hears-sends, sent-some, sent-none, common, majority-hears, zero-silent}
 use Rattle.protocol.specs.declared.Heard.{Heard}
 use Rattle.protocol.specs.declared.Heard.the-variants.{Nothing, One, Several}
 use Rattle.protocol.specs.declared.State.{State}
 use Rattle.protocol.specs.declared.Truck.{Truck}
 use Rattle.protocol.specs.Rules.{truck, isSeveral, isOne, runs, vetoes, different, leastOr, proposed, vetoed, airOf, valuesHeard, plays}
-use Rattle.agreement.specs.Claims.{isDecided}
-use Rattle.agreement.proofs.OneRound.{one-value, not-nothing, air, next, sender-runs, running-runs, veto-sends, plays-proposal, plays-veto, heard-value, value-heard, estimate-next, next-played, next-decided, proposal-runs, veto-decides}
+use Rattle.protocol.specs.Claims.{isDecided}
+use Rattle.protocol.proofs.OneRound.{one-value, not-nothing, air, next, sender-runs, running-runs, veto-sends, plays-proposal, plays-veto, heard-value, value-heard, estimate-next, next-played, next-decided, proposal-runs, veto-decides}
 
 -- nobody has decided, and once a truck that will not veto has heard one value, all trucks that will not veto share its estimate
 pub record Open (n : ℕ) (ts : List Truck) : Type 0 where

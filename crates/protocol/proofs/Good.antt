@@ -10,13 +10,13 @@ use Rattle.basics.specs.Bits.{odd}
 use Rattle.basics.proofs.Laws.{and-left, and-right, and-both}
 use Rattle.air.specs.Air.{Air, implies, heard}
 use Rattle.air.proofs.Laws.{implies-mp, implies-by}
 use Rattle.protocol.specs.declared.Heard.{Heard}
 use Rattle.protocol.specs.declared.State.{State}
 use Rattle.protocol.specs.declared.State.the-variants.{Running, Stopped, Decided}
 use Rattle.protocol.specs.declared.Truck.{Truck}
 use Rattle.protocol.specs.Rules.{truck, isRunning, runs, different, decides, stops, valuesHeard, plays}
 use Rattle.protocol.specs.Fleets.{isEmpty, goodState, goodTruck}
-use Rattle.agreement.proofs.OneRound.{air, next, after-cases, sender-runs, plays-proposal, plays-veto, estimate-next}
+use Rattle.protocol.proofs.OneRound.{air, next, after-cases, sender-runs, plays-proposal, plays-veto, estimate-next}
 
 -- what refusal 7 asks of one truck, part by part
 pub record Good (done : ℕ) (t : Truck) : Type 0 where

@@ -11,13 +11,13 @@ use Rattle.refusals.specs.Numbers.{accepted}
 use Rattle.recording.specs.Packed.{trucksOf, roundsOf, openingsOf, roundAt}
 use Rattle.recording.specs.Checks.{checkOf}
 use Rattle.recording.proofs.Accepted.{bytes-good}
 use Rattle.protocol.specs.declared.Fleet.{Fleet}
 use Rattle.protocol.specs.Fleets.{answer, blank, startCheck, started, fleetAt, ran}
 use Rattle.protocol.specs.Steps.{lastRecord, taken, roundIn, recordingOf}
 use Rattle.protocol.specs.Runs.{openedTrucks}
-use Rattle.agreement.specs.Claims.{Claim, StepsClaim, RunClaim, Demand}
-use Rattle.agreement.proofs.Whole.{majority-agreed, decided-by}
-use Rattle.agreement.proofs.Steps.{Start, start-by, taken-few, step-outcome, steps-are, recording-run}
+use Rattle.protocol.specs.Claims.{Claim, StepsClaim, RunClaim, Demand}
+use Rattle.protocol.proofs.Whole.{majority-agreed, decided-by}
+use Rattle.protocol.proofs.Steps.{Start, start-by, taken-few, step-outcome, steps-are, recording-run}
 
 -- the claim for what R rounds leave of up to 32 trucks
 pub claim-at : (n : ℕ) (openings : List ℕ) (rounds : ℕ → List ℕ) (R : ℕ) → n ≤ 32 → Claim n openings rounds R (fleetAt n openings rounds R)

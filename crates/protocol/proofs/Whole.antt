@@ -16,16 +16,16 @@ use Rattle.air.specs.Round.{activeBit, markBit}
 use Rattle.air.specs.Air.{Air, heard, majorityComplete, zeroComplete, calmRound, calmFor}
 use Rattle.air.specs.Runs.{stateAt}
 use Rattle.air.proofs.Laws.{majority-zero}
 use Rattle.protocol.specs.declared.State.{State}
 use Rattle.protocol.specs.declared.State.the-variants.{Running, Stopped, Decided}
 use Rattle.protocol.specs.declared.Truck.{Truck}
 use Rattle.protocol.specs.Rules.{opened, truck, isRunning, isOne, runs, decides, plays, after, airOf}
 use Rattle.protocol.specs.Runs.{openedTrucks, trucksAt, airAt, calm}
 use Rattle.protocol.specs.Fleets.{fleetAt}
-use Rattle.agreement.specs.Claims.{isDecided, EndedBy, Agreed, MajorityMarks, MixedMarks, Claim}
-use Rattle.agreement.proofs.OneRound.{after-cases, plays-proposal, plays-veto, estimate-next, next-idle}
-use Rattle.agreement.proofs.Agree.{Open, Settled, open-proposal, open-veto, settled-next}
-use Rattle.agreement.proofs.Settle.{Ended, Same, Ready, calm-same, calm-ready, veto-same, calm-ended, ended-next}
+use Rattle.protocol.specs.Claims.{isDecided, EndedBy, Agreed, MajorityMarks, MixedMarks, Claim}
+use Rattle.protocol.proofs.OneRound.{after-cases, plays-proposal, plays-veto, estimate-next, next-idle}
+use Rattle.protocol.proofs.Agree.{Open, Settled, open-proposal, open-veto, settled-next}
+use Rattle.protocol.proofs.Settle.{Ended, Same, Ready, calm-same, calm-ready, veto-same, calm-ended, ended-next}
 
 -- a stop or a decision in a round of at most k
 abbrev Stamped : ℕ → State → Type 0

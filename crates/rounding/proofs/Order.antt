@@ -1,44 +1,18 @@
 -- The order of two rounded quotients is the order of the exact fractions, over whole numbers.
-use mathlib.Core.Path.{_≡_, sym, ap, ap₂, _∙_}
-use mathlib.Core.Bool.{true, false, true≢false}
+use mathlib.Core.Path.{_≡_, sym, ap, _∙_}
+use mathlib.Core.Bool.{false}
 use Prim.Native.Nat.{ℕ, suc, _+_, _*_, _^_, _≤_, _<_}
-use native.Mathlib.Nat.{le-refl, le-of-lt, lt-of-lt-of-le, mul-comm, mul-assoc, mul-right-comm, mul-pos, mul-le-mul, mul-le-mul-right, mul-lt-mul-of-pos-right, lt-of-mul-lt-mul-right, le-mul-of-pos-right}
+use native.Mathlib.Nat.{le-refl, le-of-lt, lt-of-lt-of-le, mul-le-mul, mul-le-mul-right, lt-of-mul-lt-mul-right, le-mul-of-pos-right}
 use native.Mathlib.Decide.{decLt}
 use native.Mathlib.Omega.{arith}
 use borrow.Author.Tests.{lt-ltb, le-ltb}
 use lib.Dec.{ltb, lit≤}
 use lib.Pow.{pow-pos}
-use lib.Ieee.{Float, nan, inf, fin, binary64, up, down, round, lt}
-use lib.Ieee.Fits.{down-pos}
+use lib.Ieee.{Float, binary64, round, lt}
 use lib.Ieee.Exact.{HasValue}
 use lib.Ieee.Scale.{grid, overflow, round-val, round-same}
 use Rattle.rounding.proofs.Error.{Near, grid-near}
-
--- ---- two values that are not negative compare as the fractions that they equal
-
--- a test on two multiples is that on the numbers themselves
-ltb-scale : (a b k : ℕ) → 0 < k → ltb (a * k) (b * k) ≡ ltb a b
-ltb-scale a b k K = elim (decLt a b) [
-  | yes h ↦ lt-ltb (a * k) (b * k) (mul-lt-mul-of-pos-right h K) ∙ sym (lt-ltb a b h)
-  | no h ↦ le-ltb (a * k) (b * k) (mul-le-mul-right k (omega arith)) ∙ sym (le-ltb a b (omega arith))
-]
-
--- p / q is g / l, and r / s is h / l
-cross : (p q r s g h l : ℕ) → 0 < q → 0 < s → 0 < l → p * l ≡ g * q → r * l ≡ h * s → ltb (p * s) (r * q) ≡ ltb g h
-cross p q r s g h l Q S L e f =
-    sym (ltb-scale (p * s) (r * q) l L)
-    ∙ ap₂ ltb (mul-right-comm p s l ∙ ap (λ (z : ℕ). z * s) e ∙ mul-assoc g q s) (mul-right-comm r q l ∙ ap (λ (z : ℕ). z * q) f ∙ mul-assoc h s q ∙ ap (λ (z : ℕ). h * z) (mul-comm s q))
-    ∙ ltb-scale g h (q * s) (mul-pos Q S)
-
-lt-values : (x y : Float) (g h l : ℕ) → 0 < l → HasValue x false g l → HasValue y false h l → lt x y ≡ ltb g h
-unfolding lt
-lt-values nan y g h l L p q = absurd p
-lt-values (inf s) y g h l L p q = absurd p
-lt-values (fin true m e) y g h l L p q = absurd (true≢false (p .0))
-lt-values (fin false m e) nan g h l L p q = absurd q
-lt-values (fin false m e) (inf t) g h l L p q = absurd q
-lt-values (fin false m e) (fin true n d) g h l L p q = absurd (true≢false (q .0))
-lt-values (fin false m e) (fin false n d) g h l L p q = cross (m * up e) (down e) (n * up d) (down d) g h l (down-pos e) (down-pos d) L (p .1) (q .1)
+use Rattle.rounding.proofs.Values.{lt-values}
 
 -- ---- both quotients, in units of the format's smallest value
 

@@ -7,12 +7,13 @@ use native.Mathlib.Omega.{arith}
 use borrow.Author.Tests.{ne-eqb}
 use lib.Dec.{eqb, ltb→lt}
 use lib.IntN.{pos}
-use lib.Ieee.{Float, nan, inf, fin, Format, binary64, up, down, round, mul, div, ofInt}
+use lib.Ieee.{Float, nan, inf, fin, Format, binary64, up, down, round, mul, div, eq, ofInt}
 use lib.Ieee.Fits.{up-pos, down-pos}
 use lib.Ieee.Exact.{HasValue}
 use lib.Ieee.Scale.{round-same}
 use lib.Ieee.Back.{round-whole}
 use lib.Ieee.Positive.{positive-of-value}
+use Rattle.rounding.proofs.Values.{eq-values}
 
 -- the product of a / c and b / d
 mul-value : (f : Format) (x y : Float) (a c b d : ℕ) → 0 < c → 0 < d → HasValue x false a c → HasValue y false b d → mul f x y ≡ round f false (a * b) (c * d)
@@ -55,6 +56,10 @@ div-value f (fin false m e) (fin false n g) a c b d C B D p q =
 whole : (n : ℕ) → n ≤ 2 ^ 53 → HasValue (ofInt binary64 (pos n)) false n 1
 unfolding ofInt
 whole n h = round-whole binary64 false n h
+
+-- two whole numbers are equal as floats where they are equal
+pub whole-eq : (m n : ℕ) → m ≤ 2 ^ 53 → n ≤ 2 ^ 53 → eq (ofInt binary64 (pos m)) (ofInt binary64 (pos n)) ≡ eqb m n
+whole-eq m n M N = eq-values (ofInt binary64 (pos m)) (ofInt binary64 (pos n)) m n 1 (zero-lt-suc 0) (whole m M) (whole n N)
 
 -- the product of two 16-bit numbers, as floats, is the float of their product, and is exact
 pub product : (l s : ℕ) → l < 2 ^ 16 → s < 2 ^ 16 → mul binary64 (ofInt binary64 (pos l)) (ofInt binary64 (pos s)) ≡ ofInt binary64 (pos (l * s))

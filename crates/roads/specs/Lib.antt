@@ -1,0 +1,3 @@
+pub mod Estimates
+pub mod Opening
+pub mod Choice

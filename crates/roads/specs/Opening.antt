@@ -1,0 +1,79 @@
+-- The opening crusher of three lists of whole numbers, and its refusals (document 01, 'The opening crusher' and refusals 10 to 13).
+use Prim.Native.Nat.{ℕ, _*_}
+use mathlib.Core.Bool.{Bool, cond, not, _&&_, _||_}
+use mathlib.Core.List.{List, [], _∷_}
+use lib.Dec.{ltb, eqb}
+use lib.ListN.{length, getD}
+use Rattle.basics.specs.Lists.{allBelow, someBelow, first}
+use Rattle.refusals.specs.declared.Refusal.{Refusal}
+use Rattle.refusals.specs.declared.Refusal.the-variants.{RoadLists, Seconds, NoTime, AllIdle}
+use Rattle.refusals.specs.Numbers.{numberOf}
+use Rattle.roads.specs.declared.Opening.{Opening}
+use Rattle.roads.specs.declared.Opening.the-variants.{Crusher, Refused}
+
+-- a road: its length, the metres of its last run and the seconds of it
+pub record Road : Type 0 where
+  pub length : ℕ
+  pub metres : ℕ
+  pub seconds : ℕ
+
+-- road k of the three lists
+abbrev pub roadAt : List ℕ → List ℕ → List ℕ → ℕ → Road
+roadAt lengths metres seconds k = record { length = getD lengths k 0; metres = getD metres k 0; seconds = getD seconds k 0 }
+
+-- 01's idle: the last run covered 0 metres
+abbrev pub idle : Road → Bool
+idle r = eqb (r .metres) 0
+
+-- a road's exact time is the fraction `numerator` / `denominator`: length times seconds, divided by metres
+abbrev pub numerator : Road → ℕ
+numerator r = r .length * r .seconds
+
+abbrev pub denominator : Road → ℕ
+denominator r = r .metres
+
+-- ---- the least of n fractions, some of them passed over
+
+-- j takes less time than k: a smaller fraction
+abbrev pub faster : (ℕ → ℕ) → (ℕ → ℕ) → ℕ → ℕ → Bool
+faster num den j k = ltb (num j * den k) (num k * den j)
+
+-- k is not passed over, and no number below n that is not passed over is faster
+abbrev pub fastest : (ℕ → Bool) → (ℕ → ℕ) → (ℕ → ℕ) → ℕ → ℕ → Bool
+fastest passed num den n k = not (passed k) && allBelow (λ j. passed j || not (faster num den j k)) n
+
+-- the first of these: least exact time, lowest number on a tie
+unfoldable pub least : (ℕ → Bool) → (ℕ → ℕ) → (ℕ → ℕ) → ℕ → ℕ
+least passed num den n = first (fastest passed num den n) n
+
+-- ---- the refusals
+
+-- 10: no roads, more than 16, or lists of unequal length
+abbrev pub badLists : List ℕ → List ℕ → List ℕ → Bool
+badLists lengths metres seconds =
+    let n = length lengths in
+    eqb n 0 || ltb 16 n || not (eqb (length metres) n) || not (eqb (length seconds) n)
+
+-- 11: seconds above 3,600
+abbrev pub secondsAbove : Road → Bool
+secondsAbove r = ltb 3600 (r .seconds)
+
+-- 12: metres above 0 in 0 seconds
+abbrev pub noTime : Road → Bool
+noTime r = ltb 0 (r .metres) && eqb (r .seconds) 0
+
+-- 01's opening, or the first of the refusals 10 to 13 that holds; road k leads to crusher k
+unfoldable pub openingOf : List ℕ → List ℕ → List ℕ → Opening
+openingOf lengths metres seconds =
+    let n = length lengths in
+    let road = roadAt lengths metres seconds in
+    cond (badLists lengths metres seconds) (Refused RoadLists)
+    (cond (someBelow (λ k. secondsAbove (road k)) n) (Refused Seconds)
+    (cond (someBelow (λ k. noTime (road k)) n) (Refused NoTime)
+    (cond (allBelow (λ k. idle (road k)) n) (Refused AllIdle)
+    (Crusher (least (λ k. idle (road k)) (λ k. numerator (road k)) (λ k. denominator (road k)) n)))))
+
+-- an answer in document 01's terms: its refusal's number with no value, or 0 with the crusher
+abbrev pub answerOf : Opening → ℕ × List ℕ
+answerOf (Crusher k) = (0, k ∷ [])
+answerOf (Refused r) = (numberOf r, [])

@@ -1,0 +1,4 @@
+pub mod Values
+pub mod Error
+pub mod Order
+pub mod Quotient

@@ -248,3 +248,7 @@ module _ (n : ℕ) (active : ℕ → Bool) (k : ℕ) (w : List ℕ) (ts : List T
       go g =
           let p = parts (ltb 0 (heard air i)) (air .marked i) (isOne (truck ts i .heard)) g in
           (heardNone (p .0), p .1, p .2)
+
+  -- a truck with a mark keeps its estimate
+  pub marked-keeps : (i : ℕ) → odd k ≡ true → air .marked i ≡ true → plays air k w ts i .estimate ≡ truck ts i .estimate
+  marked-keeps i e h = rw (plays-proposal i e) (rw h)

@@ -1,0 +1,56 @@
+-- What a row of the table asks, and what the definitions answer.
+use mathlib.Core.List.{List, map}
+use Prim.Native.Nat.{ℕ, _/_, _%_}
+use Prim.Native.String.{String}
+use Rattle.basics.specs.Lists.{tab, who}
+use Rattle.air.specs.Air.{Air}
+use Rattle.recording.specs.Packed.{trucksOf, openingsOf, roundAt}
+use Rattle.protocol.specs.declared.Grades.{Grades}
+use Rattle.protocol.specs.declared.Grading.{Grading}
+use Rattle.protocol.specs.declared.Grading.the-variants.{Graded}
+use Rattle.protocol.specs.Rules.{truck}
+use Rattle.protocol.specs.Runs.{trucksAt, airAt}
+use Rattle.protocol.specs.Fleets.{graded}
+use Rattle.listing.specs.Text.{text, printed}
+use Rattle.roads.specs.Opening.{Road, numerator, denominator, openingOf, answerOf}
+
+pub data Question : Type 0 where
+  -- what is printed for a recording
+  prints : List ℕ → Question
+  -- the grading of a recording
+  grades : List ℕ → Question
+  -- the estimates of a recording's trucks after round k
+  estimates : ℕ → List ℕ → Question
+  -- the trucks of a recording that send in round k
+  senders : ℕ → List ℕ → Question
+  -- the opening crusher of three lists
+  opens : List ℕ → List ℕ → List ℕ → Question
+  -- the exact seconds of a road of this length, metres and seconds, as quotient and remainder
+  takes : ℕ → ℕ → ℕ → Question
+
+pub data Reply : Type 0 where
+  bytes : List ℕ → Reply
+  grading : Grading → Reply
+  numbers : List ℕ → Reply
+  opening : ℕ × List ℕ → Reply
+  exactly : ℕ × ℕ → Reply
+
+-- the reply that the definitions give
+unfoldable pub reply : Question → Reply
+reply (prints s) = bytes (printed s)
+reply (grades s) = grading (graded s)
+reply (estimates k s) =
+    let ts = trucksAt (trucksOf s) (openingsOf s) (roundAt s) k in
+    numbers (tab (λ i. truck ts i .estimate) (trucksOf s))
+reply (senders k s) = numbers (who (airAt (trucksOf s) (openingsOf s) (roundAt s) k .sends) (trucksOf s))
+reply (opens lengths metres seconds) = opening (answerOf (openingOf lengths metres seconds))
+reply (takes length metres seconds) =
+    let r : Road = record { length = length; metres = metres; seconds = seconds } in
+    exactly (numerator r / denominator r, numerator r % denominator r)
+
+-- a text, and four grades, as document 01 writes them
+abbrev pub says : String → Reply
+says s = bytes (text s)
+
+abbrev pub gradesAre : ℕ → ℕ → ℕ → ℕ → Reply
+gradesAre c m z a = grading (Graded (record { complete = c; majority = m; zero = z; accurate = a }))

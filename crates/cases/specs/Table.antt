@@ -1,0 +1,65 @@
+-- The starred cases C1 to C12 of document 01, a row for each thing that it says of them.
+use mathlib.Core.List.{List, [], _∷_}
+use Prim.Native.Nat.{ℕ}
+use lib.ListN.{replicate}
+use Rattle.cases.specs.Questions.{Question, prints, grades, estimates, senders, opens, takes, Reply, numbers, opening, exactly, says, gradesAre}
+
+pub record Row : Type 0 where
+  pub asks : Question
+  pub gets : Reply
+
+infix 5 _⟶_
+abbrev pub _⟶_ : Question → Reply → Row
+q ⟶ r = record { asks = q; gets = r }
+
+-- the recordings of C1, C2 and C3
+abbrev pub c1 : List ℕ
+c1 = 0x08 ∷ 0x04 ∷ 0x35 ∷ 0x30 ∷ 0x00 ∷ 0x03 ∷ 0x00 ∷ 0x00 ∷ []
+
+abbrev pub c2 : List ℕ
+c2 = 0x08 ∷ 0x02 ∷ 0x35 ∷ 0x31 ∷ 0x80 ∷ 0x00 ∷ []
+
+-- C2 with both mark bits of round 1 set
+abbrev pub c3 : List ℕ
+c3 = 0x08 ∷ 0x02 ∷ 0x35 ∷ 0x3d ∷ 0x80 ∷ 0x00 ∷ []
+
+unfoldable pub table : List Row
+table =
+    -- C1: both decide 3 in round 4; round 1 gives both estimate 3, and both veto
+    (prints c1 ⟶ says "trucks 2 rounds 4\n0 opened 3 decided 3 round 4\n1 opened 5 decided 3 round 4\n")
+    ∷ (estimates 1 c1 ⟶ numbers (3 ∷ 3 ∷ []))
+    ∷ (senders 2 c1 ⟶ numbers (0 ∷ 1 ∷ []))
+    -- C2: each misses the other without a mark, and they decide 3 and 5
+    ∷ (prints c2 ⟶ says "trucks 2 rounds 2\n0 opened 3 decided 3 round 2\n1 opened 5 decided 5 round 2\n")
+    ∷ (grades c2 ⟶ gradesAre 1 1 0 0)
+    -- C3: both keep their estimates, both veto, none decides
+    ∷ (prints c3 ⟶ says "trucks 2 rounds 2\n0 opened 3 running 3\n1 opened 5 running 5\n")
+    ∷ (estimates 1 c3 ⟶ numbers (3 ∷ 5 ∷ []))
+    ∷ (senders 2 c3 ⟶ numbers (0 ∷ 1 ∷ []))
+    -- C4: one truck, active in round 1, and never active
+    ∷ (prints (0x04 ∷ 0x02 ∷ 0x74 ∷ 0x00 ∷ []) ⟶ says "trucks 1 rounds 2\n0 opened 7 decided 7 round 2\n")
+    ∷ (prints (0x04 ∷ 0x02 ∷ 0x70 ∷ 0x00 ∷ []) ⟶ says "trucks 1 rounds 2\n0 opened 7 running 7\n")
+    -- C5: no rounds
+    ∷ (prints (0x08 ∷ 0x00 ∷ 0x35 ∷ []) ⟶ says "trucks 2 rounds 0\n0 opened 3 running 3\n1 opened 5 running 5\n")
+    -- C6: n of 32 is taken, 33 is not
+    ∷ (estimates 0 (0x80 ∷ 0x00 ∷ replicate 16 0x11) ⟶ numbers (replicate 32 1))
+    ∷ (grades (0x80 ∷ 0x00 ∷ replicate 16 0x11) ⟶ gradesAre 0 0 0 0)
+    ∷ (prints (0x84 ∷ 0x00 ∷ replicate 17 0x00) ⟶ says "refused 2\n")
+    -- C7: R of 400 is taken, 401 is not
+    ∷ (prints (0x05 ∷ 0x90 ∷ replicate 201 0x00) ⟶ says "trucks 1 rounds 400\n0 opened 0 running 0\n")
+    ∷ (prints (0x05 ∷ 0x91 ∷ replicate 201 0x00) ⟶ says "refused 3\n")
+    -- C8: C1 without its last byte
+    ∷ (prints (0x08 ∷ 0x04 ∷ 0x35 ∷ 0x30 ∷ 0x00 ∷ 0x03 ∷ 0x00 ∷ []) ⟶ says "refused 4\n")
+    -- C9: C2 with last byte 01
+    ∷ (prints (0x08 ∷ 0x02 ∷ 0x35 ∷ 0x31 ∷ 0x80 ∷ 0x01 ∷ []) ⟶ says "refused 5\n")
+    -- C10: C2 with fourth byte 33, truck 0's own bit
+    ∷ (prints (0x08 ∷ 0x02 ∷ 0x35 ∷ 0x33 ∷ 0x80 ∷ 0x00 ∷ []) ⟶ says "refused 6\n")
+    -- C11: both roads take 180 seconds
+    ∷ (takes 1200 600 90 ⟶ exactly (180, 0))
+    ∷ (takes 900 300 60 ⟶ exactly (180, 0))
+    ∷ (opens (1200 ∷ 900 ∷ []) (600 ∷ 300 ∷ []) (90 ∷ 60 ∷ []) ⟶ opening (0, 0 ∷ []))
+    -- C12: the first road is idle; it alone; metres in no time
+    ∷ (opens (500 ∷ 900 ∷ []) (0 ∷ 300 ∷ []) (40 ∷ 60 ∷ []) ⟶ opening (0, 1 ∷ []))
+    ∷ (opens (500 ∷ []) (0 ∷ []) (40 ∷ []) ⟶ opening (13, []))
+    ∷ (opens (500 ∷ []) (1 ∷ []) (0 ∷ []) ⟶ opening (12, []))
+    ∷ []

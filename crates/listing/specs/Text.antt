@@ -3,10 +3,11 @@ use Prim.Native.Nat.{ℕ, zero, suc, _+_, _/_, _%_}
 use Prim.Native.Char.{code}
 use Prim.Native.String as string
 use Prim.Native.String.{String}
-use mathlib.Core.Bool.{true, false}
+use mathlib.Core.Bool.{cond}
 use mathlib.Core.List.{List, [], _∷_, _++_}
 use lib.Dec.{ltb}
 use Rattle.refusals.specs.Numbers.{numberOf}
+use Rattle.refusals.specs.declared.Refusal.{Refusal}
 use Rattle.refusals.specs.declared.Outcome.{Outcome}
 use Rattle.refusals.specs.declared.Outcome.the-variants.{Accepted, Refused}
 use Rattle.protocol.specs.declared.State.{State}
@@ -26,7 +27,8 @@ text (string._∷_ c s) = code c ∷ text s
 unfoldable pub decimalIn : ℕ → ℕ → List ℕ
 decimalIn zero k = []
 decimalIn (suc digits) k =
-    elim (ltb k 10) [ true ↦ (48 + k) ∷ [] | false ↦ decimalIn digits (k / 10) ++ ((48 + k % 10) ∷ []) ]
+    let more = decimalIn digits (k / 10) ++ ((48 + k % 10) ∷ []) in
+    cond (ltb k 10) ((48 + k) ∷ []) more
 
 -- a number in decimal; none that is printed has more than five digits
 unfoldable pub decimal : ℕ → List ℕ
@@ -51,10 +53,14 @@ truckLines ts (suc i) = truckLines ts i ++ truckLine i (truck ts i)
 unfoldable pub listingOf : Fleet → List ℕ
 listingOf f = text "trucks " ++ decimal (f .n) ++ text " rounds " ++ decimal (f .done) ++ text "\n" ++ truckLines (f .trucks) (f .n)
 
--- the listing of a run, or the one line of a refusal
-unfoldable pub printedFor : Outcome → Fleet → List ℕ
+-- the one line of a refused recording
+unfoldable pub refusalText : Refusal → List ℕ
+refusalText r = text "refused " ++ decimal (numberOf r) ++ text "\n"
+
+-- the listing of a run, or the line of a refusal
+abbrev pub printedFor : Outcome → Fleet → List ℕ
 printedFor Accepted f = listingOf f
-printedFor (Refused r) f = text "refused " ++ decimal (numberOf r) ++ text "\n"
+printedFor (Refused r) f = refusalText r
 
 -- what is printed for a recording
 unfoldable pub printed : List ℕ → List ℕ

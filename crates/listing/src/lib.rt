@@ -1,1 +1,180 @@
-// The text that the program prints for a recording.
+// The text that is printed for a recording, in a lent buffer.
+ghost use mathlib.Core.Path.{_≡_};
+ghost use mathlib.Core.List.{_∷_, []};
+ghost use Prim.Native.Nat.{_+_, _*_, _<_, _≤_};
+ghost use lib.ListN.{length, take};
+ghost use Rattle.listing.specs.Text.{decimal, stateText, truckLine, truckLines, listingOf, refusalText};
+ghost use Rattle.listing.specs.Listed.{left, textIn, refusalListed};
+ghost use Rattle.listing.specs.Writing.{Put, openingText, endedText, headerText, spaced};
+use protocol::Fleet;
+use protocol::State;
+use protocol::Truck;
+use refusals::Refusal;
+
+// A text of so many bytes in the lent buffer, or why there is none.
+pub enum Listed {
+    Text(usize),
+    Refused(Refusal),
+}
+
+// Puts the bytes of t into the buffer from place `at` on, and answers the next place.
+fn put(buf: &mut [u8], at: usize, t: &[u8]) -> usize
+    requires { ⌜ at + length (now t) ≤ length (now buf) ⌝ }
+    ensures { λ r. ⌜ Put (now (buf .entry)) at (now (t .entry)) (now (buf .exit)) r ⌝ }
+{
+    let mut i = 0;
+    while i < t.len() {
+        buf[at + i] = t[i];
+        i += 1;
+    }
+    at + i
+}
+
+// Puts one byte.
+fn put_byte(buf: &mut [u8], at: usize, b: u8) -> usize
+    requires { ⌜ at < length (now buf) ⌝ }
+    ensures { λ r. ⌜ Put (now (buf .entry)) at (b ∷ []) (now (buf .exit)) r ⌝ }
+{
+    buf[at] = b;
+    at + 1
+}
+
+// Puts a number in decimal.
+fn put_number(buf: &mut [u8], at: usize, k: u16) -> usize
+    requires { ⌜ at + 5 ≤ length (now buf) ⌝ }
+    ensures placed { λ r. ⌜ Put (now (buf .entry)) at (decimal k) (now (buf .exit)) r ⌝ }
+    ensures within { λ r. ⌜ r ≤ at + 5 ⌝ }
+{
+    let digit = 48 + (k % 10) as u8;
+    if k < 10 {
+        put_byte(buf, at, digit)
+    } else {
+        let tens = put_number(buf, at, k / 10);
+        put_byte(buf, tens, digit)
+    }
+}
+
+// Puts a truck's number and opening.
+fn put_opening(buf: &mut [u8], at: usize, i: u16, opening: u8) -> usize
+    requires { ⌜ at + 18 ≤ length (now buf) ⌝ }
+    ensures placed { λ r. ⌜ Put (now (buf .entry)) at (openingText i opening) (now (buf .exit)) r ⌝ }
+    ensures within { λ r. ⌜ r ≤ at + 18 ⌝ }
+{
+    let a = put_number(buf, at, i);
+    let b = put(buf, a, b" opened ");
+    put_number(buf, b, opening as u16)
+}
+
+// Puts a word, the truck's crusher, and the round of its stop or decision.
+fn put_ended(buf: &mut [u8], at: usize, word: &[u8], crusher: u8, round: u16) -> usize
+    requires { ⌜ (at + 26 ≤ length (now buf)) × (length (now word) ≡ 9) ⌝ }
+    ensures placed { λ r. ⌜ Put (now (buf .entry)) at (endedText (now (word .entry)) crusher round) (now (buf .exit)) r ⌝ }
+    ensures within { λ r. ⌜ r ≤ at + 26 ⌝ }
+{
+    let a = put(buf, at, word);
+    let b = put_number(buf, a, crusher as u16);
+    let c = put(buf, b, b" round ");
+    put_number(buf, c, round)
+}
+
+// Puts a truck's state, crusher and, where it has one, round.
+fn put_state(buf: &mut [u8], at: usize, state: State, crusher: u8) -> usize
+    requires { ⌜ at + 26 ≤ length (now buf) ⌝ }
+    ensures placed { λ r. ⌜ Put (now (buf .entry)) at (spaced (stateText state crusher)) (now (buf .exit)) r ⌝ }
+    ensures within { λ r. ⌜ r ≤ at + 26 ⌝ }
+{
+    match state {
+        State::Running => {
+            let a = put(buf, at, b" running ");
+            put_number(buf, a, crusher as u16)
+        }
+        State::Stopped(k) => put_ended(buf, at, b" stopped ", crusher, k),
+        State::Decided(k) => put_ended(buf, at, b" decided ", crusher, k),
+    }
+}
+
+// Puts the line of truck i.
+fn put_line(buf: &mut [u8], at: usize, i: u16, t: Truck) -> usize
+    requires { ⌜ at + 45 ≤ length (now buf) ⌝ }
+    ensures placed { λ r. ⌜ Put (now (buf .entry)) at (truckLine i t) (now (buf .exit)) r ⌝ }
+    ensures within { λ r. ⌜ r ≤ at + 45 ⌝ }
+{
+    let a = put_opening(buf, at, i, t.opening);
+    let s = t.state;
+    let b = put_state(buf, a, s, t.estimate);
+    put(buf, b, b"\n")
+}
+
+// Puts the first line: the two header counts.
+fn put_header(buf: &mut [u8], at: usize, n: u8, done: u16) -> usize
+    requires { ⌜ at + 26 ≤ length (now buf) ⌝ }
+    ensures placed { λ r. ⌜ Put (now (buf .entry)) at (headerText n done) (now (buf .exit)) r ⌝ }
+    ensures within { λ r. ⌜ r ≤ at + 26 ⌝ }
+{
+    let a = put(buf, at, b"trucks ");
+    let b = put_number(buf, a, n as u16);
+    let c = put(buf, b, b" rounds ");
+    let d = put_number(buf, c, done);
+    put(buf, d, b"\n")
+}
+
+// Puts the lines of the trucks below n.
+fn put_lines(buf: &mut [u8], at: usize, f: Fleet) -> usize
+    requires { ⌜ (at + 1440 ≤ length (now buf)) × (f .n ≤ 32) ⌝ }
+    ensures placed { λ r. ⌜ Put (now (buf .entry)) at (truckLines (f .trucks) (f .n)) (now (buf .exit)) r ⌝ }
+    ensures within { λ r. ⌜ r ≤ at + 1440 ⌝ }
+{
+    let n = f.n as usize;
+    let mut r = at;
+    let mut i: usize = 0;
+    while i < n {
+        let t = f.trucks[i];
+        r = put_line(buf, r, i as u16, t);
+        i += 1;
+    }
+    r
+}
+
+// Puts the whole listing.
+fn put_listing(buf: &mut [u8], f: Fleet) -> usize
+    requires { ⌜ (1466 ≤ length (now buf)) × (f .n ≤ 32) ⌝ }
+    ensures placed { λ r. ⌜ Put (now (buf .entry)) 0 (listingOf f) (now (buf .exit)) r ⌝ }
+    ensures within { λ r. ⌜ r ≤ 1466 ⌝ }
+{
+    let n = f.n;
+    let done = f.done;
+    let at = put_header(buf, 0, n, done);
+    put_lines(buf, at, f)
+}
+
+// Copies a text to the lent buffer where it is long enough.
+fn lend_text(t: &[u8], buf: &mut [u8]) -> Listed
+    ensures { λ r. ⌜ left r (now (buf .exit)) ≡ textIn (now (t .entry)) (now (buf .entry)) ⌝ }
+{
+    if t.len() <= buf.len() {
+        let k = put(buf, 0, t);
+        Listed::Text(k)
+    } else {
+        Listed::Refused(Refusal::ShortBuffer)
+    }
+}
+
+// Puts the line of a refused recording.
+fn put_refusal(buf: &mut [u8], r: Refusal) -> usize
+    requires { ⌜ 16 ≤ length (now buf) ⌝ }
+    ensures placed { λ k. ⌜ Put (now (buf .entry)) 0 (refusalText r) (now (buf .exit)) k ⌝ }
+    ensures within { λ k. ⌜ k ≤ 16 ⌝ }
+{
+    let a = put(buf, 0, b"refused ");
+    let b = put_number(buf, a, refusals::number(r) as u16);
+    put(buf, b, b"\n")
+}
+
+// The line that is printed for a refused recording.
+pub fn refusal_line(r: Refusal, buf: &mut [u8]) -> Listed
+    ensures { λ k. ⌜ left k (now (buf .exit)) ≡ refusalListed r (now (buf .entry)) ⌝ }
+{
+    let mut work = [0u8; 16];
+    let k = put_refusal(&mut work, r);
+    lend_text(&work[..k], buf)
+}

@@ -1,0 +1,128 @@
+use borrow.Author.Needs.{needs}
+use Prim.Native.Nat.{ℕ, _<_}
+use borrow.Fn.Kinds.{In}
+use borrow.Fn.PlainCycle.{Measures, is, falls, and}
+use native.Mathlib.Omega.{arith}
+use Rattle.listing.proofs.Laws.{length-tenth, put-last, put-digits}
+use Rattle.listing.proofs.put_number.Reads as put-number
+use Rattle.listing.proofs.put_number.Kinds as put-number-kinds
+use Rattle.listing.proofs.+put_number.Lts-put_number as put-number-lts
+use Rattle.listing.proofs.put_byte.Reads as put-byte-reads
+use Rattle.listing.proofs.+put_number.{statement}
+use Rattle.listing.proofs.+put_number.Tie.{close}
+
+abbrev μ-put-number : Measures 1 put-number-kinds.ps ℕ
+μ-put-number κs a = a .1 .1 .0
+
+abbrev put-number-at : ℕ → In 1 put-number-kinds.ps
+put-number-at t =
+    and 1 put-number-kinds.ps (is 1 put-number-kinds.ps μ-put-number t) put-number.Pre
+
+abbrev put-number-below : ℕ → In 1 put-number-kinds.ps
+put-number-below t =
+    and 1 put-number-kinds.ps (falls 1 put-number-kinds.ps _<_ μ-put-number t) put-number.Pre
+
+-- src/lib.rt:39:22
+put-number-cast-digit : (t : ℕ) → put-number-lts.Need-cast-digit (
+  put-byte-reads.Asked,
+  put-byte-reads.Learnt,
+  put-number-below t,
+  put-number.Post,
+) (put-number-at t) put-number.Post
+put-number-cast-digit t c = search needs
+
+-- src/lib.rt:39:17
+put-number-add-digit : (t : ℕ) → put-number-lts.Need-add-digit (
+  put-byte-reads.Asked,
+  put-byte-reads.Learnt,
+  put-number-below t,
+  put-number.Post,
+) (put-number-at t) put-number.Post
+put-number-add-digit t c = search needs
+
+-- src/lib.rt:41:9
+put-number-put-byte-requires : (t : ℕ) → put-number-lts.Need-put-byte-requires (
+  put-byte-reads.Asked,
+  put-byte-reads.Learnt,
+  put-number-below t,
+  put-number.Post,
+) (put-number-at t) put-number.Post
+put-number-put-byte-requires t c κs = search needs
+
+-- src/lib.rt:43:13
+put-number-put-number-requires : (t : ℕ) → put-number-lts.Need-put-number-requires (
+  put-byte-reads.Asked,
+  put-byte-reads.Learnt,
+  put-number-below t,
+  put-number.Post,
+) (put-number-at t) put-number.Post
+put-number-put-number-requires t c κs = search needs
+
+-- src/lib.rt:44:9
+put-number-put-byte-requires-2 : (t : ℕ) → put-number-lts.Need-put-byte-requires-2 (
+  put-byte-reads.Asked,
+  put-byte-reads.Learnt,
+  put-number-below t,
+  put-number.Post,
+) (put-number-at t) put-number.Post
+put-number-put-byte-requires-2 t c κs =
+    let s = c .before .before .before .before .before .before .before in
+    omega (arith, length-tenth (s .args .k) (s .fits .k .fits), c .before .before .before .put-number .ensures .0 .next, s .pre)
+
+-- src/lib.rt:35:1
+put-number-same-length : (t : ℕ) → put-number-lts.Need-same-length (
+  put-byte-reads.Asked,
+  put-byte-reads.Learnt,
+  put-number-below t,
+  put-number.Post,
+) (put-number-at t) put-number.Post
+put-number-same-length t c = search needs
+
+-- src/lib.rt:35:1
+put-number-returns : (t : ℕ) → put-number-lts.Need-returns (
+  put-byte-reads.Asked,
+  put-byte-reads.Learnt,
+  put-number-below t,
+  put-number.Post,
+) (put-number-at t) put-number.Post
+put-number-returns t c =
+    put-last (c .before .before .before .before .before .before .args .k) (omega arith) (c .before .before .put-byte .ensures)
+
+-- src/lib.rt:35:1
+put-number-same-length-2 : (t : ℕ) → put-number-lts.Need-same-length-2 (
+  put-byte-reads.Asked,
+  put-byte-reads.Learnt,
+  put-number-below t,
+  put-number.Post,
+) (put-number-at t) put-number.Post
+put-number-same-length-2 t c = search needs
+
+-- src/lib.rt:35:1
+put-number-returns-2 : (t : ℕ) → put-number-lts.Need-returns-2 (
+  put-byte-reads.Asked,
+  put-byte-reads.Learnt,
+  put-number-below t,
+  put-number.Post,
+) (put-number-at t) put-number.Post
+put-number-returns-2 t c =
+    let s = c .before .before .before .before .before .before .before .before .before .before in
+    put-digits (s .args .k) (omega arith) (s .fits .k .fits) (c .before .before .before .before .before .before .put-number .ensures .0) (c .before .before .put-byte2 .ensures)
+
+pub +put-number-spec : {M : Type 1} → statement M
++put-number-spec = close μ-put-number λ t. put-number-lts.spec (
+  put-byte-reads.Asked,
+  put-byte-reads.Learnt,
+  put-number-below t,
+  put-number.Post,
+)
+    (put-number-at t)
+    put-number.Post
+    (put-number-cast-digit t)
+    (put-number-add-digit t)
+    (put-number-put-byte-requires t)
+    (put-number-put-number-requires t)
+    (put-number-put-byte-requires-2 t)
+    (put-number-same-length t)
+    (put-number-returns t)
+    (put-number-same-length-2 t)
+    (put-number-returns-2 t)

@@ -4,9 +4,8 @@ use refusals::Refusal;
 ghost use mathlib.Core.Path.{_≡_};
 ghost use Prim.Native.Nat.{_≤_};
 ghost use lib.ListN.{length};
-ghost use Rattle.basics.specs.Lists.{someBelow};
 ghost use Rattle.roads.specs.Estimates.{legOf, estimateOf};
-ghost use Rattle.roads.specs.Opening.{roadAt, badLists, secondsAbove, noTime, openingOf};
+ghost use Rattle.roads.specs.Opening.{badLists, secondsAbove, noTime, openingOf};
 ghost use Rattle.roads.specs.Choice.{betterOf, chosenBelow, estimateAt};
 
 // A road's leg.
@@ -76,4 +75,68 @@ fn bad_lists(lengths: &[u16], metres: &[u16], seconds: &[u16]) -> bool
 {
     let n = lengths.len();
     (n == 0) | (16 < n) | (metres.len() != n) | (seconds.len() != n)
+}
+
+// Some seconds are above the limit.
+fn above_limit(seconds: &[u16]) -> bool
+    ensures { λ r. ⌜ r ≡ secondsAbove (now (seconds .entry)) ⌝ }
+{
+    let mut k = 0;
+    while k < seconds.len() {
+        if 3600 < seconds[k] {
+            return true;
+        }
+        k += 1;
+    }
+    false
+}
+
+// Some road has metres above 0 in 0 seconds.
+fn without_time(metres: &[u16], seconds: &[u16]) -> bool
+    requires { ⌜ length (now metres) ≡ length (now seconds) ⌝ }
+    ensures { λ r. ⌜ r ≡ noTime (now (metres .entry)) (now (seconds .entry)) ⌝ }
+{
+    let mut k = 0;
+    while k < seconds.len() {
+        if (0 < metres[k]) & (seconds[k] == 0) {
+            return true;
+        }
+        k += 1;
+    }
+    false
+}
+
+// The road of the smallest estimate, idle roads passed over.
+fn fastest_road(lengths: &[u16], metres: &[u16], seconds: &[u16]) -> Fastest
+    requires { ⌜ (length (now metres) ≡ length (now lengths)) × (length (now seconds) ≡ length (now lengths)) × (length (now lengths) ≤ 16) ⌝ }
+    ensures { λ r. ⌜ r ≡ chosenBelow (estimateAt (now (lengths .entry)) (now (metres .entry)) (now (seconds .entry))) (length (now (lengths .entry))) ⌝ }
+{
+    let mut best = Fastest::NoRoad;
+    let mut k = 0;
+    while k < lengths.len() {
+        let leg = leg_of(lengths[k], metres[k], seconds[k]);
+        best = better(best, k as u8, estimate_of(leg));
+        k += 1;
+    }
+    best
+}
+
+// Road k leads to crusher k.
+pub fn opening_crusher(lengths: &[u16], metres: &[u16], seconds: &[u16]) -> Opening
+    ensures { λ r. ⌜ r ≡ openingOf (now (lengths .entry)) (now (metres .entry)) (now (seconds .entry)) ⌝ }
+{
+    if bad_lists(lengths, metres, seconds) {
+        return Opening::Refused(Refusal::RoadLists);
+    }
+    if above_limit(seconds) {
+        return Opening::Refused(Refusal::Seconds);
+    }
+    if without_time(metres, seconds) {
+        return Opening::Refused(Refusal::NoTime);
+    }
+    let best = fastest_road(lengths, metres, seconds);
+    match best {
+        Fastest::NoRoad => Opening::Refused(Refusal::AllIdle),
+        Fastest::Road(k, _) => Opening::Crusher(k),
+    }
 }

@@ -21,6 +21,7 @@ pub enum Estimate {
     Idle,
 }
 
+// The opening crusher, or why the road lists give none.
 pub enum Opening {
     Crusher(u8),
     Refused(Refusal),
@@ -32,6 +33,7 @@ enum Fastest {
     NoRoad,
 }
 
+// Every 16-bit number is an f64, so the casts lose nothing.
 pub fn leg_of(length: u16, metres: u16, seconds: u16) -> Leg
     ensures { λ r. ⌜ r ≡ legOf length metres seconds ⌝ }
 {
@@ -42,6 +44,7 @@ pub fn leg_of(length: u16, metres: u16, seconds: u16) -> Leg
     }
 }
 
+// One product and one division. 0 metres is tested first, so that no quotient is formed by it.
 pub fn estimate_of(leg: Leg) -> Estimate
     ensures { λ r. ⌜ r ≡ estimateOf leg ⌝ }
 {
@@ -70,6 +73,7 @@ fn better(best: Fastest, k: u8, estimate: Estimate) -> Fastest
     }
 }
 
+// No roads, more than 16, or lists of unequal length.
 fn bad_lists(lengths: &[u16], metres: &[u16], seconds: &[u16]) -> bool
     ensures { λ r. ⌜ r ≡ badLists (now (lengths .entry)) (now (metres .entry)) (now (seconds .entry)) ⌝ }
 {
@@ -121,7 +125,8 @@ fn fastest_road(lengths: &[u16], metres: &[u16], seconds: &[u16]) -> Fastest
     best
 }
 
-// Road k leads to crusher k.
+// The crusher that a truck opens with, from the lengths, metres and seconds of its roads. Each check goes over all roads before
+// the next one starts.
 pub fn opening_crusher(lengths: &[u16], metres: &[u16], seconds: &[u16]) -> Opening
     ensures { λ r. ⌜ r ≡ openingOf (now (lengths .entry)) (now (metres .entry)) (now (seconds .entry)) ⌝ }
 {

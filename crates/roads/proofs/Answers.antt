@@ -3,8 +3,7 @@ use mathlib.Core.Path.{_≡_, refl, sym, _∙_, subst}
 use mathlib.Core.Bool.{Bool, true, false, not, _||_, true≢false}
 use mathlib.Core.List.{List}
 use Prim.Native.Nat.{ℕ, _^_, _≤_, _<_}
-use native.Mathlib.Omega.{arith}
-use borrow.Author.Tests.{eqb-true, eqb-false, ltb-false, not-false}
+use borrow.Author.Tests.{eqb-true, ltb-false, not-false}
 use lib.Dec.{ltb, eqb}
 use lib.ListN.{length, getD}
 use lib.Ieee.{Float}
@@ -18,7 +17,7 @@ use Rattle.roads.specs.declared.Fastest.the-variants.{Road as Chose, NoR
 use Rattle.roads.specs.Opening.{Road, roadAt, idle, numerator, denominator, badLists, secondsAbove, noTime, openingOf}
 use Rattle.roads.specs.Choice.{chosenBelow, estimateAt}
 use Rattle.roads.proofs.Estimates.{estimate-exact, in-range}
-use Rattle.roads.proofs.Least.{least-is}
+use Rattle.roads.proofs.Least.{time-there, least-is}
 use Rattle.roads.proofs.Chosen.{Chosen, chosen-least}
 
 -- ---- the lists, where 10 does not hold
@@ -51,7 +50,7 @@ ChosenRoad road n best = Chosen (λ k. idle (road k)) (λ k. numerator (road k))
 
 module _ (l m s : List ℕ) (L : Short l) (M : Short m) (S : Short s) where
   small : (k : ℕ) → idle (roadAt l m s k) ≡ false → Small (numerator (roadAt l m s k)) (denominator (roadAt l m s k))
-  small k h = in-range (getD l k 0) (getD m k 0) (getD s k 0) (L k) (M k) (S k) (omega (arith, eqb-false (getD m k 0) 0 h))
+  small k h = in-range (getD l k 0) (getD m k 0) (getD s k 0) (L k) (M k) (S k) (time-there (roadAt l m s k) h)
 
   chosen : (best : Fastest) → best ≡ chosenBelow (estimateAt l m s) (length l) → ChosenRoad (roadAt l m s) (length l) best
   chosen best e =

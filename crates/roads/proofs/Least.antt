@@ -6,7 +6,7 @@ use Prim.Native.Nat.{ℕ, zero, suc, _*_, _≤_, _<_}
 use native.Mathlib.Nat.{le-refl, le-of-lt, mul-lt-mul-of-pos-right, mul-le-mul-right, lt-of-mul-lt-mul-right}
 use native.Mathlib.Decide.{decLt}
 use native.Mathlib.Omega.{arith}
-use borrow.Author.Tests.{lt-ltb, le-ltb}
+use borrow.Author.Tests.{lt-ltb, le-ltb, eqb-false}
 use borrow.Author.Count.{below-more}
 use Rattle.basics.specs.Lists.{allBelow}
 use Rattle.basics.proofs.Laws.{and-both, allBelow-at, allBelow-all, first-unique}
@@ -24,6 +24,10 @@ pub record LeastBelow (passed : ℕ → Bool) (num den : ℕ → ℕ) (n k : ℕ
 -- Of roads: road k is not idle, no road that is not idle takes less exact time, and none of the same time has a lower number.
 abbrev pub LeastRoad : (ℕ → Road) → ℕ → ℕ → Type 0
 LeastRoad road n k = LeastBelow (λ j. idle (road j)) (λ j. numerator (road j)) (λ j. denominator (road j)) n k
+
+-- the time of a road that is not idle is a fraction
+pub time-there : (r : Road) → idle r ≡ false → 0 < denominator r
+time-there r h = omega (arith, eqb-false (r .metres) 0 h)
 
 -- x / p < y / q ≤ z / r
 strictly : (x y z p q r : ℕ) → 0 < r → x * q < y * p → y * r ≤ z * q → x * r < z * p

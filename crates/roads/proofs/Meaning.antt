@@ -5,14 +5,13 @@ use mathlib.Core.Bool.{Bool, true, false, cond, true≢false}
 use mathlib.Core.List.{List, [], _∷_}
 use Prim.Native.Nat.{ℕ, _<_}
 use native.Mathlib.Omega.{arith}
-use borrow.Author.Tests.{eqb-false}
-use lib.ListN.{length, getD}
+use lib.ListN.{length}
 use Rattle.basics.proofs.Laws.{allBelow-at, allBelow-all}
 use Rattle.refusals.specs.declared.Refusal.the-variants.{RoadLists, Seconds, NoTime, AllIdle}
 use Rattle.roads.specs.declared.Opening.{Opening}
 use Rattle.roads.specs.declared.Opening.the-variants.{Crusher, Refused}
 use Rattle.roads.specs.Opening.{Road, roadAt, idle, numerator, denominator, badLists, secondsAbove, noTime, allIdle, leastRoad, openingOf, answerOf}
-use Rattle.roads.proofs.Least.{LeastRoad, least-is, least-there}
+use Rattle.roads.proofs.Least.{LeastRoad, time-there, least-is, least-there}
 
 -- the answer by its four tests
 abbrev answer : Bool → Bool → Bool → Bool → ℕ → Opening
@@ -70,7 +69,7 @@ module _ (lengths metres seconds : List ℕ) where
   pub opening-least : (k : ℕ) → openingOf lengths metres seconds ≡ Crusher k → LeastRoad road n k
   opening-least k e =
       let t = at-road (badLists lengths metres seconds) (secondsAbove seconds) (noTime metres seconds) (allIdle road n) (leastRoad road n) k (sym opened ∙ e) in
-      go t (least-there (λ j. idle (road j)) (λ j. numerator (road j)) (λ j. denominator (road j)) (λ j h. omega (arith, eqb-false (getD metres j 0) 0 h)) n)
+      go t (least-there (λ j. idle (road j)) (λ j. numerator (road j)) (λ j. denominator (road j)) (λ j. time-there (road j)) n)
     where
       go : (allIdle road n ≡ false) × (leastRoad road n ≡ k) → ((j : ℕ) → j < n → idle (road j) ≡ true) ⊎ ((i : ℕ) × LeastRoad road n i) → LeastRoad road n k
       go t (inl f) = absurd (true≢false (sym (allBelow-all (λ j. idle (road j)) n f) ∙ t .0))

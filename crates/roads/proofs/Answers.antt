@@ -1,6 +1,6 @@
 -- The answer at each return of the opening crusher, with what the code knows there.
 use mathlib.Core.Path.{_≡_, refl, sym, _∙_, subst}
-use mathlib.Core.Bool.{Bool, true, false, not, _||_, true≢false}
+use mathlib.Core.Bool.{Bool, true, false, cond, not, _||_, true≢false}
 use mathlib.Core.List.{List}
 use Prim.Native.Nat.{ℕ, _^_, _≤_, _<_}
 use borrow.Author.Tests.{eqb-true, ltb-false, not-false}
@@ -11,14 +11,24 @@ use Rattle.basics.specs.Lists.{allBelow}
 use Rattle.basics.proofs.Laws.{allBelow-at, allBelow-all}
 use Rattle.refusals.specs.declared.Refusal.the-variants.{RoadLists, Seconds, NoTime, AllIdle}
 use Rattle.rounding.proofs.Order.{Small}
+use Rattle.roads.specs.declared.Opening.{Opening}
 use Rattle.roads.specs.declared.Opening.the-variants.{Crusher, Refused}
 use Rattle.roads.specs.declared.Fastest.{Fastest}
 use Rattle.roads.specs.declared.Fastest.the-variants.{Road as Chose, NoRoad}
-use Rattle.roads.specs.Opening.{Road, roadAt, idle, numerator, denominator, badLists, secondsAbove, noTime, openingOf}
+use Rattle.roads.specs.Opening.{Road, roadAt, idle, numerator, denominator, badLists, secondsAbove, noTime, allIdle, leastRoad, openingOf}
 use Rattle.roads.specs.Choice.{chosenBelow, estimateAt}
 use Rattle.roads.proofs.Estimates.{estimate-exact, in-range}
 use Rattle.roads.proofs.Least.{time-there, least-is}
 use Rattle.roads.proofs.Chosen.{Chosen, chosen-least}
+
+-- ---- the answer by its four tests
+abbrev pub answer : Bool → Bool → Bool → Bool → ℕ → Opening
+answer a b c d k = cond a (Refused RoadLists) (cond b (Refused Seconds) (cond c (Refused NoTime) (cond d (Refused AllIdle) (Crusher k))))
+
+pub opened : (l m s : List ℕ)
+    → openingOf l m s ≡ answer (badLists l m s) (secondsAbove s) (noTime m s) (allIdle (roadAt l m s) (length l)) (leastRoad (roadAt l m s) (length l))
+unfolding openingOf
+opened l m s = refl
 
 -- ---- the lists, where 10 does not hold
 or-none : (a b : Bool) → (a || b) ≡ false → (a ≡ false) × (b ≡ false)
@@ -68,27 +78,23 @@ not-all p n k l h = go (allBelow p n) (λ e. allBelow-at p n e k l)
 
 module _ (l m s : List ℕ) where
   pub opening-10 : badLists l m s ≡ true → Refused RoadLists ≡ openingOf l m s
-  unfolding openingOf
-  opening-10 p = rw p
+  opening-10 p = rw (opened l m s, p)
 
   pub opening-11 : badLists l m s ≡ false → secondsAbove s ≡ true → Refused Seconds ≡ openingOf l m s
-  unfolding openingOf
-  opening-11 p q = rw (p, q)
+  opening-11 p q = rw (opened l m s, p, q)
 
   pub opening-12 : badLists l m s ≡ false → secondsAbove s ≡ false → noTime m s ≡ true → Refused NoTime ≡ openingOf l m s
-  unfolding openingOf
-  opening-12 p q r = rw (p, q, r)
+  opening-12 p q r = rw (opened l m s, p, q, r)
 
   module _ (p : badLists l m s ≡ false) (q : secondsAbove s ≡ false) (r : noTime m s ≡ false) (L : Short l) (M : Short m) (S : Short s) (best : Fastest) (e : best ≡ chosenBelow (estimateAt l m s) (length l)) where
     pub opening-13 : best ≡ NoRoad → Refused AllIdle ≡ openingOf l m s
-    unfolding openingOf
-    opening-13 f = rw (p, q, r, allBelow-all (λ k. idle (roadAt l m s k)) (length l) (chosen l m s L M S NoRoad (sym f ∙ e)))
+    opening-13 f = rw (opened l m s, p, q, r, allBelow-all (λ k. idle (roadAt l m s k)) (length l) (chosen l m s L M S NoRoad (sym f ∙ e)))
 
     pub opening-road : (k : ℕ) (t : Float) → best ≡ Chose k t → Crusher k ≡ openingOf l m s
-    unfolding openingOf
     opening-road k t f =
         let h = chosen l m s L M S (Chose k t) (sym f ∙ e) .1 in
         rw (
+          opened l m s,
           p,
           q,
           r,

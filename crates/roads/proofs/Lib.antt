@@ -1,2 +1,7 @@
+pub mod Meaning
+pub mod Least
 pub mod Estimates
 pub mod Choice
+pub mod Chosen
+pub mod Search
+pub mod Answers

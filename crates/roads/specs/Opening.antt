@@ -5,7 +5,6 @@ use mathlib.Core.List.{List, [], _∷_}
 use lib.Dec.{ltb, eqb}
 use lib.ListN.{length, getD}
 use Rattle.basics.specs.Lists.{allBelow, someBelow, first}
-use Rattle.refusals.specs.declared.Refusal.{Refusal}
 use Rattle.refusals.specs.declared.Refusal.the-variants.{RoadLists, Seconds, NoTime, AllIdle}
 use Rattle.refusals.specs.Numbers.{numberOf}
 use Rattle.roads.specs.declared.Opening.{Opening}
@@ -54,13 +53,23 @@ badLists lengths metres seconds =
     let n = length lengths in
     eqb n 0 || ltb 16 n || not (eqb (length metres) n) || not (eqb (length seconds) n)
 
--- 11: seconds above 3,600
-abbrev pub secondsAbove : Road → Bool
-secondsAbove r = ltb 3600 (r .seconds)
+-- 11: seconds above 3,600, over all roads
+abbrev pub secondsAbove : List ℕ → Bool
+secondsAbove seconds = someBelow (λ k. ltb 3600 (getD seconds k 0)) (length seconds)
 
--- 12: metres above 0 in 0 seconds
-abbrev pub noTime : Road → Bool
-noTime r = ltb 0 (r .metres) && eqb (r .seconds) 0
+-- 12: metres above 0 in 0 seconds, over all roads
+abbrev pub noTime : List ℕ → List ℕ → Bool
+noTime metres seconds = someBelow (λ k. ltb 0 (getD metres k 0) && eqb (getD seconds k 0) 0) (length seconds)
+
+-- 13: every road idle
+abbrev pub allIdle : (ℕ → Road) → ℕ → Bool
+allIdle road n = allBelow (λ k. idle (road k)) n
+
+-- ---- the answer
+
+-- the road of least exact time, idle roads passed over
+abbrev pub leastRoad : (ℕ → Road) → ℕ → ℕ
+leastRoad road n = least (λ k. idle (road k)) (λ k. numerator (road k)) (λ k. denominator (road k)) n
 
 -- 01's opening, or the first of the refusals 10 to 13 that holds; road k leads to crusher k
 unfoldable pub openingOf : List ℕ → List ℕ → List ℕ → Opening
@@ -68,10 +77,10 @@ openingOf lengths metres seconds =
     let n = length lengths in
     let road = roadAt lengths metres seconds in
     cond (badLists lengths metres seconds) (Refused RoadLists)
-    (cond (someBelow (λ k. secondsAbove (road k)) n) (Refused Seconds)
-    (cond (someBelow (λ k. noTime (road k)) n) (Refused NoTime)
-    (cond (allBelow (λ k. idle (road k)) n) (Refused AllIdle)
-    (Crusher (least (λ k. idle (road k)) (λ k. numerator (road k)) (λ k. denominator (road k)) n)))))
+    (cond (secondsAbove seconds) (Refused Seconds)
+    (cond (noTime metres seconds) (Refused NoTime)
+    (cond (allIdle road n) (Refused AllIdle)
+    (Crusher (leastRoad road n)))))
 
 -- an answer in document 01's terms: its refusal's number with no value, or 0 with the crusher
 abbrev pub answerOf : Opening → ℕ × List ℕ

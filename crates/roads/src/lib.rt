@@ -4,9 +4,8 @@ use refusals::Refusal;
 ghost use mathlib.Core.Path.{_≡_};
 ghost use Prim.Native.Nat.{_≤_};
 ghost use lib.ListN.{length};
-ghost use Rattle.basics.specs.Lists.{someBelow};
 ghost use Rattle.roads.specs.Estimates.{legOf, estimateOf};
-ghost use Rattle.roads.specs.Opening.{roadAt, badLists, secondsAbove, noTime, openingOf};
+ghost use Rattle.roads.specs.Opening.{badLists, secondsAbove, noTime, openingOf};
 ghost use Rattle.roads.specs.Choice.{betterOf, chosenBelow, estimateAt};
 
 // A road's leg.
@@ -22,6 +21,7 @@ pub enum Estimate {
     Idle,
 }
 
+// The opening crusher, or why the road lists give none.
 pub enum Opening {
     Crusher(u8),
     Refused(Refusal),
@@ -33,6 +33,7 @@ enum Fastest {
     NoRoad,
 }
 
+// Every 16-bit number is an f64, so the casts lose nothing.
 pub fn leg_of(length: u16, metres: u16, seconds: u16) -> Leg
     ensures { λ r. ⌜ r ≡ legOf length metres seconds ⌝ }
 {
@@ -43,6 +44,7 @@ pub fn leg_of(length: u16, metres: u16, seconds: u16) -> Leg
     }
 }
 
+// One product and one division. 0 metres is tested first, so that no quotient is formed by it.
 pub fn estimate_of(leg: Leg) -> Estimate
     ensures { λ r. ⌜ r ≡ estimateOf leg ⌝ }
 {
@@ -71,9 +73,75 @@ fn better(best: Fastest, k: u8, estimate: Estimate) -> Fastest
     }
 }
 
+// No roads, more than 16, or lists of unequal length.
 fn bad_lists(lengths: &[u16], metres: &[u16], seconds: &[u16]) -> bool
     ensures { λ r. ⌜ r ≡ badLists (now (lengths .entry)) (now (metres .entry)) (now (seconds .entry)) ⌝ }
 {
     let n = lengths.len();
     (n == 0) | (16 < n) | (metres.len() != n) | (seconds.len() != n)
+}
+
+// Some seconds are above the limit.
+fn above_limit(seconds: &[u16]) -> bool
+    ensures { λ r. ⌜ r ≡ secondsAbove (now (seconds .entry)) ⌝ }
+{
+    let mut k = 0;
+    while k < seconds.len() {
+        if 3600 < seconds[k] {
+            return true;
+        }
+        k += 1;
+    }
+    false
+}
+
+// Some road has metres above 0 in 0 seconds.
+fn without_time(metres: &[u16], seconds: &[u16]) -> bool
+    requires { ⌜ length (now metres) ≡ length (now seconds) ⌝ }
+    ensures { λ r. ⌜ r ≡ noTime (now (metres .entry)) (now (seconds .entry)) ⌝ }
+{
+    let mut k = 0;
+    while k < seconds.len() {
+        if (0 < metres[k]) & (seconds[k] == 0) {
+            return true;
+        }
+        k += 1;
+    }
+    false
+}
+
+// The road of the smallest estimate, idle roads passed over.
+fn fastest_road(lengths: &[u16], metres: &[u16], seconds: &[u16]) -> Fastest
+    requires { ⌜ (length (now metres) ≡ length (now lengths)) × (length (now seconds) ≡ length (now lengths)) × (length (now lengths) ≤ 16) ⌝ }
+    ensures { λ r. ⌜ r ≡ chosenBelow (estimateAt (now (lengths .entry)) (now (metres .entry)) (now (seconds .entry))) (length (now (lengths .entry))) ⌝ }
+{
+    let mut best = Fastest::NoRoad;
+    let mut k = 0;
+    while k < lengths.len() {
+        let leg = leg_of(lengths[k], metres[k], seconds[k]);
+        best = better(best, k as u8, estimate_of(leg));
+        k += 1;
+    }
+    best
+}
+
+// The crusher that a truck opens with, from the lengths, metres and seconds of its roads. Each check goes over all roads before
+// the next one starts.
+pub fn opening_crusher(lengths: &[u16], metres: &[u16], seconds: &[u16]) -> Opening
+    ensures { λ r. ⌜ r ≡ openingOf (now (lengths .entry)) (now (metres .entry)) (now (seconds .entry)) ⌝ }
+{
+    if bad_lists(lengths, metres, seconds) {
+        return Opening::Refused(Refusal::RoadLists);
+    }
+    if above_limit(seconds) {
+        return Opening::Refused(Refusal::Seconds);
+    }
+    if without_time(metres, seconds) {
+        return Opening::Refused(Refusal::NoTime);
+    }
+    let best = fastest_road(lengths, metres, seconds);
+    match best {
+        Fastest::NoRoad => Opening::Refused(Refusal::AllIdle),
+        Fastest::Road(k, _) => Opening::Crusher(k),
+    }
 }

@@ -1,39 +1,30 @@
+-- `roads::better` meets its contract: each of the four ways is one law of `betterOf`.
 use borrow.Author.Needs.{needs}
 use Rattle.roads.proofs.Choice.{better-idle, better-first, better-less, better-kept}
 use Rattle.roads.proofs.better.Statement.{statement}
 use Rattle.roads.proofs.better.Tie as tie
-use Rattle.roads.proofs.better.Reads as reads
-use Rattle.roads.proofs.better.Lts as lts
 
--- src/lib.rt:60:27
 enum-told : tie.Need-enum-told
 enum-told c = search needs
 
--- src/lib.rt:61:27
 enum-known-estimate : tie.Need-enum-known-estimate
 enum-known-estimate c = search needs
 
--- src/lib.rt:62:32
 enum-told-2 : tie.Need-enum-told-2
 enum-told-2 c = search needs
 
--- src/lib.rt:63:27
 enum-known-best : tie.Need-enum-known-best
 enum-known-best c = search needs
 
--- src/lib.rt:56:1
 returns : tie.Need-returns
 returns c = search better-idle
 
--- src/lib.rt:56:1
 returns-2 : tie.Need-returns-2
 returns-2 c = search better-first
 
--- src/lib.rt:56:1
 returns-3 : tie.Need-returns-3
 returns-3 c = search better-less
 
--- src/lib.rt:56:1
 returns-4 : tie.Need-returns-4
 returns-4 c = search better-kept
 

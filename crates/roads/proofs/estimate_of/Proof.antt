@@ -1,15 +1,11 @@
+-- `roads::estimate_of` meets its contract, for every leg.
 use Rattle.roads.proofs.Estimates.{estimate-idle, estimate-seconds}
-use borrow.Author.Needs.{needs}
 use Rattle.roads.proofs.estimate_of.Statement.{statement}
 use Rattle.roads.proofs.estimate_of.Tie as tie
-use Rattle.roads.proofs.estimate_of.Reads as reads
-use Rattle.roads.proofs.estimate_of.Lts as lts
 
--- src/lib.rt:50:9
 returns : tie.Need-returns
 returns c = estimate-idle (c .before .before .args .leg) (c .if1 .taken)
 
--- src/lib.rt:46:1
 returns-2 : tie.Need-returns-2
 returns-2 c = estimate-seconds (c .before .before .before .before .args .leg) (c .before .before .if1 .left)
 

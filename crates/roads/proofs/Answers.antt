@@ -1,0 +1,103 @@
+-- The answer at each return of the opening crusher, with what the code knows there.
+use mathlib.Core.Path.{_≡_, refl, sym, _∙_, subst}
+use mathlib.Core.Bool.{Bool, true, false, cond, not, _||_, true≢false}
+use mathlib.Core.List.{List}
+use Prim.Native.Nat.{ℕ, _^_, _≤_, _<_}
+use borrow.Author.Tests.{eqb-true, ltb-false, not-false}
+use lib.Dec.{ltb, eqb}
+use lib.ListN.{length, getD}
+use lib.Ieee.{Float}
+use Rattle.basics.specs.Lists.{allBelow}
+use Rattle.basics.proofs.Laws.{allBelow-at, allBelow-all}
+use Rattle.refusals.specs.declared.Refusal.the-variants.{RoadLists, Seconds, NoTime, AllIdle}
+use Rattle.rounding.proofs.Order.{Small}
+use Rattle.roads.specs.declared.Opening.{Opening}
+use Rattle.roads.specs.declared.Opening.the-variants.{Crusher, Refused}
+use Rattle.roads.specs.declared.Fastest.{Fastest}
+use Rattle.roads.specs.declared.Fastest.the-variants.{Road as Chose, NoRoad}
+use Rattle.roads.specs.Opening.{Road, roadAt, idle, numerator, denominator, badLists, secondsAbove, noTime, allIdle, leastRoad, openingOf}
+use Rattle.roads.specs.Choice.{chosenBelow, estimateAt}
+use Rattle.roads.proofs.Estimates.{estimate-exact, in-range}
+use Rattle.roads.proofs.Least.{time-there, least-is}
+use Rattle.roads.proofs.Chosen.{Chosen, chosen-least}
+
+-- ---- the answer by its four tests
+abbrev pub answer : Bool → Bool → Bool → Bool → ℕ → Opening
+answer a b c d k = cond a (Refused RoadLists) (cond b (Refused Seconds) (cond c (Refused NoTime) (cond d (Refused AllIdle) (Crusher k))))
+
+pub opened : (l m s : List ℕ)
+    → openingOf l m s ≡ answer (badLists l m s) (secondsAbove s) (noTime m s) (allIdle (roadAt l m s) (length l)) (leastRoad (roadAt l m s) (length l))
+unfolding openingOf
+opened l m s = refl
+
+-- ---- the lists, where 10 does not hold
+or-none : (a b : Bool) → (a || b) ≡ false → (a ≡ false) × (b ≡ false)
+or-none true b h = absurd (true≢false h)
+or-none false b h = (refl, h)
+
+pub record Right (lengths metres seconds : List ℕ) : Type 0 where
+  pub few : length lengths ≤ 16
+  pub as-metres : length metres ≡ length lengths
+  pub as-seconds : length seconds ≡ length lengths
+
+pub right : (lengths metres seconds : List ℕ) → badLists lengths metres seconds ≡ false → Right lengths metres seconds
+right l m s h =
+    let n = length l in
+    let x = or-none (eqb n 0 || ltb 16 n || not (eqb (length m) n)) (not (eqb (length s) n)) h in
+    let y = or-none (eqb n 0 || ltb 16 n) (not (eqb (length m) n)) (x .0) in
+    record {
+      few = ltb-false 16 n (or-none (eqb n 0) (ltb 16 n) (y .0) .1);
+      as-metres = eqb-true (length m) n (not-false (eqb (length m) n) (y .1));
+      as-seconds = eqb-true (length s) n (not-false (eqb (length s) n) (x .1));
+    }
+
+-- ---- the road that the code chooses, of lists of 16-bit numbers
+abbrev pub Short : List ℕ → Type 0
+Short l = (k : ℕ) → getD l k 0 < 2 ^ 16
+
+abbrev ChosenRoad : (ℕ → Road) → ℕ → Fastest → Type 0
+ChosenRoad road n best = Chosen (λ k. idle (road k)) (λ k. numerator (road k)) (λ k. denominator (road k)) n best
+
+module _ (l m s : List ℕ) (L : Short l) (M : Short m) (S : Short s) where
+  small : (k : ℕ) → idle (roadAt l m s k) ≡ false → Small (numerator (roadAt l m s k)) (denominator (roadAt l m s k))
+  small k h = in-range (getD l k 0) (getD m k 0) (getD s k 0) (L k) (M k) (S k) (time-there (roadAt l m s k) h)
+
+  chosen : (best : Fastest) → best ≡ chosenBelow (estimateAt l m s) (length l) → ChosenRoad (roadAt l m s) (length l) best
+  chosen best e =
+      subst (ChosenRoad (roadAt l m s) (length l)) (sym e)
+      (chosen-least (λ k. idle (roadAt l m s k)) (λ k. numerator (roadAt l m s k)) (λ k. denominator (roadAt l m s k)) small (estimateAt l m s)
+      (λ k. estimate-exact (getD l k 0) (getD m k 0) (getD s k 0) (L k) (M k) (S k)) (length l))
+
+-- ---- the answer at each return
+not-all : (p : ℕ → Bool) (n k : ℕ) → k < n → p k ≡ false → allBelow p n ≡ false
+not-all p n k l h = go (allBelow p n) (λ e. allBelow-at p n e k l)
+  where
+    go : (b : Bool) → (b ≡ true → p k ≡ true) → b ≡ false
+    go true f = absurd (true≢false (sym (f refl) ∙ h))
+    go false f = refl
+
+module _ (l m s : List ℕ) where
+  pub opening-10 : badLists l m s ≡ true → Refused RoadLists ≡ openingOf l m s
+  opening-10 p = rw (opened l m s, p)
+
+  pub opening-11 : badLists l m s ≡ false → secondsAbove s ≡ true → Refused Seconds ≡ openingOf l m s
+  opening-11 p q = rw (opened l m s, p, q)
+
+  pub opening-12 : badLists l m s ≡ false → secondsAbove s ≡ false → noTime m s ≡ true → Refused NoTime ≡ openingOf l m s
+  opening-12 p q r = rw (opened l m s, p, q, r)
+
+  module _ (p : badLists l m s ≡ false) (q : secondsAbove s ≡ false) (r : noTime m s ≡ false) (L : Short l) (M : Short m) (S : Short s) (best : Fastest) (e : best ≡ chosenBelow (estimateAt l m s) (length l)) where
+    pub opening-13 : best ≡ NoRoad → Refused AllIdle ≡ openingOf l m s
+    opening-13 f = rw (opened l m s, p, q, r, allBelow-all (λ k. idle (roadAt l m s k)) (length l) (chosen l m s L M S NoRoad (sym f ∙ e)))
+
+    pub opening-road : (k : ℕ) (t : Float) → best ≡ Chose k t → Crusher k ≡ openingOf l m s
+    opening-road k t f =
+        let h = chosen l m s L M S (Chose k t) (sym f ∙ e) .1 in
+        rw (
+          opened l m s,
+          p,
+          q,
+          r,
+          not-all (λ j. idle (roadAt l m s j)) (length l) k (h .below) (h .moving),
+          least-is (λ j. idle (roadAt l m s j)) (λ j. numerator (roadAt l m s j)) (λ j. denominator (roadAt l m s j)) (length l) k h,
+        )

@@ -2,13 +2,13 @@
 use mathlib.Core.Path.{_≡_, refl, ap, ap₂, sym, _∙_}
 use mathlib.Core.Bool.{Bool, true, false, cond, not, _&&_, _||_, true≢false, false≢true}
 use mathlib.Core.List.{List, [], _∷_, _++_}
-use Prim.Native.Nat.{ℕ, zero, suc, _+_, _*_, _-_, _≤_, _<_}
+use Prim.Native.Nat.{ℕ, zero, suc, _+_, _*_, _≤_, _<_}
 use native.Mathlib.Decide.{decLt}
 use native.Mathlib.Omega.{arith}
 use borrow.Author.Tests.{ltb-true, lt-ltb, leb-false, eq-eqb, eqb-true, not-true}
 use lib.Dec.{ltb, leb, eqb}
 use lib.ListN.{length, length-append}
-use Rattle.basics.specs.Lists.{who, allBelow, someBelow, first}
+use Rattle.basics.specs.Lists.{who, someBelow, first}
 use Rattle.basics.proofs.Laws.{and-left, and-right, and-both, allBelow-at, allBelow-all, someBelow-at, someBelow-by, someBelow-none, none-someBelow}
 use Rattle.air.specs.Air.{Air, implies, sent, hears, heardBy, heard, misses, missesAny, judged, complete, majorityComplete, zeroComplete, accurate, inFull, fewSenders, someRunning, calmRound}
 

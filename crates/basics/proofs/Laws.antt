@@ -12,7 +12,7 @@ use lib.Dec.{ltb}
 use lib.ListN.{length, getD, drop, set, length-append, length-drop, List·getD-append}
 use lib.Seq.{drop-cons, set-at, getD-append-add, getD-drop, ext-getD}
 use Rattle.basics.specs.Bits.{odd}
-use Rattle.basics.specs.Lists.{tabFrom, tab, filled, allBelow, who, first, someBelow}
+use Rattle.basics.specs.Lists.{tabFrom, tab, filled, allBelow, first, someBelow}
 
 module _ {ℓ} {A : Type ℓ} where
   length-tabFrom : (g : ℕ → A) (i m : ℕ) → length (tabFrom g i m) ≡ m

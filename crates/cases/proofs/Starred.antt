@@ -11,7 +11,7 @@ use Rattle.protocol.specs.Runs.{openedTrucks, trucksAt, airAt, gradesOf}
 use Rattle.protocol.specs.Fleets.{blank, fleetAt, ran, graded}
 use Rattle.listing.specs.Text.{decimalIn, decimal, stateText, truckLine, truckLines, listingOf, refusalText, printed}
 use Rattle.roads.specs.Opening.{least, openingOf}
-use Rattle.cases.specs.Questions.{Reply, reply}
+use Rattle.cases.specs.Questions.{reply}
 use Rattle.cases.specs.Table.{Row, table}
 
 pub starred : map (λ (r : Row). reply (r .asks)) table ≡ map (λ (r : Row). r .gets) table

@@ -1,11 +1,9 @@
 -- What a row of the table asks, and what the definitions answer.
-use mathlib.Core.List.{List, map}
+use mathlib.Core.List.{List}
 use Prim.Native.Nat.{ℕ, _/_, _%_}
 use Prim.Native.String.{String}
 use Rattle.basics.specs.Lists.{tab, who}
-use Rattle.air.specs.Air.{Air}
 use Rattle.recording.specs.Packed.{trucksOf, openingsOf, roundAt}
-use Rattle.protocol.specs.declared.Grades.{Grades}
 use Rattle.protocol.specs.declared.Grading.{Grading}
 use Rattle.protocol.specs.declared.Grading.the-variants.{Graded}
 use Rattle.protocol.specs.Rules.{truck}

@@ -1,20 +1,17 @@
 -- No two trucks decide differently: an invariant of one round under majority complete proposal rounds and zero complete veto rounds.
 use mathlib.Core.Path.{_≡_, refl, ap, sym, _∙_}
-use mathlib.Core.Bool.{Bool, true, false, cond, not, _&&_, _||_, true≢false, false≢true}
-use mathlib.Core.List.{List, List·Memᴰ}
+use mathlib.Core.Bool.{Bool, true, false, cond, not, _||_, true≢false}
+use mathlib.Core.List.{List}
 use mathlib.Core.Logic.{_⊎_, inl, inr, ⊎-elim}
-use Prim.Native.Nat.{ℕ, zero, suc, _+_, _*_, _≤_, _<_}
-use lib.Dec.{ltb}
+use Prim.Native.Nat.{ℕ, zero, _<_}
 use Rattle.basics.specs.Lists.{someBelow}
 use Rattle.basics.specs.Bits.{odd}
 use Rattle.basics.proofs.Laws.{someBelow-at, someBelow-none}
 use Rattle.air.specs.Air.{Air, sent, heard, hears, majorityComplete, zeroComplete}
 use Rattle.air.proofs.Laws.{hears-sends, sent-some, sent-none, common, majority-hears, zero-silent}
 use Rattle.protocol.specs.declared.Heard.{Heard}
-use Rattle.protocol.specs.declared.Heard.the-variants.{Nothing, One, Several}
-use Rattle.protocol.specs.declared.State.{State}
 use Rattle.protocol.specs.declared.Truck.{Truck}
-use Rattle.protocol.specs.Rules.{truck, isSeveral, isOne, runs, vetoes, different, leastOr, proposed, vetoed, airOf, valuesHeard, plays}
+use Rattle.protocol.specs.Rules.{truck, isSeveral, isOne, runs, vetoes, different, leastOr, proposed, airOf, valuesHeard, plays}
 use Rattle.protocol.specs.Claims.{isDecided}
 use Rattle.protocol.proofs.OneRound.{one-value, not-nothing, air, next, sender-runs, running-runs, veto-sends, plays-proposal, plays-veto, heard-value, value-heard, estimate-next, next-played, next-decided, proposal-runs, veto-decides}
 

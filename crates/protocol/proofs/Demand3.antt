@@ -13,7 +13,7 @@ use Rattle.recording.specs.Checks.{checkOf}
 use Rattle.recording.proofs.Accepted.{bytes-good}
 use Rattle.protocol.specs.declared.Fleet.{Fleet}
 use Rattle.protocol.specs.Fleets.{answer, blank, startCheck, started, fleetAt, ran}
-use Rattle.protocol.specs.Steps.{lastRecord, taken, roundIn, recordingOf}
+use Rattle.protocol.specs.Steps.{taken, roundIn}
 use Rattle.protocol.specs.Runs.{openedTrucks}
 use Rattle.protocol.specs.Claims.{Claim, StepsClaim, RunClaim, Demand}
 use Rattle.protocol.proofs.Whole.{majority-agreed, decided-by}

@@ -1,8 +1,8 @@
 -- A record that refusal 7 lets pass is one after a round, too.
-use mathlib.Core.Path.{_≡_, refl, ap, sym, _∙_}
-use mathlib.Core.Bool.{Bool, true, false, cond, not, _&&_, _||_, true≢false, false≢true}
+use mathlib.Core.Path.{_≡_, refl, ap}
+use mathlib.Core.Bool.{Bool, true, false, cond, not, _&&_, _||_}
 use mathlib.Core.List.{List}
-use Prim.Native.Nat.{ℕ, zero, suc, _+_, _≤_, _<_}
+use Prim.Native.Nat.{ℕ, suc, _<_}
 use native.Mathlib.Omega.{arith}
 use borrow.Author.Tests.{lt-ltb, le-leb, leb-true}
 use lib.Dec.{ltb, leb}
@@ -10,13 +10,12 @@ use Rattle.basics.specs.Bits.{odd}
 use Rattle.basics.proofs.Laws.{and-left, and-right, and-both}
 use Rattle.air.specs.Air.{Air, implies, heard}
 use Rattle.air.proofs.Laws.{implies-mp, implies-by}
-use Rattle.protocol.specs.declared.Heard.{Heard}
 use Rattle.protocol.specs.declared.State.{State}
 use Rattle.protocol.specs.declared.State.the-variants.{Running, Stopped, Decided}
 use Rattle.protocol.specs.declared.Truck.{Truck}
-use Rattle.protocol.specs.Rules.{truck, isRunning, runs, different, decides, stops, valuesHeard, plays}
+use Rattle.protocol.specs.Rules.{truck, isRunning, runs, different, decides, valuesHeard, plays}
 use Rattle.protocol.specs.Fleets.{isEmpty, goodState, goodTruck}
-use Rattle.protocol.proofs.OneRound.{air, next, after-cases, sender-runs, plays-proposal, plays-veto, estimate-next}
+use Rattle.protocol.proofs.OneRound.{air, next, after-cases, plays-proposal, plays-veto, estimate-next}
 
 -- what refusal 7 asks of one truck, part by part
 pub record Good (done : ℕ) (t : Truck) : Type 0 where

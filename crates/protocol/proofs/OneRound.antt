@@ -1,22 +1,20 @@
 -- What one round makes of the trucks, for any active bits.
-use mathlib.Core.Path.{_≡_, refl, ap, ap₂, sym, subst, _∙_}
-use mathlib.Core.Bool.{Bool, true, false, cond, not, _&&_, _||_, true≢false, false≢true}
+use mathlib.Core.Path.{_≡_, refl, ap, sym, subst, _∙_}
+use mathlib.Core.Bool.{Bool, true, false, cond, not, _&&_, true≢false, false≢true}
 use mathlib.Core.List.{List, [], _∷_, _++_, map, List·Memᴰ, List·Memᴰ·head, List·Memᴰ·tail, List·Memᴰ·not-nil, Memᴰ·append-left, Memᴰ·append-right, List·Memᴰ·append-cases, List·Memᴰ·eq-of-singleton}
 use mathlib.Core.Logic.{_⊎_, inl, inr, ⊎-elim}
-use Prim.Native.Nat.{ℕ, zero, suc, _+_, _*_, _-_, _≤_, _<_, min}
+use Prim.Native.Nat.{ℕ, zero, suc, _≤_, _<_, min}
 use native.Mathlib.Decide.{decLt, decLe}
 use native.Mathlib.Omega.{arith}
-use lib.Dec.{ltb, leb, eqb}
-use lib.ListN.{length, getD}
-use borrow.Author.Tests.{ltb-true, ltb-false, eqb-true, eq-eqb}
-use Rattle.basics.specs.Lists.{who, filled}
+use lib.Dec.{ltb, eqb}
+use borrow.Author.Tests.{ltb-false, eqb-true, eq-eqb}
+use Rattle.basics.specs.Lists.{who}
 use Rattle.basics.specs.Bits.{odd}
 use Rattle.basics.proofs.Laws.{getD-filled, and-left, and-right, and-both}
-use Rattle.air.specs.Round.{stopBit, markBit}
+use Rattle.air.specs.Round.{stopBit}
 use Rattle.air.specs.Air.{Air, heard, heardBy, hears}
 use Rattle.air.proofs.Laws.{hears-sends}
-use Rattle.protocol.specs.declared.Heard.{Heard}
-use Rattle.protocol.specs.declared.Heard.the-variants.{Nothing, One, Several}
+use Rattle.protocol.specs.declared.Heard.the-variants.{One, Several}
 use Rattle.protocol.specs.declared.State.{State}
 use Rattle.protocol.specs.declared.State.the-variants.{Running, Stopped, Decided}
 use Rattle.protocol.specs.declared.Truck.{Truck}

@@ -1,20 +1,18 @@
 -- In calm rounds every truck decides: what one calm round does.
 use mathlib.Core.Path.{_≡_, refl, ap, sym, _∙_}
-use mathlib.Core.Bool.{Bool, true, false, cond, not, _&&_, _||_, true≢false, false≢true}
+use mathlib.Core.Bool.{Bool, true, false, cond, not, _&&_, true≢false}
 use mathlib.Core.List.{List, map, List·Memᴰ}
-use Prim.Native.Nat.{ℕ, zero, suc, _+_, _≤_, _<_}
+use Prim.Native.Nat.{ℕ, _<_}
 use lib.Dec.{ltb}
-use lib.ListN.{length}
 use Rattle.basics.specs.Lists.{who}
 use Rattle.basics.specs.Bits.{odd}
 use Rattle.air.specs.Air.{Air, sent, heard, heardBy, calmRound}
 use Rattle.air.proofs.Laws.{sent-by, nobody-sends, silent-heard, silent-none, accurate-clear, calm-hears, calm-few, few-some, calm-accurate}
-use Rattle.protocol.specs.declared.Heard.{Heard}
-use Rattle.protocol.specs.declared.Heard.the-variants.{Nothing, One, Several}
+use Rattle.protocol.specs.declared.Heard.the-variants.{One}
 use Rattle.protocol.specs.declared.State.{State}
-use Rattle.protocol.specs.declared.State.the-variants.{Running, Stopped, Decided}
+use Rattle.protocol.specs.declared.State.the-variants.{Decided}
 use Rattle.protocol.specs.declared.Truck.{Truck}
-use Rattle.protocol.specs.Rules.{truck, isRunning, isSeveral, isOne, runs, vetoes, different, leastOr, proposed, decides, vetoed, airOf, valuesHeard, plays}
+use Rattle.protocol.specs.Rules.{truck, isRunning, isSeveral, isOne, runs, vetoes, different, leastOr, proposed, airOf, valuesHeard}
 use Rattle.protocol.proofs.OneRound.{value-of, of-value, all-one, least-any, air, next, sender-runs, running-runs, veto-sends, plays-proposal, plays-veto, next-played, next-idle}
 
 -- no truck runs any more

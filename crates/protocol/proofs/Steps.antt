@@ -1,31 +1,28 @@
 -- A list of steps leaves the record of the run of its taken rounds.
-use mathlib.Core.Path.{_≡_, refl, ap, ap₂, sym, subst, _∙_}
-use mathlib.Core.Bool.{Bool, true, false, cond, not, _&&_, true≢false, false≢true}
+use mathlib.Core.Path.{_≡_, refl, ap, ap₂, sym, _∙_}
+use mathlib.Core.Bool.{Bool, true, false, cond, _&&_, false≢true}
 use mathlib.Core.List.{List, [], _∷_, _++_, append-assoc, append-nil}
-use Prim.Native.Nat.{ℕ, zero, suc, _+_, _-_, _≤_, _<_}
+use Prim.Native.Nat.{ℕ, zero, suc, _+_, _≤_, _<_}
 use native.Mathlib.Numerals.{add-one}
 use native.Mathlib.Omega.{arith}
 use borrow.Author.Tests.{lt-ltb, le-ltb, le-leb, ltb-true, eqb-true, eqb-false}
 use lib.Dec.{leb, ltb, eqb}
 use lib.ListN.{length, getD, length-append, List·getD-append}
 use lib.Seq.{getD-append-seam}
-use Rattle.basics.specs.Lists.{allBelow}
 use Rattle.basics.proofs.Laws.{and-left, and-right, allBelow-all}
 use Rattle.air.specs.Round.{activeBit}
 use Rattle.air.specs.Runs.{stateAt}
-use Rattle.refusals.specs.declared.Refusal.{Refusal}
 use Rattle.refusals.specs.declared.Refusal.the-variants.{TruckCount, Record, RoundsDone}
 use Rattle.refusals.specs.declared.Outcome.{Outcome}
 use Rattle.refusals.specs.declared.Outcome.the-variants.{Accepted, Refused}
 use Rattle.refusals.specs.Numbers.{accepted}
 use Rattle.recording.specs.Packed.{trucksOf, roundsOf, openingsOf, wordsOf, roundAt, packed, joined}
 use Rattle.recording.specs.Checks.{refuse, badTrucks, badOpenings, checkOf, roundCheck}
-use Rattle.recording.proofs.Accepted.{GoodOpenings, refuse-false, refuse-rest, trucks-in, openings-in}
+use Rattle.recording.proofs.Accepted.{refuse-false, refuse-rest, trucks-in, openings-in}
 use Rattle.recording.proofs.RoundTrip.{read-back}
 use Rattle.recording.proofs.Rounds.{joined-accepted, round-back}
 use Rattle.protocol.specs.declared.Truck.{Truck}
 use Rattle.protocol.specs.declared.Fleet.{Fleet}
-use Rattle.protocol.specs.declared.Answer.{Answer}
 use Rattle.protocol.specs.Rules.{truck, after}
 use Rattle.protocol.specs.Runs.{trucksAt, openedTrucks}
 use Rattle.protocol.specs.Fleets.{answer, blank, startCheck, started, goodTruck, goodFleet, stepCheck, nextFleet, stepped, fleetAt, ran}

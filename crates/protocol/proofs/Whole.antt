@@ -1,10 +1,9 @@
 -- Whole runs: what n trucks with given openings come to, round by round.
-use mathlib.Core.Path.{_≡_, refl, ap, ap₂, sym, subst, _∙_}
+use mathlib.Core.Path.{_≡_, refl, ap, sym, subst, _∙_}
 use mathlib.Core.Bool.{Bool, true, false, cond, not, _&&_, true≢false, false≢true}
 use mathlib.Core.List.{List}
 use mathlib.Core.Logic.{_⊎_, inl, inr, ⊎-elim}
 use Prim.Native.Nat.{ℕ, zero, suc, _+_, _-_, _≤_, _<_}
-use native.Mathlib.Decide.{decLt}
 use native.Mathlib.Omega.{arith}
 use borrow.Author.Tests.{leb-true}
 use lib.Dec.{leb, ltb}
@@ -13,7 +12,7 @@ use Rattle.basics.specs.Lists.{allBelow}
 use Rattle.basics.specs.Bits.{odd}
 use Rattle.basics.proofs.Laws.{getD-tab, and-left, and-right, allBelow-at, odd-suc}
 use Rattle.air.specs.Round.{activeBit, markBit}
-use Rattle.air.specs.Air.{Air, heard, majorityComplete, zeroComplete, calmRound, calmFor}
+use Rattle.air.specs.Air.{heard, calmRound, calmFor}
 use Rattle.air.specs.Runs.{stateAt}
 use Rattle.air.proofs.Laws.{majority-zero}
 use Rattle.protocol.specs.declared.State.{State}
@@ -22,7 +21,7 @@ use Rattle.protocol.specs.declared.Truck.{Truck}
 use Rattle.protocol.specs.Rules.{opened, truck, isRunning, isOne, runs, decides, plays, after, airOf}
 use Rattle.protocol.specs.Runs.{openedTrucks, trucksAt, airAt, calm}
 use Rattle.protocol.specs.Fleets.{fleetAt}
-use Rattle.protocol.specs.Claims.{isDecided, EndedBy, Agreed, MajorityMarks, MixedMarks, Claim}
+use Rattle.protocol.specs.Claims.{isDecided, EndedBy, Agreed, MajorityMarks, MixedMarks}
 use Rattle.protocol.proofs.OneRound.{after-cases, plays-proposal, plays-veto, estimate-next, next-idle}
 use Rattle.protocol.proofs.Agree.{Open, Settled, open-proposal, open-veto, settled-next}
 use Rattle.protocol.proofs.Settle.{Ended, Same, Ready, calm-same, calm-ready, veto-same, calm-ended, ended-next}

@@ -1,18 +1,17 @@
 -- Starting, stepping, running and grading a fleet, with their refusals (document 01, 'Who can cause which refusal').
-use Prim.Native.Nat.{ℕ, _+_, _%_}
-use mathlib.Core.Bool.{Bool, true, false, cond, not, _&&_, _||_}
+use Prim.Native.Nat.{ℕ, _+_}
+use mathlib.Core.Bool.{Bool, true, false, not, _&&_, _||_}
 use mathlib.Core.List.{List, []}
 use lib.Dec.{eqb, leb, ltb}
 use Rattle.basics.specs.Lists.{allBelow}
 use Rattle.basics.specs.Bits.{odd}
 use Rattle.air.specs.Round.{activeBit}
 use Rattle.air.specs.Air.{implies}
-use Rattle.refusals.specs.declared.Refusal.{Refusal}
 use Rattle.refusals.specs.declared.Refusal.the-variants.{TruckCount, Record, RoundsDone}
 use Rattle.refusals.specs.declared.Outcome.{Outcome}
 use Rattle.refusals.specs.declared.Outcome.the-variants.{Accepted, Refused}
 use Rattle.recording.specs.Packed.{trucksOf, roundsOf, openingsOf, roundAt}
-use Rattle.recording.specs.Checks.{refuse, andThen, badTrucks, badOpenings, checkOf, roundCheck}
+use Rattle.recording.specs.Checks.{refuse, badTrucks, badOpenings, checkOf, roundCheck}
 use Rattle.protocol.specs.declared.Heard.{Heard}
 use Rattle.protocol.specs.declared.Heard.the-variants.{Nothing, One, Several}
 use Rattle.protocol.specs.declared.State.{State}

@@ -8,7 +8,7 @@ use Rattle.refusals.specs.Numbers.{accepted}
 use Rattle.recording.specs.Packed.{joined, packed}
 use Rattle.recording.specs.Checks.{roundCheck}
 use Rattle.protocol.specs.declared.Fleet.{Fleet}
-use Rattle.protocol.specs.Fleets.{started, stepped}
+use Rattle.protocol.specs.Fleets.{stepped}
 
 -- the record returned last by a list of steps, each on what the step before it returned
 unfoldable pub lastRecord : Fleet → List (List ℕ) → Fleet

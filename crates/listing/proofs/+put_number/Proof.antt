@@ -1,3 +1,4 @@
+-- `put_number` meets its contract.
 use borrow.Author.Needs.{needs}
 use Prim.Native.Nat.{ℕ, _<_}
 use borrow.Fn.Kinds.{In}
@@ -22,7 +23,6 @@ abbrev put-number-below : ℕ → In 1 put-number-kinds.ps
 put-number-below t =
     and 1 put-number-kinds.ps (falls 1 put-number-kinds.ps _<_ μ-put-number t) put-number.Pre
 
--- src/lib.rt:39:22
 put-number-cast-digit : (t : ℕ) → put-number-lts.Need-cast-digit (
   put-byte-reads.Asked,
   put-byte-reads.Learnt,
@@ -31,7 +31,6 @@ put-number-cast-digit : (t : ℕ) → put-number-lts.Need-cast-digit (
 ) (put-number-at t) put-number.Post
 put-number-cast-digit t c = search needs
 
--- src/lib.rt:39:17
 put-number-add-digit : (t : ℕ) → put-number-lts.Need-add-digit (
   put-byte-reads.Asked,
   put-byte-reads.Learnt,
@@ -40,7 +39,6 @@ put-number-add-digit : (t : ℕ) → put-number-lts.Need-add-digit (
 ) (put-number-at t) put-number.Post
 put-number-add-digit t c = search needs
 
--- src/lib.rt:41:9
 put-number-put-byte-requires : (t : ℕ) → put-number-lts.Need-put-byte-requires (
   put-byte-reads.Asked,
   put-byte-reads.Learnt,
@@ -49,7 +47,6 @@ put-number-put-byte-requires : (t : ℕ) → put-number-lts.Need-put-byte-requir
 ) (put-number-at t) put-number.Post
 put-number-put-byte-requires t c κs = search needs
 
--- src/lib.rt:43:13
 put-number-put-number-requires : (t : ℕ) → put-number-lts.Need-put-number-requires (
   put-byte-reads.Asked,
   put-byte-reads.Learnt,
@@ -58,7 +55,6 @@ put-number-put-number-requires : (t : ℕ) → put-number-lts.Need-put-number-re
 ) (put-number-at t) put-number.Post
 put-number-put-number-requires t c κs = search needs
 
--- src/lib.rt:44:9
 put-number-put-byte-requires-2 : (t : ℕ) → put-number-lts.Need-put-byte-requires-2 (
   put-byte-reads.Asked,
   put-byte-reads.Learnt,
@@ -69,7 +65,6 @@ put-number-put-byte-requires-2 t c κs =
     let s = c .before .before .before .before .before .before .before in
     omega (arith, length-tenth (s .args .k) (s .fits .k .fits), c .before .before .before .put-number .ensures .0 .next, s .pre)
 
--- src/lib.rt:35:1
 put-number-same-length : (t : ℕ) → put-number-lts.Need-same-length (
   put-byte-reads.Asked,
   put-byte-reads.Learnt,
@@ -78,7 +73,6 @@ put-number-same-length : (t : ℕ) → put-number-lts.Need-same-length (
 ) (put-number-at t) put-number.Post
 put-number-same-length t c = search needs
 
--- src/lib.rt:35:1
 put-number-returns : (t : ℕ) → put-number-lts.Need-returns (
   put-byte-reads.Asked,
   put-byte-reads.Learnt,
@@ -88,7 +82,6 @@ put-number-returns : (t : ℕ) → put-number-lts.Need-returns (
 put-number-returns t c =
     put-last (c .before .before .before .before .before .before .args .k) (omega arith) (c .before .before .put-byte .ensures)
 
--- src/lib.rt:35:1
 put-number-same-length-2 : (t : ℕ) → put-number-lts.Need-same-length-2 (
   put-byte-reads.Asked,
   put-byte-reads.Learnt,
@@ -97,7 +90,6 @@ put-number-same-length-2 : (t : ℕ) → put-number-lts.Need-same-length-2 (
 ) (put-number-at t) put-number.Post
 put-number-same-length-2 t c = search needs
 
--- src/lib.rt:35:1
 put-number-returns-2 : (t : ℕ) → put-number-lts.Need-returns-2 (
   put-byte-reads.Asked,
   put-byte-reads.Learnt,

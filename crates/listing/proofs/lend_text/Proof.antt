@@ -1,27 +1,21 @@
+-- `lend_text` meets its contract.
 use denote.Ref.{now}
 use Rattle.listing.proofs.Laws.{lent, not-lent}
 use borrow.Author.Needs.{needs}
 use Rattle.listing.proofs.lend_text.Statement.{statement}
 use Rattle.listing.proofs.lend_text.Tie as tie
-use Rattle.listing.proofs.lend_text.Reads as reads
-use Rattle.listing.proofs.lend_text.Lts as lts
-use Rattle.listing.proofs.put.Reads as put-reads
 
--- src/lib.rt:154:13
 put-requires : tie.Need-put-requires
 put-requires c κs = search needs
 
--- src/lib.rt:150:1
 same-length : tie.Need-same-length
 same-length c = search needs
 
--- src/lib.rt:150:1
 returns : tie.Need-returns
 returns c =
     let a = c .before .before .before .before .before .before .before .args in
     lent (now (a .buf)) (now (a .t)) (c .before .before .put .last .0) (c .before .before .put .result) (c .before .before .before .before .if1 .taken) (c .before .before .put .ensures)
 
--- src/lib.rt:150:1
 returns-2 : tie.Need-returns-2
 returns-2 c =
     let a = c .before .before .before .args in

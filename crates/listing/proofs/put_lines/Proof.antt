@@ -1,3 +1,4 @@
+-- `put_lines` meets its contract.
 use mathlib.Core.Path.{_≡_, ap}
 use Prim.Native.Nat.{_+_, _*_, _-_, _≤_}
 use native.Mathlib.Omega.{arith}
@@ -9,9 +10,6 @@ use Rattle.listing.proofs.Laws.{put-as, lines-none, lines-more}
 use borrow.Author.Needs.{needs}
 use Rattle.listing.proofs.put_lines.Statement.{statement}
 use Rattle.listing.proofs.put_lines.Tie as tie
-use Rattle.listing.proofs.put_lines.Reads as reads
-use Rattle.listing.proofs.put_lines.Lts as lts
-use Rattle.listing.proofs.put_line.Reads as put-line-reads
 
 abbrev Inv-loop : tie.InvT-loop
 Inv-loop buf₀ at f n r₀ i₀ buf r i =
@@ -20,49 +18,38 @@ Inv-loop buf₀ at f n r₀ i₀ buf r i =
 abbrev μ-loop : tie.MeasureT-loop
 μ-loop buf₀ at f n r₀ i₀ buf r i = n - i
 
--- src/lib.rt:119:13
 cast-n : tie.Need-cast-n Inv-loop μ-loop
 cast-n c = search needs
 
--- src/lib.rt:122:5
 loop-holds : tie.Need-loop-holds Inv-loop μ-loop
 loop-holds c = (lines-none (now (c .before .args .buf)) (c .before .args .at) (c .before .args .t3 .trucks), search needs, search needs, search needs)
 
--- src/lib.rt:123:17
 mul-t : tie.Need-mul-t Inv-loop μ-loop
 mul-t c = search needs
 
--- src/lib.rt:123:17
 element-copy-out-t : tie.Need-element-copy-out-t Inv-loop μ-loop
 element-copy-out-t c = search needs
 
--- src/lib.rt:124:30
 cast-put-line : tie.Need-cast-put-line Inv-loop μ-loop
 cast-put-line c = search needs
 
--- src/lib.rt:124:9
 put-line-requires : tie.Need-put-line-requires Inv-loop μ-loop
 put-line-requires c κs = search needs
 
--- src/lib.rt:125:9
 add-i : tie.Need-add-i Inv-loop μ-loop
 add-i c = search needs
 
--- src/lib.rt:122:5
 loop-less : tie.Need-loop-less Inv-loop μ-loop
 loop-less c = search needs
 
--- src/lib.rt:122:5
 loop-again : tie.Need-loop-again Inv-loop μ-loop
 loop-again c =
     let l = c .before .before .before .before .before .before .loop in
     (lines-more (c .before .before .before .before .before .before .before .before .args .t3 .trucks) (l .i) (l .inv .0) (c .before .before .put-line .ensures .0), omega arith, omega arith, omega arith)
 
--- src/lib.rt:114:1
 same-length : tie.Need-same-length Inv-loop μ-loop
 same-length c = search needs
 
--- src/lib.rt:114:1
 returns : tie.Need-returns Inv-loop μ-loop
 returns c =
     let l = c .before .loop in

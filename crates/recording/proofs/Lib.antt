@@ -1,4 +1,3 @@
-pub mod Digits
 pub mod Accepted
 pub mod Packing
 pub mod RoundTrip

@@ -5,9 +5,11 @@ use native.Mathlib.Nat.{mod-lt, mod-eq-of-lt, mul-le-mul-right, pow-suc, div-one
 use native.Mathlib.Decide.{decLt}
 use native.Mathlib.Omega.{arith}
 use lib.Dec.{lit<}
-use lib.Pow.{mod-pow-add, mod-mod-pow, field, high, low, pow-pos, pow-add}
+use lib.Pow.{mod-pow-add, mod-mod-pow, field, high, low, pow-mono, pow-add, pow-pos, shl-exact}
 use Rattle.basics.specs.Bits.{digit}
-use Rattle.recording.specs.Packed.{numAt, rowAt}
+use mathlib.Core.List.{List}
+use lib.ListN.{getD}
+use Rattle.bitreader.specs.Bits.{bitAt, numAt, rowAt, mirrored}
 
 pub digit-lt : (v j : ℕ) → digit v j < 2
 digit-lt v j = mod-lt (v / 2 ^ j) (lit< tt)
@@ -128,3 +130,49 @@ rowAt-add f p a (suc b) =
     ap (rowAt f p) (let e : a + suc b ≡ suc (a + b) = omega arith in e)
     ∙ ap₂ (λ (x y : ℕ). x + y) (rowAt-add f p a b) (ap₂ (λ (x y : ℕ). f x * y) (let e : p + (a + b) ≡ p + a + b = omega arith in e) (pow-add 2 a b))
     ∙ omega arith
+
+-- the middle one of three parts
+pub numAt-part : (f : ℕ → ℕ) → ((i : ℕ) → f i < 2) → (p a b c : ℕ) → numAt f p (a + b + c) / 2 ^ c % 2 ^ b ≡ numAt f (p + a) b
+numAt-part f bits p a b c =
+    ap (λ (x : ℕ). x / 2 ^ c % 2 ^ b) (numAt-add f p (a + b) c)
+    ∙ ap (λ (x : ℕ). x % 2 ^ b) (high (numAt f p (a + b)) c (numAt-lt f bits (p + (a + b)) c))
+    ∙ ap (λ (x : ℕ). x % 2 ^ b) (numAt-add f p a b)
+    ∙ low (numAt f p a) b (numAt-lt f bits (p + a) b)
+
+pub numAt-fits : (f : ℕ → ℕ) → ((i : ℕ) → f i < 2) → (p k m : ℕ) → k ≤ m → numAt f p k < 2 ^ m
+numAt-fits f bits p k m h = omega (arith, numAt-lt f bits p k, pow-mono {i = k} {j = m} h)
+
+-- ---- bytes
+pub bitAt-lt : (s : List ℕ) (p : ℕ) → bitAt s p < 2
+unfolding bitAt
+bitAt-lt s p = digit-lt (getD s (p / 8) 0) (7 - p % 8)
+
+-- bit i of byte q
+pub bitAt-byte : (s : List ℕ) (q i : ℕ) → i < 8 → bitAt s (8 * q + i) ≡ digit (getD s q 0) (8 - suc i)
+unfolding bitAt
+bitAt-byte s q i l = ap₂ (λ (a b : ℕ). digit (getD s a 0) b) (omega arith) (omega arith)
+
+pub byte-is : (s : List ℕ) (q : ℕ) → getD s q 0 < 256 → numAt (bitAt s) (8 * q) 8 ≡ getD s q 0
+byte-is s q h = numAt-is (bitAt s) (bitAt-lt s) (8 * q) 8 (getD s q 0) h (bitAt-byte s q)
+
+-- one byte more
+pub byte-more : (s : List ℕ) (b i v x : ℕ) → x < 256 → v ≡ numAt (bitAt s) (8 * b) (8 * i) → x ≡ getD s (b + i) 0 → v * 256 + x ≡ numAt (bitAt s) (8 * b) (8 * (i + 1))
+byte-more s b i v x h e g =
+    ap₂ (λ (y z : ℕ). y * 256 + z) e
+    (g ∙ sym (byte-is s (b + i) (rw (← g) h)) ∙ ap (λ (p : ℕ). numAt (bitAt s) p 8) (let o : 8 * (b + i) ≡ 8 * b + 8 * i = omega arith in o))
+    ∙ sym (numAt-add (bitAt s) (8 * b) (8 * i) 8)
+    ∙ ap (numAt (bitAt s) (8 * b)) (let o : 8 * i + 8 ≡ 8 * (i + 1) = omega arith in o)
+
+-- k bits from any place, out of the bytes in which they stand
+pub gathered : (s : List ℕ) (at k : ℕ)
+    → numAt (bitAt s) (8 * (at / 8)) (8 * ((at % 8 + k + 7) / 8)) / 2 ^ (8 * ((at % 8 + k + 7) / 8) - at % 8 - k) % 2 ^ k ≡ numAt (bitAt s) at k
+gathered s at k =
+    let all : ℕ = 8 * ((at % 8 + k + 7) / 8) in
+    let past : ℕ = all - at % 8 - k in
+    ap (λ (n : ℕ). numAt (bitAt s) (8 * (at / 8)) n / 2 ^ past % 2 ^ k) (let e : all ≡ at % 8 + k + past = omega arith in e)
+    ∙ numAt-part (bitAt s) (bitAt-lt s) (8 * (at / 8)) (at % 8) k past
+    ∙ ap (λ (p : ℕ). numAt (bitAt s) p k) (omega arith)
+
+-- a shift of 1
+pub one-shifted : (k : ℕ) → k < 64 → 1 * 2 ^ k % 2 ^ 64 ≡ 2 ^ k
+one-shifted k h = shl-exact {a = 1} 1 k 64 (lit< tt) (omega arith) ∙ omega arith

@@ -1,0 +1,72 @@
+// Numbers of up to 32 bits at any place of a slice of bytes, by a reader and on plain parameters.
+ghost use mathlib.Core.Path.{_≡_};
+ghost use Prim.Native.Nat.{_+_, _*_, _-_, _<_, _≤_, _^_, _/_, _%_};
+ghost use lib.ListN.{length, getD};
+ghost use Rattle.bitreader.specs.Bits.{bitAt, numAt, rowAt, bitsRead, placeAfter, mirrored, movedBy};
+
+fn wide(b: u8) -> u64
+    ensures { λ r. ⌜ r ≡ b ⌝ }
+{
+    b as u64
+}
+
+// The byte at a place; past the end it is 0.
+fn byte_at(s: &[u8], i: usize) -> u64
+    ensures { λ r. ⌜ r ≡ getD (now (s .entry)) i 0 ⌝ }
+{
+    if i < s.len() { wide(s[i]) } else { 0 }
+}
+
+// The number that m bytes make.
+fn bytes_at(s: &[u8], b: usize, m: usize) -> u64
+    requires { ⌜ (m ≤ 5) × (b < 2 ^ 61) ⌝ }
+    ensures { λ r. ⌜ r ≡ numAt (bitAt (now (s .entry))) (8 * b) (8 * m) ⌝ }
+{
+    let mut v: u64 = 0;
+    let mut i = 0;
+    while i < m {
+        v = v * 256 + byte_at(s, b + i);
+        i += 1;
+    }
+    v
+}
+
+fn bits_read(k: usize) -> usize
+    ensures { λ r. ⌜ r ≡ bitsRead k ⌝ }
+{
+    if k < 32 { k } else { 32 }
+}
+
+fn place_after(at: usize, k: usize) -> usize
+    ensures { λ r. ⌜ r ≡ placeAfter at k ⌝ }
+{
+    let w = bits_read(k);
+    if at < 18446744073709551615 - w {
+        at + w
+    } else {
+        18446744073709551615
+    }
+}
+
+fn low_bits(v: u64, k: usize) -> u64
+    requires { ⌜ k < 64 ⌝ }
+    ensures { λ r. ⌜ r ≡ v % 2 ^ k ⌝ }
+{
+    v % (1 << k)
+}
+
+// The leaf that gathers bits: everything reads through it.
+pub fn bits_at(s: &[u8], at: usize, k: usize) -> u32
+    ensures { λ r. ⌜ r ≡ numAt (bitAt (now (s .entry))) at (bitsRead k) ⌝ }
+{
+    let w = bits_read(k);
+    let skipped = at % 8;
+    let m = (skipped + w + 7) / 8;
+    let v = bytes_at(s, at / 8, m);
+    low_bits(v >> (8 * m - skipped - w), w) as u32
+}
+
+pub struct Reader<'a> {
+    pub bytes: &'a [u8],
+    pub at: usize,
+}

@@ -6,7 +6,7 @@ use lib.Dec.{ltb}
 use lib.ListN.{getD}
 use Rattle.basics.specs.Bits.{digit}
 use Rattle.basics.specs.Lists.{tab}
-pub use Rattle.bitreader.specs.Bits.{bitAt, numAt, rowAt}
+unfoldable pub use Rattle.bitreader.specs.Bits.{bitAt, numAt, rowAt}
 
 -- truck count n: 6 bits
 unfoldable pub trucksOf : List ℕ → ℕ

@@ -1,11 +1,11 @@
 -- Binary digits, and the two numbers that a run of bits makes: `numAt` with the first bit worth most, `rowAt` with the first bit worth 1.
 use mathlib.Core.Path.{_≡_, refl, ap, ap₂, sym, _∙_}
 use Prim.Native.Nat.{ℕ, zero, suc, _+_, _*_, _-_, _/_, _%_, _^_, _≤_, _<_}
-use native.Mathlib.Nat.{mod-lt, mod-eq-of-lt, mul-le-mul-right, pow-suc, div-one, div-div-eq-div-mul, add-zero, mul-comm}
+use native.Mathlib.Nat.{mod-lt, mod-eq-of-lt, mul-le-mul-right, pow-suc, div-one, div-div-eq-div-mul, add-zero, mul-comm, mul-mod-left, zero-div, div-eq-of-lt}
 use native.Mathlib.Decide.{decLt}
 use native.Mathlib.Omega.{arith}
 use lib.Dec.{lit<}
-use lib.Pow.{mod-pow-add, mod-mod-pow, field, high, low, pow-mono, pow-add, pow-pos, shl-exact}
+use lib.Pow.{mod-pow-add, mod-mod-pow, field, high, low, pow-mono, pow-add, shl-exact, shl-shr, shr-shr}
 use Rattle.basics.specs.Bits.{digit}
 use mathlib.Core.List.{List}
 use lib.ListN.{getD}
@@ -176,3 +176,77 @@ gathered s at k =
 -- a shift of 1
 pub one-shifted : (k : ℕ) → k < 64 → 1 * 2 ^ k % 2 ^ 64 ≡ 2 ^ k
 one-shifted k h = shl-exact {a = 1} 1 k 64 (lit< tt) (omega arith) ∙ omega arith
+
+-- ---- digits in reverse
+pub mirrored-lt : (k v : ℕ) → mirrored k v < 2 ^ k
+unfolding mirrored
+mirrored-lt k v = rowAt-lt (λ i. digit v (k - suc i)) (λ i. digit-lt v (k - suc i)) 0 k
+
+pub mirrored-digit : (k v j : ℕ) → j < k → digit (mirrored k v) j ≡ digit v (k - suc j)
+unfolding mirrored
+mirrored-digit k v j h = rowAt-digit (λ i. digit v (k - suc i)) (λ i. digit-lt v (k - suc i)) 0 k j h ∙ ap (λ (i : ℕ). digit v (k - suc i)) (omega arith)
+
+-- digits above the d-th, counted from there
+digit-shr : (v d j : ℕ) → digit v (d + j) ≡ digit (v / 2 ^ d) j
+digit-shr v d j = ap (λ (x : ℕ). x % 2) (sym (shr-shr v d j))
+
+rowAt-zero : (f : ℕ → ℕ) (p k : ℕ) → ((i : ℕ) → i < k → f (p + i) ≡ 0) → rowAt f p k ≡ 0
+unfolding rowAt
+rowAt-zero f p zero h = refl
+rowAt-zero f p (suc k) h = ap₂ (λ (a b : ℕ). a + b * 2 ^ k) (rowAt-zero f p k (λ i l. h i (omega arith))) (h k (omega arith)) ∙ omega arith
+
+-- each half is reversed, and the halves change places
+pub mirrored-add : (a b v : ℕ) → mirrored (a + b) v ≡ mirrored a (v / 2 ^ b) + mirrored b (v % 2 ^ b) * 2 ^ a
+unfolding mirrored
+mirrored-add a b v =
+    let f : ℕ → ℕ = λ i. digit v (a + b - suc i) in
+    rowAt-add f 0 a b
+    ∙ ap₂ (λ (x y : ℕ). x + y * 2 ^ a)
+    (rowAt-ext f (λ i. digit (v / 2 ^ b) (a - suc i)) 0 0 a
+    (λ i l.
+    ap (digit v) (let e : a + b - suc (0 + i) ≡ b + (a - suc (0 + i)) = omega arith in e) ∙ digit-shr v b (a - suc (0 + i))))
+    (rowAt-ext f (λ i. digit (v % 2 ^ b) (b - suc i)) (0 + a) 0 b
+    (λ i l.
+    ap (digit v) (let e : a + b - suc (0 + a + i) ≡ b - suc (0 + i) = omega arith in e)
+    ∙ sym (digit-mod v b (b - suc (0 + i)) (omega arith))))
+
+pub mirrored-joined : (k v lo hi : ℕ) → lo ≡ mirrored k (v % 2 ^ k) → hi ≡ mirrored k (v / 2 ^ k) → lo * 2 ^ k + hi ≡ mirrored (k + k) v
+mirrored-joined k v lo hi e g = ap₂ (λ (a b : ℕ). a * 2 ^ k + b) e g ∙ sym (mirrored-add k k v ∙ omega arith)
+
+pub mirrored-two : (v : ℕ) → v < 4 → mirrored 2 v ≡ v % 2 * 2 + v / 2
+unfolding mirrored rowAt
+mirrored-two v h = omega arith
+
+-- nothing but zeros is gained by more digits: below the number
+pub mirrored-shifted : (k d v : ℕ) → mirrored (k + d) (v * 2 ^ d) ≡ mirrored k v
+unfolding mirrored
+mirrored-shifted k d v =
+    mirrored-add k d (v * 2 ^ d)
+    ∙ ap₂ (λ (x y : ℕ). x + y * 2 ^ k) (ap (mirrored k) (shl-shr v d))
+    (ap (mirrored d) (mul-mod-left v (2 ^ d)) ∙ rowAt-zero (λ i. digit 0 (d - suc i)) 0 d (λ i l. ap (λ (x : ℕ). x % 2) (zero-div (2 ^ (d - suc (0 + i))))))
+    ∙ omega arith
+
+-- and above it
+pub mirrored-below : (k d v : ℕ) → v < 2 ^ k → mirrored (d + k) v / 2 ^ d ≡ mirrored k v
+unfolding mirrored
+mirrored-below k d v h =
+    ap (λ (x : ℕ). x / 2 ^ d)
+    (mirrored-add d k v
+    ∙ ap₂ (λ (x y : ℕ). x + mirrored k y * 2 ^ d)
+    (ap (mirrored d) (div-eq-of-lt h) ∙ rowAt-zero (λ i. digit 0 (d - suc i)) 0 d (λ i l. ap (λ (x : ℕ). x % 2) (zero-div (2 ^ (d - suc (0 + i))))))
+    (mod-eq-of-lt h)
+    ∙ omega arith)
+    ∙ shl-shr (mirrored k v) d
+
+-- between the two numbers of a run of bits
+module _ (f : ℕ → ℕ) (bits : (i : ℕ) → f i < 2) (p k : ℕ) where
+  pub mirrored-num : mirrored k (numAt f p k) ≡ rowAt f p k
+  unfolding mirrored
+  mirrored-num =
+      rowAt-ext (λ i. digit (numAt f p k) (k - suc i)) f 0 p k
+      (λ i l. numAt-digit f bits p k (k - suc (0 + i)) (omega arith) ∙ ap f (omega arith))
+
+  pub num-mirrored : (v : ℕ) → ((i : ℕ) → i < k → f (p + i) ≡ digit v i) → numAt f p k ≡ mirrored k v
+  num-mirrored v h =
+      numAt-is f bits p k (mirrored k v) (mirrored-lt k v)
+      (λ i l. h i l ∙ sym (mirrored-digit k v (k - suc i) (omega arith) ∙ ap (digit v) (omega arith)))

@@ -66,6 +66,41 @@ pub fn bits_at(s: &[u8], at: usize, k: usize) -> u32
     low_bits(v >> (8 * m - skipped - w), w) as u32
 }
 
+// Digits in reverse, by halves.
+fn mirror_2(x: u32) -> u32
+    requires { ⌜ x < 4 ⌝ }
+    ensures { λ r. ⌜ (r ≡ mirrored 2 x) × (r < 4) ⌝ }
+{
+    x % 2 * 2 + x / 2
+}
+
+fn mirror_4(x: u32) -> u32
+    requires { ⌜ x < 16 ⌝ }
+    ensures { λ r. ⌜ (r ≡ mirrored 4 x) × (r < 16) ⌝ }
+{
+    mirror_2(x % 4) * 4 + mirror_2(x / 4)
+}
+
+fn mirror_8(x: u32) -> u32
+    requires { ⌜ x < 256 ⌝ }
+    ensures { λ r. ⌜ (r ≡ mirrored 8 x) × (r < 256) ⌝ }
+{
+    mirror_4(x % 16) * 16 + mirror_4(x / 16)
+}
+
+fn mirror_16(x: u32) -> u32
+    requires { ⌜ x < 65536 ⌝ }
+    ensures { λ r. ⌜ (r ≡ mirrored 16 x) × (r < 65536) ⌝ }
+{
+    mirror_8(x % 256) * 256 + mirror_8(x / 256)
+}
+
+pub fn mirror(x: u32) -> u32
+    ensures { λ r. ⌜ r ≡ mirrored 32 x ⌝ }
+{
+    mirror_16(x % 65536) * 65536 + mirror_16(x / 65536)
+}
+
 pub struct Reader<'a> {
     pub bytes: &'a [u8],
     pub at: usize,

@@ -105,3 +105,38 @@ pub struct Reader<'a> {
     pub bytes: &'a [u8],
     pub at: usize,
 }
+
+pub fn new<'a>(bytes: &'a [u8], at: usize) -> Reader<'a>
+    ensures { λ r. ⌜ (r .bytes ≡ bytes .entry) × (r .at ≡ at) ⌝ }
+{
+    Reader { bytes, at }
+}
+
+// Reads k bits, at most 32, and moves on past them.
+pub fn take<'s, 'a>(r: &'s mut Reader<'a>, k: usize) -> u32
+    ensures { λ v. ⌜ (v ≡ numAt (bitAt (now (now (r .entry) .bytes))) (now (r .entry) .at) (bitsRead k)) × (now (r .exit) ≡ movedBy (now (r .entry)) k) ⌝ }
+{
+    let at = r.at;
+    let v = bits_at(r.bytes, at, k);
+    let next = place_after(at, k);
+    r.at = next;
+    v
+}
+
+// What was read, and the place of the bit after it.
+pub struct Taken {
+    pub value: u32,
+    pub next: usize,
+}
+
+// A reader in a local: whoever reads on plain parameters reads by this one.
+pub fn read_at(s: &[u8], at: usize, k: usize) -> Taken
+    ensures { λ r. ⌜ (r .value ≡ numAt (bitAt (now (s .entry))) at (bitsRead k)) × (r .next ≡ placeAfter at k) ⌝ }
+{
+    let mut r = new(s, at);
+    let v = take(&mut r, k);
+    Taken {
+        value: v,
+        next: r.at,
+    }
+}

@@ -1,11 +1,11 @@
 -- Binary digits, and the two numbers that a run of bits makes: `numAt` with the first bit worth most, `rowAt` with the first bit worth 1.
 use mathlib.Core.Path.{_≡_, refl, ap, ap₂, sym, _∙_}
 use Prim.Native.Nat.{ℕ, zero, suc, _+_, _*_, _-_, _/_, _%_, _^_, _≤_, _<_}
-use native.Mathlib.Nat.{mod-lt, mod-eq-of-lt, mul-le-mul-right, pow-suc, div-one, div-div-eq-div-mul, add-zero, mul-comm, mul-mod-left, zero-div, div-eq-of-lt}
+use native.Mathlib.Nat.{mod-lt, mod-eq-of-lt, mul-le-mul-right, pow-suc, div-one, div-div-eq-div-mul, add-zero, mul-comm, add-comm}
 use native.Mathlib.Decide.{decLt}
 use native.Mathlib.Omega.{arith}
 use lib.Dec.{lit<}
-use lib.Pow.{mod-pow-add, mod-mod-pow, field, high, low, pow-mono, pow-add, shl-exact, shl-shr, shr-shr}
+use lib.Pow.{mod-pow-add, mod-mod-pow, field, high, low, pow-mono, pow-add, shl-exact, shr-shr}
 use Rattle.basics.specs.Bits.{digit}
 use mathlib.Core.List.{List}
 use lib.ListN.{getD}
@@ -190,11 +190,6 @@ mirrored-digit k v j h = rowAt-digit (λ i. digit v (k - suc i)) (λ i. digit-lt
 digit-shr : (v d j : ℕ) → digit v (d + j) ≡ digit (v / 2 ^ d) j
 digit-shr v d j = ap (λ (x : ℕ). x % 2) (sym (shr-shr v d j))
 
-rowAt-zero : (f : ℕ → ℕ) (p k : ℕ) → ((i : ℕ) → i < k → f (p + i) ≡ 0) → rowAt f p k ≡ 0
-unfolding rowAt
-rowAt-zero f p zero h = refl
-rowAt-zero f p (suc k) h = ap₂ (λ (a b : ℕ). a + b * 2 ^ k) (rowAt-zero f p k (λ i l. h i (omega arith))) (h k (omega arith)) ∙ omega arith
-
 -- each half is reversed, and the halves change places
 pub mirrored-add : (a b v : ℕ) → mirrored (a + b) v ≡ mirrored a (v / 2 ^ b) + mirrored b (v % 2 ^ b) * 2 ^ a
 unfolding mirrored
@@ -217,26 +212,13 @@ pub mirrored-two : (v : ℕ) → v < 4 → mirrored 2 v ≡ v % 2 * 2 + v / 2
 unfolding mirrored rowAt
 mirrored-two v h = omega arith
 
--- nothing but zeros is gained by more digits: below the number
-pub mirrored-shifted : (k d v : ℕ) → mirrored (k + d) (v * 2 ^ d) ≡ mirrored k v
+-- the digits below the k-th in reverse, out of more digits in reverse
+pub mirrored-below : (k d v : ℕ) → mirrored (d + k) v / 2 ^ d ≡ mirrored k v
 unfolding mirrored
-mirrored-shifted k d v =
-    mirrored-add k d (v * 2 ^ d)
-    ∙ ap₂ (λ (x y : ℕ). x + y * 2 ^ k) (ap (mirrored k) (shl-shr v d))
-    (ap (mirrored d) (mul-mod-left v (2 ^ d)) ∙ rowAt-zero (λ i. digit 0 (d - suc i)) 0 d (λ i l. ap (λ (x : ℕ). x % 2) (zero-div (2 ^ (d - suc (0 + i))))))
-    ∙ omega arith
-
--- and above it
-pub mirrored-below : (k d v : ℕ) → v < 2 ^ k → mirrored (d + k) v / 2 ^ d ≡ mirrored k v
-unfolding mirrored
-mirrored-below k d v h =
-    ap (λ (x : ℕ). x / 2 ^ d)
-    (mirrored-add d k v
-    ∙ ap₂ (λ (x y : ℕ). x + mirrored k y * 2 ^ d)
-    (ap (mirrored d) (div-eq-of-lt h) ∙ rowAt-zero (λ i. digit 0 (d - suc i)) 0 d (λ i l. ap (λ (x : ℕ). x % 2) (zero-div (2 ^ (d - suc (0 + i))))))
-    (mod-eq-of-lt h)
-    ∙ omega arith)
-    ∙ shl-shr (mirrored k v) d
+mirrored-below k d v =
+    ap (λ (x : ℕ). x / 2 ^ d) (mirrored-add d k v ∙ add-comm (mirrored d (v / 2 ^ k)) (mirrored k (v % 2 ^ k) * 2 ^ d))
+    ∙ high (mirrored k (v % 2 ^ k)) d (mirrored-lt d (v / 2 ^ k))
+    ∙ rowAt-ext (λ i. digit (v % 2 ^ k) (k - suc i)) (λ i. digit v (k - suc i)) 0 0 k (λ i l. digit-mod v k (k - suc (0 + i)) (omega arith))
 
 -- between the two numbers of a run of bits
 module _ (f : ℕ → ℕ) (bits : (i : ℕ) → f i < 2) (p k : ℕ) where
@@ -250,3 +232,8 @@ module _ (f : ℕ → ℕ) (bits : (i : ℕ) → f i < 2) (p k : ℕ) where
   num-mirrored v h =
       numAt-is f bits p k (mirrored k v) (mirrored-lt k v)
       (λ i l. h i l ∙ sym (mirrored-digit k v (k - suc i) (omega arith) ∙ ap (digit v) (omega arith)))
+
+-- the reverse of the lowest w of 32 digits
+pub mirrored-of-32 : (w x y : ℕ) → w ≤ 32 → y ≡ mirrored 32 x → y / 2 ^ (32 - w) ≡ mirrored w x
+mirrored-of-32 w x y h e =
+    ap (λ (a : ℕ). a / 2 ^ (32 - w)) (e ∙ ap (λ (a : ℕ). mirrored a x) (let o : 32 ≡ 32 - w + w = omega arith in o)) ∙ mirrored-below w (32 - w) x

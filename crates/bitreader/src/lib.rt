@@ -95,10 +95,19 @@ fn mirror_16(x: u32) -> u32
     mirror_8(x % 256) * 256 + mirror_8(x / 256)
 }
 
-pub fn mirror(x: u32) -> u32
+fn mirror_32(x: u32) -> u32
     ensures { λ r. ⌜ r ≡ mirrored 32 x ⌝ }
 {
     mirror_16(x % 65536) * 65536 + mirror_16(x / 65536)
+}
+
+// The lowest k digits of x, at most 32, in reverse: the one turns into the other of the two numbers that k bits make.
+pub fn mirror(x: u32, k: usize) -> u32
+    ensures { λ r. ⌜ r ≡ mirrored (bitsRead k) x ⌝ }
+{
+    let w = bits_read(k);
+    let all = mirror_32(x) as u64;
+    (all >> (32 - w)) as u32
 }
 
 pub struct Reader<'a> {
@@ -139,4 +148,12 @@ pub fn read_at(s: &[u8], at: usize, k: usize) -> Taken
         value: v,
         next: r.at,
     }
+}
+
+// The same bits as a word of plain form.
+pub fn row_at(s: &[u8], at: usize, k: usize) -> u32
+    ensures { λ r. ⌜ r ≡ rowAt (bitAt (now (s .entry))) at (bitsRead k) ⌝ }
+{
+    let t = read_at(s, at, k);
+    mirror(t.value, k)
 }

@@ -2,3 +2,5 @@ pub mod Accepted
 pub mod Packing
 pub mod RoundTrip
 pub mod Rounds
+pub mod Sizes
+pub mod Searches

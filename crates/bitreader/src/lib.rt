@@ -48,11 +48,14 @@ fn place_after(at: usize, k: usize) -> usize
     }
 }
 
-fn low_bits(v: u64, k: usize) -> u64
-    requires { ⌜ k < 64 ⌝ }
+// The lowest k digits of v.
+pub fn low_bits(v: u64, k: usize) -> u64
     ensures { λ r. ⌜ r ≡ v % 2 ^ k ⌝ }
 {
-    v % (1 << k)
+    if k < 64 {
+        return v % (1 << k);
+    }
+    v
 }
 
 // The leaf that gathers bits: everything reads through it.

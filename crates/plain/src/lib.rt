@@ -1,0 +1,93 @@
+// Recordings in plain form: a byte for each opening and 3 + n words of 32 bits for each round.
+ghost use mathlib.Core.Path.{_≡_};
+ghost use mathlib.Core.List.{_++_};
+ghost use Prim.Native.Nat.{_+_, _*_, _-_, _<_, _≤_, _^_, _/_, _%_};
+ghost use lib.ListN.{length, getD, drop};
+ghost use Rattle.refusals.specs.declared.Outcome.the-variants.{Accepted};
+ghost use Rattle.basics.specs.Bits.{bit};
+ghost use Rattle.basics.specs.Lists.{first, filled};
+ghost use Rattle.recording.specs.Packed.{trucksOf, roundsOf, openingAt, wordAt, packed, bytesFor};
+ghost use Rattle.recording.specs.Checks.{highBit, badOpenings, badWords, ownLoss, roundsCheck, roundCheck, plainCheck};
+ghost use Rattle.plain.specs.Forms.{afterRead, readPlain, afterWrite, writePlain};
+use refusals::Outcome;
+use refusals::Refusal;
+
+// What reading to plain form answers.
+pub enum ReadOutcome {
+    Plain { trucks: u8, rounds: u16 },
+    Refused(Refusal),
+}
+
+// What writing answers.
+pub enum WriteOutcome {
+    Bytes(usize),
+    Refused(Refusal),
+}
+
+// Refusal 7, of openings.
+pub fn bad_openings(n: u8, openings: &[u8]) -> bool
+    ensures { λ r. ⌜ r ≡ badOpenings n (now (openings .entry)) ⌝ }
+{
+    if openings.len() != n as usize {
+        return true;
+    }
+    let mut i = 0;
+    while i < openings.len() {
+        if 15 < openings[i] {
+            return true;
+        }
+        i += 1;
+    }
+    false
+}
+
+// Whether a word has a bit at or above n.
+pub fn high_bit(n: u8, w: u32) -> bool
+    ensures { λ r. ⌜ r ≡ highBit n w ⌝ }
+{
+    if n < 32 {
+        return 1 <= (w >> n);
+    }
+    false
+}
+
+// Refusal 8.
+fn bad_words(n: u8, rounds: u16, words: &[u32]) -> bool
+    ensures { λ r. ⌜ r ≡ badWords n rounds (now (words .entry)) ⌝ }
+{
+    if words.len() != rounds as usize * (3 + n as usize) {
+        return true;
+    }
+    let mut i = 0;
+    while i < words.len() {
+        if high_bit(n, words[i]) {
+            return true;
+        }
+        i += 1;
+    }
+    false
+}
+
+fn bit_of(w: u32, i: usize) -> bool
+    ensures { λ r. ⌜ r ≡ bit w i ⌝ }
+{
+    if i < 32 {
+        return (w >> i) % 2 == 1;
+    }
+    false
+}
+
+// The lowest truck whose own loss bit is 1 in the round whose words begin at `base`, or n where none is.
+fn own_truck(words: &[u32], base: usize, n: usize) -> usize
+    requires { ⌜ (base < 2 ^ 32) × (base + (3 + n) ≤ length (now words)) ⌝ }
+    ensures { λ r. ⌜ r ≡ first (λ i. bit (getD (now (words .entry)) (base + (3 + i)) 0) i) n ⌝ }
+{
+    let mut i = 0;
+    while i < n {
+        if bit_of(words[base + (3 + i)], i) {
+            return i;
+        }
+        i += 1;
+    }
+    n
+}

@@ -91,3 +91,58 @@ fn own_truck(words: &[u32], base: usize, n: usize) -> usize
     }
     n
 }
+
+// Refusal 6, of rounds of the right number of words.
+fn own_loss(n: u8, rounds: u16, words: &[u32]) -> bool
+    requires { ⌜ length (now words) ≡ rounds * (3 + n) ⌝ }
+    ensures { λ r. ⌜ r ≡ ownLoss (λ w. getD (now (words .entry)) w 0) n rounds ⌝ }
+{
+    let m = n as usize;
+    let mut base = 0;
+    let mut r: u16 = 0;
+    while r < rounds {
+        let i = own_truck(words, base, m);
+        if i < m {
+            return true;
+        }
+        base = base + (3 + m);
+        r += 1;
+    }
+    false
+}
+
+// Refusals 8 and 6, of rounds one after the other.
+fn check_rounds(n: u8, rounds: u16, words: &[u32]) -> Outcome
+    ensures { λ r. ⌜ r ≡ roundsCheck n rounds (now (words .entry)) ⌝ }
+{
+    if bad_words(n, rounds, words) {
+        return Outcome::Refused(Refusal::PlainRound);
+    }
+    if own_loss(n, rounds, words) {
+        return Outcome::Refused(Refusal::OwnLoss);
+    }
+    Outcome::Accepted
+}
+
+// Refusals 8 and 6, of one round.
+pub fn check_round(trucks: u8, words: &[u32]) -> Outcome
+    ensures { λ r. ⌜ r ≡ roundCheck trucks (now (words .entry)) ⌝ }
+{
+    check_rounds(trucks, 1, words)
+}
+
+// Refusals 2, 3, 7, 8 and 6.
+pub fn check_plain(trucks: u8, rounds: u16, openings: &[u8], words: &[u32]) -> Outcome
+    ensures { λ r. ⌜ r ≡ plainCheck trucks rounds (now (openings .entry)) (now (words .entry)) ⌝ }
+{
+    if recording::bad_trucks(trucks) {
+        return Outcome::Refused(Refusal::TruckCount);
+    }
+    if 400 < rounds {
+        return Outcome::Refused(Refusal::RoundCount);
+    }
+    if bad_openings(trucks, openings) {
+        return Outcome::Refused(Refusal::Record);
+    }
+    check_rounds(trucks, rounds, words)
+}

@@ -1,2 +1,4 @@
 pub mod Tests
 pub mod Outcomes
+pub mod Fills
+pub mod Answers

@@ -146,3 +146,49 @@ pub fn check_plain(trucks: u8, rounds: u16, openings: &[u8], words: &[u32]) -> O
     }
     check_rounds(trucks, rounds, words)
 }
+
+fn fill_openings(s: &[u8], openings: &mut [u8], n: u8)
+    requires { ⌜ n ≤ length (now openings) ⌝ }
+    ensures { λ r. ⌜ now (openings .exit) ≡ filled (openingAt (now (s .entry))) n (now (openings .entry)) ⌝ }
+{
+    let mut i: u8 = 0;
+    while i < n {
+        openings[i as usize] = recording::opening(s, i);
+        i += 1;
+    }
+}
+
+fn fill_words(s: &[u8], words: &mut [u32], n: usize, count: usize)
+    requires { ⌜ (n ≡ trucksOf (now s)) × ((n ≤ 32) × ((count ≤ 16908030) × (count ≤ length (now words)))) ⌝ }
+    ensures { λ r. ⌜ now (words .exit) ≡ filled (wordAt (now (s .entry))) count (now (words .entry)) ⌝ }
+{
+    let mut at = 16 + 4 * n;
+    let mut w = 0;
+    while w < count {
+        words[w] = bitreader::row_at(s, at, n);
+        at = at + n;
+        w += 1;
+    }
+}
+
+// Reading to plain form: refusals 1 to 6, then 9.
+pub fn read(s: &[u8], openings: &mut [u8], words: &mut [u32]) -> ReadOutcome
+    ensures { λ r. ⌜ afterRead r (now (openings .exit)) (now (words .exit)) ≡ readPlain (now (s .entry)) (now (openings .entry)) (now (words .entry)) ⌝ }
+{
+    let c = recording::check(s);
+    match c {
+        Outcome::Refused(r) => ReadOutcome::Refused(r),
+        Outcome::Accepted => {
+            let trucks = recording::truck_count(s);
+            let rounds = recording::round_count(s);
+            let n = trucks as usize;
+            let count = rounds as usize * (3 + n);
+            if (openings.len() < n) | (words.len() < count) {
+                return ReadOutcome::Refused(Refusal::ShortBuffer);
+            }
+            fill_openings(s, openings, trucks);
+            fill_words(s, words, n, count);
+            ReadOutcome::Plain { trucks, rounds }
+        }
+    }
+}

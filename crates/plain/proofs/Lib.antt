@@ -2,3 +2,4 @@ pub mod Tests
 pub mod Outcomes
 pub mod Fills
 pub mod Answers
+pub mod Putting

@@ -9,6 +9,7 @@ ghost use Rattle.basics.specs.Lists.{first, filled};
 ghost use Rattle.recording.specs.Packed.{trucksOf, roundsOf, openingAt, wordAt, packed, bytesFor};
 ghost use Rattle.recording.specs.Checks.{highBit, badOpenings, badWords, ownLoss, roundsCheck, roundCheck, plainCheck};
 ghost use Rattle.plain.specs.Forms.{afterRead, readPlain, afterWrite, writePlain};
+ghost use Rattle.plain.specs.Steps.{over, byteOf, packedByte, fieldWidth, fieldValue};
 use refusals::Outcome;
 use refusals::Refusal;
 
@@ -190,5 +191,64 @@ pub fn read(s: &[u8], openings: &mut [u8], words: &mut [u32]) -> ReadOutcome
             fill_words(s, words, n, count);
             ReadOutcome::Plain { trucks, rounds }
         }
+    }
+}
+
+// The bits that do not fill a byte yet, as a number of `have` digits, and the place of the byte that they begin.
+struct Pending {
+    acc: u64,
+    have: usize,
+    at: usize,
+}
+
+// Puts out the bytes that the first `have` digits of `acc` fill.
+fn put_bytes(buf: &mut [u8], at: usize, acc: u64, have: usize)
+    requires { ⌜ (have < 64) × (at + have / 8 ≤ length (now buf)) ⌝ }
+    ensures { λ r. ⌜ now (buf .exit) ≡ over (byteOf acc have) at (have / 8) (now (buf .entry)) ⌝ }
+{
+    let m = have / 8;
+    let mut j = 0;
+    while j < m {
+        buf[at + j] = ((acc >> (have - 8 * (j + 1))) % 256) as u8;
+        j += 1;
+    }
+}
+
+// Adds the k digits of v, puts out the bytes that are full, and keeps the rest.
+fn put(buf: &mut [u8], p: Pending, v: u32, k: usize) -> Pending
+    requires { ⌜ (p .have < 8) × ((k ≤ 32) × ((p .acc < 2 ^ p .have) × ((v < 2 ^ k) × (p .at + (p .have + k) / 8 ≤ length (now buf))))) ⌝ }
+    ensures { λ r. ⌜ (now (buf .exit) ≡ over (byteOf (p .acc * 2 ^ k + v) (p .have + k)) (p .at) ((p .have + k) / 8) (now (buf .entry)))
+        × ((r .acc ≡ (p .acc * 2 ^ k + v) % 2 ^ ((p .have + k) % 8)) × ((r .have ≡ (p .have + k) % 8) × (r .at ≡ p .at + (p .have + k) / 8))) ⌝ }
+{
+    let at = p.at;
+    let have = p.have + k;
+    let acc = (p.acc << k) + (v as u64);
+    put_bytes(buf, at, acc, have);
+    Pending {
+        acc: bitreader::low_bits(acc, have % 8),
+        have: have % 8,
+        at: at + have / 8,
+    }
+}
+
+struct Field {
+    value: u32,
+    width: usize,
+}
+
+// Field j after the header: the openings, and then the words, whose first bit is worth most here.
+fn field_at(n: usize, openings: &[u8], words: &[u32], j: usize) -> Field
+    requires { ⌜ (n ≤ 32) × ((length (now openings) ≡ n) × (j < n + length (now words))) ⌝ }
+    ensures { λ r. ⌜ (r .value ≡ fieldValue n (now (openings .entry)) (now (words .entry)) j) × (r .width ≡ fieldWidth n j) ⌝ }
+{
+    if j < n {
+        return Field {
+            value: openings[j] as u32,
+            width: 4,
+        };
+    }
+    Field {
+        value: bitreader::mirror(words[j - n], n),
+        width: n,
     }
 }

@@ -4,7 +4,7 @@ use mathlib.Core.Bool.{Bool, true, false, _||_}
 use mathlib.Core.List.{List, _++_}
 use Prim.Native.Nat.{ℕ, _+_, _*_, _-_, _≤_, _<_}
 use native.Mathlib.Omega.{arith}
-use borrow.Author.Tests.{ltb-false}
+use borrow.Author.Tests.{ltb-false, lt-ltb, le-ltb}
 use lib.Dec.{ltb}
 use lib.ListN.{length, drop}
 use Rattle.refusals.specs.declared.Refusal.{Refusal}
@@ -12,12 +12,13 @@ use Rattle.refusals.specs.declared.Refusal.the-variants.{ShortBuffer}
 use Rattle.refusals.specs.declared.Outcome.{Outcome}
 use Rattle.refusals.specs.declared.Outcome.the-variants.{Accepted, Refused}
 use Rattle.basics.specs.Lists.{filled}
-use Rattle.recording.specs.Packed.{trucksOf, roundsOf, openingAt, wordAt, bytesFor, packed}
+use Rattle.recording.specs.Packed.{trucksOf, roundsOf, openingAt, wordAt, bytesFor, pack, packed}
 use Rattle.recording.specs.Checks.{refuse, andThen, checkOf, plainCheck}
 use Rattle.recording.proofs.Accepted.{GoodBytes, bytes-good}
 use Rattle.plain.specs.declared.ReadOutcome.the-variants.{Plain, Refused as NotRead}
 use Rattle.plain.specs.declared.WriteOutcome.the-variants.{Bytes, Refused as NotWritten}
 use Rattle.plain.specs.Forms.{AfterRead, afterRead, shortBuffers, readCheck, readAs, readPlain, AfterWrite, afterWrite, writeCheck, writeAs, writePlain}
+use Rattle.plain.specs.Steps.{packedByte}
 
 or-first : (a b : Bool) → (a || b) ≡ false → a ≡ false
 or-first true b h = h
@@ -58,3 +59,31 @@ module _ (s openings words : List ℕ) (f : Outcome) (n R : ℕ) (checked : f �
         ap₂ (λ (a b : List ℕ). afterRead (Plain n R) a b) p q
         ∙ ap₂ (λ (a c : ℕ). afterRead (Plain a c) (filled (openingAt s) a openings) (filled (wordAt s) (c * (3 + a)) words)) counted played
         ∙ read-by false room
+
+-- ---- writing
+module _ (n R : ℕ) (openings words buf : List ℕ) (f : Outcome) (checked : f ≡ plainCheck n R openings words) where
+  pub write-refused : (r : Refusal) → f ≡ Refused r → afterWrite (NotWritten r) buf ≡ writePlain n R openings words buf
+  unfolding writePlain writeCheck
+  write-refused r h =
+      ap (λ (o : Outcome). writeAs (andThen o (refuse (ltb (length buf) (bytesFor n R)) ShortBuffer Accepted)) n R openings words buf) (sym h ∙ checked)
+
+  module _ (m : ℕ) (kept : f ≡ Accepted) (sized : m ≡ bytesFor n R) where
+    write-by : (b : Bool) → ltb (length buf) m ≡ b → writeAs (refuse b ShortBuffer Accepted) n R openings words buf ≡ writePlain n R openings words buf
+    unfolding writePlain writeCheck
+    write-by b h =
+        ap₂ (λ (o : Outcome) (x : Bool). writeAs (andThen o (refuse x ShortBuffer Accepted)) n R openings words buf) (sym kept ∙ checked)
+        (sym h ∙ ap (ltb (length buf)) sized)
+
+    pub write-9 : length buf < m → afterWrite (NotWritten ShortBuffer) buf ≡ writePlain n R openings words buf
+    write-9 h = write-by true (lt-ltb (length buf) m h)
+
+    pub plain-kept : plainCheck n R openings words ≡ Accepted
+    plain-kept = sym checked ∙ kept
+
+    module _ (room : m ≤ length buf) where
+      pub bytes-room : bytesFor n R ≤ length buf
+      bytes-room = omega arith
+
+      pub write-0 : (l : List ℕ) → l ≡ filled (packedByte n R openings words) (bytesFor n R) buf → afterWrite (Bytes m) l ≡ writePlain n R openings words buf
+      unfolding filled packed pack
+      write-0 l e = ap₂ (λ (k : ℕ) (x : List ℕ). afterWrite (Bytes k) x) sized e ∙ write-by false (le-ltb (length buf) m room)

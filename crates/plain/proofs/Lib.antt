@@ -3,3 +3,4 @@ pub mod Outcomes
 pub mod Fills
 pub mod Answers
 pub mod Putting
+pub mod Fields

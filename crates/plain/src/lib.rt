@@ -252,3 +252,55 @@ fn field_at(n: usize, openings: &[u8], words: &[u32], j: usize) -> Field
         width: n,
     }
 }
+
+// Puts out all fields, and zeros up to the end of the last byte.
+fn put_all(buf: &mut [u8], trucks: u8, rounds: u16, openings: &[u8], words: &[u32])
+    requires { ⌜ (plainCheck trucks rounds (now openings) (now words) ≡ Accepted) × (bytesFor trucks rounds ≤ length (now buf)) ⌝ }
+    ensures { λ r. ⌜ now (buf .exit) ≡ filled (packedByte trucks rounds (now (openings .entry)) (now (words .entry))) (bytesFor trucks rounds) (now (buf .entry)) ⌝ }
+{
+    let n = trucks as usize;
+    let fields = n + words.len();
+    let header = trucks as u32 * 1024 + rounds as u32;
+    let mut p = put(
+        buf,
+        Pending {
+            acc: 0,
+            have: 0,
+            at: 0,
+        },
+        header,
+        16,
+    );
+    let mut j = 0;
+    while j < fields {
+        let f = field_at(n, openings, words, j);
+        p = put(buf, p, f.value, f.width);
+        j += 1;
+    }
+    let left = (8 - p.have) % 8;
+    put(buf, p, 0, left);
+}
+
+// Writing: refusals 2, 3, 7, 8, 6, then 9.
+pub fn write(
+    trucks: u8,
+    rounds: u16,
+    openings: &[u8],
+    words: &[u32],
+    buf: &mut [u8],
+) -> WriteOutcome
+    ensures { λ r. ⌜ afterWrite r (now (buf .exit)) ≡ writePlain trucks rounds (now (openings .entry)) (now (words .entry)) (now (buf .entry)) ⌝ }
+{
+    let c = check_plain(trucks, rounds, openings, words);
+    match c {
+        Outcome::Refused(r) => WriteOutcome::Refused(r),
+        Outcome::Accepted => {
+            let m = recording::bytes_for(trucks, rounds);
+            if buf.len() < m {
+                return WriteOutcome::Refused(Refusal::ShortBuffer);
+            }
+            put_all(buf, trucks, rounds, openings, words);
+            WriteOutcome::Bytes(m)
+        }
+    }
+}

@@ -29,7 +29,7 @@ pub numAt-one : (f : ℕ → ℕ) (p : ℕ) → numAt f p 1 ≡ f p
 unfolding numAt
 numAt-one f p = omega arith ∙ ap f (let e : p + 0 ≡ p = omega arith in e)
 
-numAt-zero : (f : ℕ → ℕ) (p k : ℕ) → ((i : ℕ) → i < k → f (p + i) ≡ 0) → numAt f p k ≡ 0
+pub numAt-zero : (f : ℕ → ℕ) (p k : ℕ) → ((i : ℕ) → i < k → f (p + i) ≡ 0) → numAt f p k ≡ 0
 unfolding numAt
 numAt-zero f p zero h = refl
 numAt-zero f p (suc k) h = ap₂ (λ (a b : ℕ). a * 2 + b) (numAt-zero f p k (λ i l. h i (omega arith))) (h k (omega arith))

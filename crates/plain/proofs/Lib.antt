@@ -4,3 +4,4 @@ pub mod Fills
 pub mod Answers
 pub mod Putting
 pub mod Fields
+pub mod RoundTrip

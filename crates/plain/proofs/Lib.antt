@@ -1,0 +1,7 @@
+pub mod Tests
+pub mod Outcomes
+pub mod Fills
+pub mod Answers
+pub mod Putting
+pub mod Fields
+pub mod RoundTrip

@@ -145,7 +145,7 @@ numAt-fits f bits p k m h = omega (arith, numAt-lt f bits p k, pow-mono {i = k} 
 -- ---- bytes
 pub bitAt-lt : (s : List ℕ) (p : ℕ) → bitAt s p < 2
 unfolding bitAt
-bitAt-lt s p = digit-lt (getD s (p / 8) 0) (7 - p % 8)
+bitAt-lt s p = mod-lt _ (lit< tt)
 
 -- bit i of byte q
 pub bitAt-byte : (s : List ℕ) (q i : ℕ) → i < 8 → bitAt s (8 * q + i) ≡ digit (getD s q 0) (8 - suc i)

@@ -50,6 +50,14 @@ put-fits acc have v k h l a b = omega (arith, put-below acc have v k h l, pow-mo
 pub put-shift : (acc have k : ℕ) → acc < 2 ^ have → have < 8 → k ≤ 32 → acc * 2 ^ k % 2 ^ 64 ≡ acc * 2 ^ k
 put-shift acc have k h a b = shl-exact have k 64 h (omega arith)
 
+-- so the step puts out, and keeps, what the power says
+module _ (acc v k h : ℕ) (e : acc * 2 ^ k % 2 ^ 64 ≡ acc * 2 ^ k) where
+  pub unshifted-bytes : (at : ℕ) (d l : List ℕ) → l ≡ over (byteOf (acc * 2 ^ k % 2 ^ 64 + v) h) at (h / 8) d → l ≡ over (byteOf (acc * 2 ^ k + v) h) at (h / 8) d
+  unshifted-bytes at d l p = p ∙ ap (λ (x : ℕ). over (byteOf (x + v) h) at (h / 8) d) e
+
+  pub unshifted-rest : (r : ℕ) → r ≡ (acc * 2 ^ k % 2 ^ 64 + v) % 2 ^ (h % 8) → r ≡ (acc * 2 ^ k + v) % 2 ^ (h % 8)
+  unshifted-rest r p = p ∙ ap (λ (x : ℕ). (x + v) % 2 ^ (h % 8)) e
+
 module _ (f : ℕ → ℕ) (bits : (i : ℕ) → f i < 2) (at have k acc v : ℕ) (kept : acc ≡ numAt f (8 * at) have) (added : v ≡ numAt f (8 * at + have) k) where
   joined : acc * 2 ^ k + v ≡ numAt f (8 * at) (have + k)
   joined = ap₂ (λ (a b : ℕ). a * 2 ^ k + b) kept added ∙ sym (numAt-add f (8 * at) have k)

@@ -1,10 +1,8 @@
-use mathlib.Core.Path.{_≡_, refl, ap, _∙_}
-use Prim.Native.Nat.{ℕ, _+_, _*_, _/_, _%_, _^_}
+use mathlib.Core.Path.{refl}
+use Prim.Native.Nat.{ℕ, _+_}
 use native.Mathlib.Omega.{arith}
 use borrow.Author.Needs.{needs}
-use lib.ListN.{length}
-use Rattle.plain.specs.Steps.{over, byteOf}
-use Rattle.plain.proofs.Putting.{put-shift, put-fits}
+use Rattle.plain.proofs.Putting.{put-shift, put-fits, unshifted-bytes, unshifted-rest}
 use Rattle.plain.proofs.put.Statement.{statement}
 use Rattle.plain.proofs.put.Tie as tie
 
@@ -21,9 +19,9 @@ returns c =
     let s = c .before .before .before .before .before .before .before .before in
     let p = s .args .p in
     let k : ℕ = s .args .k in
-    let h : ℕ = p .have + k in
+    let w = c .before .before .before .put-bytes in
     let e = put-shift (p .acc) (p .have) k (s .pre .1 .1 .0) (s .pre .0) (s .pre .1 .0) in
-    (c .before .before .before .put-bytes .ensures ∙ ap (λ (x : ℕ). over (byteOf (x + s .args .v) h) (p .at) (h / 8) (s .args .buf .now)) e, (c .low-bits .ensures ∙ ap (λ (x : ℕ). (x + s .args .v) % 2 ^ (h % 8)) e, (refl, refl)))
+    (unshifted-bytes (p .acc) (s .args .v) k (p .have + k) e (p .at) (s .args .buf .now) (w .last .0) (w .ensures), (unshifted-rest (p .acc) (s .args .v) k (p .have + k) e (c .low-bits .result) (c .low-bits .ensures), (refl, refl)))
 
 pub put-spec : {M : Type 1} → statement M
 put-spec =

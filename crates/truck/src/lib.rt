@@ -3,7 +3,7 @@ use protocol::Heard;
 use protocol::State;
 use protocol::Truck;
 ghost use mathlib.Core.Path.{_≡_};
-ghost use Rattle.protocol.specs.Rules.{isOne, stops, proposed, vetoed, decides};
+ghost use Rattle.protocol.specs.Rules.{runs, vetoes, isOne, isSeveral, stops, proposed, vetoed, decides};
 ghost use Rattle.truck.specs.Events.{happened, turned};
 
 // What a round is to a running truck.
@@ -14,6 +14,36 @@ pub enum Event {
     Proposals { mark: bool, heard: Heard, least: u8 },
     // A veto round: its mark, and whether it heard a veto.
     Vetoes { mark: bool, veto: bool },
+}
+
+// The truck is running.
+pub fn runs(t: Truck) -> bool
+    ensures { λ r. ⌜ r ≡ runs t ⌝ }
+{
+    let state = t.state;
+    match state {
+        State::Running => true,
+        State::Stopped(_) => false,
+        State::Decided(_) => false,
+    }
+}
+
+fn is_several(heard: Heard) -> bool
+    ensures { λ r. ⌜ r ≡ isSeveral heard ⌝ }
+{
+    match heard {
+        Heard::Nothing => false,
+        Heard::One => false,
+        Heard::Several => true,
+    }
+}
+
+// What it heard in a proposal round makes the truck veto in the next.
+pub fn vetoes(t: Truck) -> bool
+    ensures { λ r. ⌜ r ≡ vetoes t ⌝ }
+{
+    let heard = t.heard;
+    t.mark | is_several(heard)
 }
 
 fn after_stop(t: Truck, round: u16) -> Truck

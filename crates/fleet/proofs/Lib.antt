@@ -1,0 +1,6 @@
+pub mod Laws
+pub mod Members
+pub mod ByCrusher
+pub mod Airs
+pub mod Turns
+pub mod Loops

@@ -1,0 +1,3 @@
+// Fleets of trucks: started, stepped, run through a recording, and graded.
+mod hearing;
+mod round;

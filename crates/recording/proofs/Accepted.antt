@@ -15,7 +15,7 @@ use Rattle.basics.specs.Lists.{someBelow}
 use Rattle.basics.proofs.Laws.{someBelow-none, none-someBelow}
 use Rattle.recording.specs.Packed.{bitAt, trucksOf, roundsOf, wordAt, bitsFor, bytesFor, roundWords}
 use Rattle.recording.specs.Checks.{refuse, andThen, tooShort, badTrucks, badRounds, badLength, endBit, ownBit, ownLoss, badOpenings, badWords, highBit, frameCheck, ownCheck, checkOf, roundsCheck, plainCheck}
-use Rattle.recording.proofs.Digits.{digit-lt}
+use Rattle.bitreader.proofs.Digits.{bitAt-lt}
 
 -- ---- a refusal and what comes after it
 refused-not : {A : Type 0} (r : Refusal) → Refused r ≡ Accepted → A
@@ -175,10 +175,6 @@ module _ (n R : ℕ) (openings words : List ℕ) where
       (good-rounds n R words (g .rounds-good))))
 
 -- ---- a recording
-pub bitAt-lt : (s : List ℕ) (p : ℕ) → bitAt s p < 2
-unfolding bitAt
-bitAt-lt s p = digit-lt (getD s (p / 8) 0) (7 - p % 8)
-
 pub record GoodFrame (s : List ℕ) : Type 0 where
   pub long : 2 ≤ length s
   pub some : 0 < trucksOf s

@@ -1,5 +1,6 @@
-pub mod Digits
 pub mod Accepted
 pub mod Packing
 pub mod RoundTrip
 pub mod Rounds
+pub mod Sizes
+pub mod Searches

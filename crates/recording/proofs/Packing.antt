@@ -13,8 +13,7 @@ use Rattle.basics.specs.Bits.{digit}
 use Rattle.basics.specs.Lists.{tab}
 use Rattle.basics.proofs.Laws.{length-tab, getD-tab, tab-ext}
 use Rattle.recording.specs.Packed.{bitAt, numAt, bitsFor, bytesFor, pack, packBit, openingBit, roundBit}
-use Rattle.recording.proofs.Digits.{digit-lt, numAt-digit, numAt-is, numAt-lt, numAt-ext}
-use Rattle.recording.proofs.Accepted.{bitAt-lt}
+use Rattle.bitreader.proofs.Digits.{digit-lt, numAt-digit, numAt-lt, numAt-ext, byte-is}
 
 pub length-pack : (f : ℕ → ℕ) (m : ℕ) → length (pack f m) ≡ m
 unfolding pack
@@ -32,14 +31,6 @@ bitAt-pack f bits m p h =
     ap (λ (b : ℕ). digit b (7 - p % 8)) (getD-tab (λ q. numAt f (8 * q) 8) m (p / 8) 0 (omega arith))
     ∙ numAt-digit f bits (8 * (p / 8)) 8 (7 - p % 8) (omega arith)
     ∙ ap f (omega arith)
-
--- bit i of byte q
-pub bitAt-byte : (s : List ℕ) (q i : ℕ) → i < 8 → bitAt s (8 * q + i) ≡ digit (getD s q 0) (8 - suc i)
-unfolding bitAt
-bitAt-byte s q i l = ap₂ (λ (a b : ℕ). digit (getD s a 0) b) (omega arith) (omega arith)
-
-pub byte-is : (s : List ℕ) (q : ℕ) → getD s q 0 < 256 → numAt (bitAt s) (8 * q) 8 ≡ getD s q 0
-byte-is s q h = numAt-is (bitAt s) (bitAt-lt s) (8 * q) 8 (getD s q 0) h (bitAt-byte s q)
 
 -- bytes are what their bits pack to
 pub pack-bitAt : (s : List ℕ) (m : ℕ) → length s ≡ m → ((q : ℕ) → q < m → getD s q 0 < 256) → pack (bitAt s) m ≡ s

@@ -16,8 +16,8 @@ use Rattle.basics.specs.Lists.{tab}
 use Rattle.basics.proofs.Laws.{length-tab, getD-tab, tab-ext, tab-getD}
 use Rattle.recording.specs.Packed.{bitAt, numAt, rowAt, trucksOf, roundsOf, openingAt, openingsOf, wordAt, wordsOf, roundAt, bitsFor, bytesFor, pack, packBit, packed, openingBit, roundBit, joined}
 use Rattle.recording.specs.Checks.{ownBit, checkOf, roundsCheck, roundCheck, plainCheck}
-use Rattle.recording.proofs.Digits.{numAt-is, numAt-lt, numAt-digit, rowAt-is, rowAt-lt, rowAt-digit}
-use Rattle.recording.proofs.Accepted.{GoodOpenings, GoodRounds, GoodPlain, GoodFrame, GoodBytes, plain-good, good-plain, bytes-good, good-bytes, rounds-good, good-rounds, bitAt-lt}
+use Rattle.bitreader.proofs.Digits.{bitAt-lt, numAt-is, numAt-lt, numAt-digit, rowAt-is, rowAt-lt, rowAt-digit}
+use Rattle.recording.proofs.Accepted.{GoodOpenings, GoodRounds, GoodPlain, GoodFrame, GoodBytes, plain-good, good-plain, bytes-good, good-bytes, rounds-good, good-rounds}
 use Rattle.recording.proofs.Packing.{length-pack, pack-ext, bitAt-pack, pack-bitAt, pack-byte, bits-flat, bytes-hold, word-ends, bit-trucks, bit-rounds, bit-openings, bit-words, bit-end, packBit-lt}
 
 -- ---- own loss bits by round and truck

@@ -6,20 +6,7 @@ use lib.Dec.{ltb}
 use lib.ListN.{getD}
 use Rattle.basics.specs.Bits.{digit}
 use Rattle.basics.specs.Lists.{tab}
-
--- bit p of the bytes, the most significant bit of the first byte being bit 0; 0 past the end
-unfoldable pub bitAt : List ℕ → ℕ → ℕ
-bitAt s p = digit (getD s (p / 8) 0) (7 - p % 8)
-
--- k bits from place p as a number, the first worth most
-unfoldable pub numAt : (ℕ → ℕ) → ℕ → ℕ → ℕ
-numAt f p zero = 0
-numAt f p (suc k) = numAt f p k * 2 + f (p + k)
-
--- k bits from place p as a word of plain form, the first worth 1: truck j at the bit worth 2 to the j
-unfoldable pub rowAt : (ℕ → ℕ) → ℕ → ℕ → ℕ
-rowAt f p zero = 0
-rowAt f p (suc k) = rowAt f p k + f (p + k) * 2 ^ k
+unfoldable pub use Rattle.bitreader.specs.Bits.{bitAt, numAt, rowAt}
 
 -- truck count n: 6 bits
 unfoldable pub trucksOf : List ℕ → ℕ

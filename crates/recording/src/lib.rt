@@ -1,1 +1,144 @@
-// The packed recording: its check, its reader and its writer.
+// A packed recording: the counts of its header, its openings, and the check 1 to 6 that reading, running and grading share.
+ghost use mathlib.Core.Path.{_≡_};
+ghost use mathlib.Core.Bool.{false};
+ghost use Prim.Native.Nat.{_+_, _*_, _-_, _<_, _≤_, _^_};
+ghost use lib.Dec.{eqb};
+ghost use lib.ListN.{length};
+ghost use Rattle.basics.specs.Lists.{first, someBelow};
+ghost use Rattle.recording.specs.Packed.{bitAt, trucksOf, roundsOf, openingAt, bitsFor, bytesFor, wordAt};
+ghost use Rattle.recording.specs.Checks.{badTrucks, endBit, ownLoss, frameCheck, ownCheck, checkOf};
+use refusals::Outcome;
+use refusals::Refusal;
+
+// The header's truck count.
+pub fn truck_count(s: &[u8]) -> u8
+    ensures { λ r. ⌜ r ≡ trucksOf (now (s .entry)) ⌝ }
+{
+    let t = bitreader::read_at(s, 0, 6);
+    t.value as u8
+}
+
+// The header's round count.
+pub fn round_count(s: &[u8]) -> u16
+    ensures { λ r. ⌜ r ≡ roundsOf (now (s .entry)) ⌝ }
+{
+    let t = bitreader::read_at(s, 6, 10);
+    t.value as u16
+}
+
+// The opening of a truck.
+pub fn opening(s: &[u8], i: u8) -> u8
+    ensures { λ r. ⌜ r ≡ openingAt (now (s .entry)) i ⌝ }
+{
+    let t = bitreader::read_at(s, 16 + 4 * (i as usize), 4);
+    t.value as u8
+}
+
+// The bits of a recording of these counts.
+pub fn bits_for(trucks: u8, rounds: u16) -> usize
+    ensures { λ r. ⌜ r ≡ bitsFor trucks rounds ⌝ }
+{
+    let n = trucks as usize;
+    16 + 4 * n + rounds as usize * (3 * n + n * n)
+}
+
+pub fn bytes_for(trucks: u8, rounds: u16) -> usize
+    ensures { λ r. ⌜ r ≡ bytesFor trucks rounds ⌝ }
+{
+    (bits_for(trucks, rounds) + 7) / 8
+}
+
+// Refusal 2.
+pub fn bad_trucks(n: u8) -> bool
+    ensures { λ r. ⌜ r ≡ badTrucks n ⌝ }
+{
+    (n == 0) | (32 < n)
+}
+
+// Refusal 5: whether a bit after the first `total` is 1.
+fn end_bit(s: &[u8], total: usize) -> bool
+    requires { ⌜ (length (now s) < 2 ^ 32) × ((total ≤ 8 * length (now s)) × (8 * length (now s) ≤ total + 7)) ⌝ }
+    ensures { λ r. ⌜ r ≡ someBelow (λ j. eqb (bitAt (now (s .entry)) (total + j)) 1) (8 * length (now (s .entry)) - total) ⌝ }
+{
+    let t = bitreader::read_at(s, total, 8 * s.len() - total);
+    let v = t.value;
+    v != 0
+}
+
+// Refusals 1 to 5.
+pub fn check_frame(s: &[u8]) -> Outcome
+    ensures { λ r. ⌜ r ≡ frameCheck (now (s .entry)) ⌝ }
+{
+    if s.len() < 2 {
+        return Outcome::Refused(Refusal::ShortRecording);
+    }
+    let n = truck_count(s);
+    if bad_trucks(n) {
+        return Outcome::Refused(Refusal::TruckCount);
+    }
+    let rounds = round_count(s);
+    if 400 < rounds {
+        return Outcome::Refused(Refusal::RoundCount);
+    }
+    if s.len() != bytes_for(n, rounds) {
+        return Outcome::Refused(Refusal::RecordingLength);
+    }
+    if end_bit(s, bits_for(n, rounds)) {
+        return Outcome::Refused(Refusal::EndBit);
+    }
+    Outcome::Accepted
+}
+
+// The lowest truck of a round whose own loss bit is 1, or n where none is. The first own bit stands at `at`, and each other one n + 1 bits after the one before it.
+fn own_truck(s: &[u8], at: usize, n: usize) -> usize
+    requires { ⌜ (n ≤ 32) × (at < 2 ^ 32) ⌝ }
+    ensures { λ r. ⌜ r ≡ first (λ i. eqb (bitAt (now (s .entry)) (at + i * (n + 1))) 1) n ⌝ }
+{
+    let mut i = 0;
+    let mut p = at;
+    while i < n {
+        let t = bitreader::read_at(s, p, 1);
+        let b = t.value;
+        if b == 1 {
+            return i;
+        }
+        p = p + n + 1;
+        i += 1;
+    }
+    n
+}
+
+// Refusal 6.
+fn own_loss(s: &[u8], n: usize, rounds: usize) -> bool
+    requires { ⌜ (n ≡ trucksOf (now s)) × ((n ≤ 32) × (rounds ≤ 400)) ⌝ }
+    ensures { λ r. ⌜ r ≡ ownLoss (wordAt (now (s .entry))) n rounds ⌝ }
+{
+    let size = 3 * n + n * n;
+    let mut at = 16 + 7 * n;
+    let mut r = 0;
+    while r < rounds {
+        let i = own_truck(s, at, n);
+        if i < n {
+            return true;
+        }
+        at = at + size;
+        r += 1;
+    }
+    false
+}
+
+// Refusals 1 to 6.
+pub fn check(s: &[u8]) -> Outcome
+    ensures { λ r. ⌜ r ≡ checkOf (now (s .entry)) ⌝ }
+{
+    let f = check_frame(s);
+    match f {
+        Outcome::Refused(r) => Outcome::Refused(r),
+        Outcome::Accepted => {
+            if own_loss(s, truck_count(s) as usize, round_count(s) as usize) {
+                return Outcome::Refused(Refusal::OwnLoss);
+            }
+            Outcome::Accepted
+        }
+    }
+}

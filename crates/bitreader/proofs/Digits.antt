@@ -1,13 +1,15 @@
 -- Binary digits, and the two numbers that a run of bits makes: `numAt` with the first bit worth most, `rowAt` with the first bit worth 1.
 use mathlib.Core.Path.{_≡_, refl, ap, ap₂, sym, _∙_}
 use Prim.Native.Nat.{ℕ, zero, suc, _+_, _*_, _-_, _/_, _%_, _^_, _≤_, _<_}
-use native.Mathlib.Nat.{mod-lt, mod-eq-of-lt, mul-le-mul-right, pow-suc, div-one, div-div-eq-div-mul, add-zero, mul-comm}
+use native.Mathlib.Nat.{mod-lt, mod-eq-of-lt, mul-le-mul-right, pow-suc, div-one, div-div-eq-div-mul, add-zero, mul-comm, add-comm}
 use native.Mathlib.Decide.{decLt}
 use native.Mathlib.Omega.{arith}
 use lib.Dec.{lit<}
-use lib.Pow.{mod-pow-add, mod-mod-pow, field, high, low, pow-pos, pow-add}
+use lib.Pow.{mod-pow-add, mod-mod-pow, field, high, low, pow-mono, pow-add, shl-exact, shr-shr}
 use Rattle.basics.specs.Bits.{digit}
-use Rattle.recording.specs.Packed.{numAt, rowAt}
+use mathlib.Core.List.{List}
+use lib.ListN.{getD}
+use Rattle.bitreader.specs.Bits.{bitAt, numAt, rowAt, mirrored}
 
 pub digit-lt : (v j : ℕ) → digit v j < 2
 digit-lt v j = mod-lt (v / 2 ^ j) (lit< tt)
@@ -128,3 +130,110 @@ rowAt-add f p a (suc b) =
     ap (rowAt f p) (let e : a + suc b ≡ suc (a + b) = omega arith in e)
     ∙ ap₂ (λ (x y : ℕ). x + y) (rowAt-add f p a b) (ap₂ (λ (x y : ℕ). f x * y) (let e : p + (a + b) ≡ p + a + b = omega arith in e) (pow-add 2 a b))
     ∙ omega arith
+
+-- the middle one of three parts
+pub numAt-part : (f : ℕ → ℕ) → ((i : ℕ) → f i < 2) → (p a b c : ℕ) → numAt f p (a + b + c) / 2 ^ c % 2 ^ b ≡ numAt f (p + a) b
+numAt-part f bits p a b c =
+    ap (λ (x : ℕ). x / 2 ^ c % 2 ^ b) (numAt-add f p (a + b) c)
+    ∙ ap (λ (x : ℕ). x % 2 ^ b) (high (numAt f p (a + b)) c (numAt-lt f bits (p + (a + b)) c))
+    ∙ ap (λ (x : ℕ). x % 2 ^ b) (numAt-add f p a b)
+    ∙ low (numAt f p a) b (numAt-lt f bits (p + a) b)
+
+pub numAt-fits : (f : ℕ → ℕ) → ((i : ℕ) → f i < 2) → (p k m : ℕ) → k ≤ m → numAt f p k < 2 ^ m
+numAt-fits f bits p k m h = omega (arith, numAt-lt f bits p k, pow-mono {i = k} {j = m} h)
+
+-- ---- bytes
+pub bitAt-lt : (s : List ℕ) (p : ℕ) → bitAt s p < 2
+unfolding bitAt
+bitAt-lt s p = digit-lt (getD s (p / 8) 0) (7 - p % 8)
+
+-- bit i of byte q
+pub bitAt-byte : (s : List ℕ) (q i : ℕ) → i < 8 → bitAt s (8 * q + i) ≡ digit (getD s q 0) (8 - suc i)
+unfolding bitAt
+bitAt-byte s q i l = ap₂ (λ (a b : ℕ). digit (getD s a 0) b) (omega arith) (omega arith)
+
+pub byte-is : (s : List ℕ) (q : ℕ) → getD s q 0 < 256 → numAt (bitAt s) (8 * q) 8 ≡ getD s q 0
+byte-is s q h = numAt-is (bitAt s) (bitAt-lt s) (8 * q) 8 (getD s q 0) h (bitAt-byte s q)
+
+-- one byte more
+pub byte-more : (s : List ℕ) (b i v x : ℕ) → x < 256 → v ≡ numAt (bitAt s) (8 * b) (8 * i) → x ≡ getD s (b + i) 0 → v * 256 + x ≡ numAt (bitAt s) (8 * b) (8 * (i + 1))
+byte-more s b i v x h e g =
+    ap₂ (λ (y z : ℕ). y * 256 + z) e
+    (g ∙ sym (byte-is s (b + i) (rw (← g) h)) ∙ ap (λ (p : ℕ). numAt (bitAt s) p 8) (let o : 8 * (b + i) ≡ 8 * b + 8 * i = omega arith in o))
+    ∙ sym (numAt-add (bitAt s) (8 * b) (8 * i) 8)
+    ∙ ap (numAt (bitAt s) (8 * b)) (let o : 8 * i + 8 ≡ 8 * (i + 1) = omega arith in o)
+
+-- k bits from any place, out of the bytes in which they stand
+pub gathered : (s : List ℕ) (at k : ℕ)
+    → numAt (bitAt s) (8 * (at / 8)) (8 * ((at % 8 + k + 7) / 8)) / 2 ^ (8 * ((at % 8 + k + 7) / 8) - at % 8 - k) % 2 ^ k ≡ numAt (bitAt s) at k
+gathered s at k =
+    let all : ℕ = 8 * ((at % 8 + k + 7) / 8) in
+    let past : ℕ = all - at % 8 - k in
+    ap (λ (n : ℕ). numAt (bitAt s) (8 * (at / 8)) n / 2 ^ past % 2 ^ k) (let e : all ≡ at % 8 + k + past = omega arith in e)
+    ∙ numAt-part (bitAt s) (bitAt-lt s) (8 * (at / 8)) (at % 8) k past
+    ∙ ap (λ (p : ℕ). numAt (bitAt s) p k) (omega arith)
+
+-- a shift of 1
+pub one-shifted : (k : ℕ) → k < 64 → 1 * 2 ^ k % 2 ^ 64 ≡ 2 ^ k
+one-shifted k h = shl-exact {a = 1} 1 k 64 (lit< tt) (omega arith) ∙ omega arith
+
+-- ---- digits in reverse
+pub mirrored-lt : (k v : ℕ) → mirrored k v < 2 ^ k
+unfolding mirrored
+mirrored-lt k v = rowAt-lt (λ i. digit v (k - suc i)) (λ i. digit-lt v (k - suc i)) 0 k
+
+pub mirrored-digit : (k v j : ℕ) → j < k → digit (mirrored k v) j ≡ digit v (k - suc j)
+unfolding mirrored
+mirrored-digit k v j h = rowAt-digit (λ i. digit v (k - suc i)) (λ i. digit-lt v (k - suc i)) 0 k j h ∙ ap (λ (i : ℕ). digit v (k - suc i)) (omega arith)
+
+-- digits above the d-th, counted from there
+digit-shr : (v d j : ℕ) → digit v (d + j) ≡ digit (v / 2 ^ d) j
+digit-shr v d j = ap (λ (x : ℕ). x % 2) (sym (shr-shr v d j))
+
+-- each half is reversed, and the halves change places
+pub mirrored-add : (a b v : ℕ) → mirrored (a + b) v ≡ mirrored a (v / 2 ^ b) + mirrored b (v % 2 ^ b) * 2 ^ a
+unfolding mirrored
+mirrored-add a b v =
+    let f : ℕ → ℕ = λ i. digit v (a + b - suc i) in
+    rowAt-add f 0 a b
+    ∙ ap₂ (λ (x y : ℕ). x + y * 2 ^ a)
+    (rowAt-ext f (λ i. digit (v / 2 ^ b) (a - suc i)) 0 0 a
+    (λ i l.
+    ap (digit v) (let e : a + b - suc (0 + i) ≡ b + (a - suc (0 + i)) = omega arith in e) ∙ digit-shr v b (a - suc (0 + i))))
+    (rowAt-ext f (λ i. digit (v % 2 ^ b) (b - suc i)) (0 + a) 0 b
+    (λ i l.
+    ap (digit v) (let e : a + b - suc (0 + a + i) ≡ b - suc (0 + i) = omega arith in e)
+    ∙ sym (digit-mod v b (b - suc (0 + i)) (omega arith))))
+
+pub mirrored-joined : (k v lo hi : ℕ) → lo ≡ mirrored k (v % 2 ^ k) → hi ≡ mirrored k (v / 2 ^ k) → lo * 2 ^ k + hi ≡ mirrored (k + k) v
+mirrored-joined k v lo hi e g = ap₂ (λ (a b : ℕ). a * 2 ^ k + b) e g ∙ sym (mirrored-add k k v ∙ omega arith)
+
+pub mirrored-two : (v : ℕ) → v < 4 → mirrored 2 v ≡ v % 2 * 2 + v / 2
+unfolding mirrored rowAt
+mirrored-two v h = omega arith
+
+-- the digits below the k-th in reverse, out of more digits in reverse
+pub mirrored-below : (k d v : ℕ) → mirrored (d + k) v / 2 ^ d ≡ mirrored k v
+unfolding mirrored
+mirrored-below k d v =
+    ap (λ (x : ℕ). x / 2 ^ d) (mirrored-add d k v ∙ add-comm (mirrored d (v / 2 ^ k)) (mirrored k (v % 2 ^ k) * 2 ^ d))
+    ∙ high (mirrored k (v % 2 ^ k)) d (mirrored-lt d (v / 2 ^ k))
+    ∙ rowAt-ext (λ i. digit (v % 2 ^ k) (k - suc i)) (λ i. digit v (k - suc i)) 0 0 k (λ i l. digit-mod v k (k - suc (0 + i)) (omega arith))
+
+-- between the two numbers of a run of bits
+module _ (f : ℕ → ℕ) (bits : (i : ℕ) → f i < 2) (p k : ℕ) where
+  pub mirrored-num : mirrored k (numAt f p k) ≡ rowAt f p k
+  unfolding mirrored
+  mirrored-num =
+      rowAt-ext (λ i. digit (numAt f p k) (k - suc i)) f 0 p k
+      (λ i l. numAt-digit f bits p k (k - suc (0 + i)) (omega arith) ∙ ap f (omega arith))
+
+  pub num-mirrored : (v : ℕ) → ((i : ℕ) → i < k → f (p + i) ≡ digit v i) → numAt f p k ≡ mirrored k v
+  num-mirrored v h =
+      numAt-is f bits p k (mirrored k v) (mirrored-lt k v)
+      (λ i l. h i l ∙ sym (mirrored-digit k v (k - suc i) (omega arith) ∙ ap (digit v) (omega arith)))
+
+-- the reverse of the lowest w of 32 digits
+pub mirrored-of-32 : (w x y : ℕ) → w ≤ 32 → y ≡ mirrored 32 x → y / 2 ^ (32 - w) ≡ mirrored w x
+mirrored-of-32 w x y h e =
+    ap (λ (a : ℕ). a / 2 ^ (32 - w)) (e ∙ ap (λ (a : ℕ). mirrored a x) (let o : 32 ≡ 32 - w + w = omega arith in o)) ∙ mirrored-below w (32 - w) x

@@ -1,0 +1,60 @@
+-- What reading and writing answer, one law for each return of the code.
+use mathlib.Core.Path.{_≡_, refl, ap, ap₂, sym, _∙_}
+use mathlib.Core.Bool.{Bool, true, false, _||_}
+use mathlib.Core.List.{List, _++_}
+use Prim.Native.Nat.{ℕ, _+_, _*_, _-_, _≤_, _<_}
+use native.Mathlib.Omega.{arith}
+use borrow.Author.Tests.{ltb-false}
+use lib.Dec.{ltb}
+use lib.ListN.{length, drop}
+use Rattle.refusals.specs.declared.Refusal.{Refusal}
+use Rattle.refusals.specs.declared.Refusal.the-variants.{ShortBuffer}
+use Rattle.refusals.specs.declared.Outcome.{Outcome}
+use Rattle.refusals.specs.declared.Outcome.the-variants.{Accepted, Refused}
+use Rattle.basics.specs.Lists.{filled}
+use Rattle.recording.specs.Packed.{trucksOf, roundsOf, openingAt, wordAt, bytesFor, packed}
+use Rattle.recording.specs.Checks.{refuse, andThen, checkOf, plainCheck}
+use Rattle.recording.proofs.Accepted.{GoodBytes, bytes-good}
+use Rattle.plain.specs.declared.ReadOutcome.the-variants.{Plain, Refused as NotRead}
+use Rattle.plain.specs.declared.WriteOutcome.the-variants.{Bytes, Refused as NotWritten}
+use Rattle.plain.specs.Forms.{AfterRead, afterRead, shortBuffers, readCheck, readAs, readPlain, AfterWrite, afterWrite, writeCheck, writeAs, writePlain}
+
+or-first : (a b : Bool) → (a || b) ≡ false → a ≡ false
+or-first true b h = h
+or-first false b h = refl
+
+or-second : (a b : Bool) → (a || b) ≡ false → b ≡ false
+or-second true b h = let z : _≡_ {A = ℕ} 0 1 = cc in absurd (omega arith)
+or-second false b h = h
+
+-- ---- reading
+pub read-refused : (s openings words : List ℕ) (f : Outcome) (r : Refusal) → f ≡ checkOf s → f ≡ Refused r → afterRead (NotRead r) openings words ≡ readPlain s openings words
+unfolding readPlain readCheck
+read-refused s openings words f r e h =
+    ap (λ (o : Outcome). readAs (andThen o (refuse (shortBuffers s (length openings) (length words)) ShortBuffer Accepted)) s openings words) (sym h ∙ e)
+
+module _ (s openings words : List ℕ) (f : Outcome) (n R : ℕ) (checked : f ≡ checkOf s) (kept : f ≡ Accepted) (counted : n ≡ trucksOf s) (played : R ≡ roundsOf s) where
+  pub read-most : n ≤ 32
+  read-most = omega (arith, bytes-good s (sym checked ∙ kept) .frame .most)
+
+  read-by : (b : Bool) → (ltb (length openings) n || ltb (length words) (R * (3 + n))) ≡ b → readAs (refuse b ShortBuffer Accepted) s openings words ≡ readPlain s openings words
+  unfolding readPlain readCheck shortBuffers
+  read-by b h =
+      ap₂ (λ (o : Outcome) (x : Bool). readAs (andThen o (refuse x ShortBuffer Accepted)) s openings words) (sym kept ∙ checked)
+      (sym h ∙ ap₂ (λ (a c : ℕ). ltb (length openings) a || ltb (length words) (c * (3 + a))) counted played)
+
+  pub read-9 : (ltb (length openings) n || ltb (length words) (R * (3 + n))) ≡ true → afterRead (NotRead ShortBuffer) openings words ≡ readPlain s openings words
+  read-9 h = read-by true h
+
+  module _ (room : (ltb (length openings) n || ltb (length words) (R * (3 + n))) ≡ false) where
+    pub openings-room : n ≤ length openings
+    openings-room = ltb-false (length openings) n (or-first (ltb (length openings) n) (ltb (length words) (R * (3 + n))) room)
+
+    pub words-room : R * (3 + n) ≤ length words
+    words-room = ltb-false (length words) (R * (3 + n)) (or-second (ltb (length openings) n) (ltb (length words) (R * (3 + n))) room)
+
+    pub read-0 : (o w : List ℕ) → o ≡ filled (openingAt s) n openings → w ≡ filled (wordAt s) (R * (3 + n)) words → afterRead (Plain n R) o w ≡ readPlain s openings words
+    read-0 o w p q =
+        ap₂ (λ (a b : List ℕ). afterRead (Plain n R) a b) p q
+        ∙ ap₂ (λ (a c : ℕ). afterRead (Plain a c) (filled (openingAt s) a openings) (filled (wordAt s) (c * (3 + a)) words)) counted played
+        ∙ read-by false room

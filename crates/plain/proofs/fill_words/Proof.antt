@@ -1,0 +1,71 @@
+use mathlib.Core.Path.{_≡_, ap, sym, _∙_}
+use Prim.Native.Nat.{ℕ, _≤_, _+_, _*_, _-_}
+use native.Mathlib.Omega.{arith}
+use borrow.Author.Needs.{needs}
+use Rattle.basics.specs.Lists.{filled}
+use Rattle.basics.proofs.Laws.{filled-none}
+use Rattle.recording.specs.Packed.{wordAt}
+use Rattle.plain.proofs.Fills.{fill-length, fill-step, word-there, place-fits}
+use Rattle.plain.proofs.fill_words.Statement.{statement}
+use Rattle.plain.proofs.fill_words.Tie as tie
+
+abbrev Inv-loop : tie.InvT-loop
+Inv-loop s words₀ n count at₀ w₀ words at w = (w ≤ count) × (at ≡ 16 + 4 * n + w * n) × (words ≡ filled (wordAt s) w words₀)
+
+abbrev μ-loop : tie.MeasureT-loop
+μ-loop s words₀ n count at₀ w₀ words at w = count - w
+
+loop-holds : tie.Need-loop-holds Inv-loop μ-loop
+loop-holds c =
+    let a = c .before .before .args in
+    (omega arith, omega arith, sym (filled-none (wordAt (a .s .now)) (a .words .now)))
+
+slice-write-words : tie.Need-slice-write-words Inv-loop μ-loop
+slice-write-words c =
+    let a = c .before .before .before .before .before .args in
+    let l = c .before .before .loop in
+    omega (arith, fill-length (wordAt (a .s .now)) (a .words .now) (l .words) (l .w) (l .inv .2) (omega arith))
+
+add-at-2 : tie.Need-add-at-2 Inv-loop μ-loop
+add-at-2 c =
+    let a = c .before .before .before .before .before .args in
+    let l = c .before .before .loop in
+    omega (arith, l .inv .1, place-fits (a .n) (l .w) (omega arith) (omega arith))
+
+loop-again : tie.Need-loop-again Inv-loop μ-loop
+loop-again c =
+    let s = c .before .before .before .before .before in
+    let a = s .args in
+    let l = c .before .before .loop in
+    (omega arith, omega (arith, l .inv .1), fill-step (wordAt (a .s .now)) (a .words .now) (l .words) (l .w) (l .inv .2) (c .row-at .result) (omega arith) (word-there (a .s .now) (a .n) (l .w) (l .at) (c .row-at .result) (s .pre .0) (omega arith) (l .inv .1) (c .row-at .ensures)))
+
+same-length : tie.Need-same-length Inv-loop μ-loop
+same-length c =
+    let a = c .before .before .before .before .args in
+    let l = c .before .loop in
+    fill-length (wordAt (a .s .now)) (a .words .now) (l .words) (l .w) (l .inv .2) (omega arith)
+
+returns : tie.Need-returns Inv-loop μ-loop
+returns c =
+    let a = c .before .before .before .before .args in
+    let l = c .before .loop in
+    l .inv .2 ∙ ap (λ (k : ℕ). filled (wordAt (a .s .now)) k (a .words .now)) (omega arith)
+
+pub fill-words-spec : {M : Type 1} → statement M
+fill-words-spec =
+    tie.close
+    (tie.spec
+    Inv-loop
+    μ-loop
+    (λ c. search needs)
+    (λ c. search needs)
+    loop-holds
+    (λ c κs. search needs)
+    (λ c. search needs)
+    slice-write-words
+    add-at-2
+    (λ c. search needs)
+    (λ c. search needs)
+    loop-again
+    same-length
+    returns)

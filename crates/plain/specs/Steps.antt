@@ -1,0 +1,28 @@
+-- What the writer's own steps do to the buffer. Only private functions cite these.
+use Prim.Native.Nat.{ℕ, zero, suc, _+_, _*_, _-_, _/_, _%_, _^_}
+use mathlib.Core.Bool.{cond}
+use mathlib.Core.List.{List}
+use lib.Dec.{ltb}
+use lib.ListN.{getD, set}
+use Rattle.recording.specs.Packed.{packBit, numAt}
+use Rattle.bitreader.specs.Bits.{mirrored}
+
+-- a list in which the m elements from place i on are g 0, g 1, ..
+unfoldable pub over : (ℕ → ℕ) → ℕ → ℕ → List ℕ → List ℕ
+over g i zero d = d
+over g i (suc m) d = set (over g i m d) (i + m) (g m)
+
+-- byte j of the first h digits of v
+abbrev pub byteOf : ℕ → ℕ → ℕ → ℕ
+byteOf v h j = v / 2 ^ (h - 8 * (j + 1)) % 256
+
+-- byte q of the packed form
+abbrev pub packedByte : ℕ → ℕ → List ℕ → List ℕ → ℕ → ℕ
+packedByte n R openings words q = numAt (packBit n R openings words) (8 * q) 8
+
+-- the fields after the header, openings first, as numbers and by their width
+abbrev pub fieldWidth : ℕ → ℕ → ℕ
+fieldWidth n j = cond (ltb j n) 4 n
+
+abbrev pub fieldValue : ℕ → List ℕ → List ℕ → ℕ → ℕ
+fieldValue n openings words j = cond (ltb j n) (getD openings j 0) (mirrored n (getD words (j - n) 0))

@@ -1,0 +1,254 @@
+// Recordings in plain form: a byte for each opening and 3 + n words of 32 bits for each round.
+ghost use mathlib.Core.Path.{_≡_};
+ghost use mathlib.Core.List.{_++_};
+ghost use Prim.Native.Nat.{_+_, _*_, _-_, _<_, _≤_, _^_, _/_, _%_};
+ghost use lib.ListN.{length, getD, drop};
+ghost use Rattle.refusals.specs.declared.Outcome.the-variants.{Accepted};
+ghost use Rattle.basics.specs.Bits.{bit};
+ghost use Rattle.basics.specs.Lists.{first, filled};
+ghost use Rattle.recording.specs.Packed.{trucksOf, roundsOf, openingAt, wordAt, packed, bytesFor};
+ghost use Rattle.recording.specs.Checks.{highBit, badOpenings, badWords, ownLoss, roundsCheck, roundCheck, plainCheck};
+ghost use Rattle.plain.specs.Forms.{afterRead, readPlain, afterWrite, writePlain};
+ghost use Rattle.plain.specs.Steps.{over, byteOf, packedByte, fieldWidth, fieldValue};
+use refusals::Outcome;
+use refusals::Refusal;
+
+// What reading to plain form answers.
+pub enum ReadOutcome {
+    Plain { trucks: u8, rounds: u16 },
+    Refused(Refusal),
+}
+
+// What writing answers.
+pub enum WriteOutcome {
+    Bytes(usize),
+    Refused(Refusal),
+}
+
+// Refusal 7, of openings.
+pub fn bad_openings(n: u8, openings: &[u8]) -> bool
+    ensures { λ r. ⌜ r ≡ badOpenings n (now (openings .entry)) ⌝ }
+{
+    if openings.len() != n as usize {
+        return true;
+    }
+    let mut i = 0;
+    while i < openings.len() {
+        if 15 < openings[i] {
+            return true;
+        }
+        i += 1;
+    }
+    false
+}
+
+// Whether a word has a bit at or above n.
+pub fn high_bit(n: u8, w: u32) -> bool
+    ensures { λ r. ⌜ r ≡ highBit n w ⌝ }
+{
+    if n < 32 {
+        return 1 <= (w >> n);
+    }
+    false
+}
+
+// Refusal 8.
+fn bad_words(n: u8, rounds: u16, words: &[u32]) -> bool
+    ensures { λ r. ⌜ r ≡ badWords n rounds (now (words .entry)) ⌝ }
+{
+    if words.len() != rounds as usize * (3 + n as usize) {
+        return true;
+    }
+    let mut i = 0;
+    while i < words.len() {
+        if high_bit(n, words[i]) {
+            return true;
+        }
+        i += 1;
+    }
+    false
+}
+
+fn bit_of(w: u32, i: usize) -> bool
+    ensures { λ r. ⌜ r ≡ bit w i ⌝ }
+{
+    if i < 32 {
+        return (w >> i) % 2 == 1;
+    }
+    false
+}
+
+// The lowest truck whose own loss bit is 1 in the round whose words begin at `base`, or n where none is.
+fn own_truck(words: &[u32], base: usize, n: usize) -> usize
+    requires { ⌜ (base < 2 ^ 32) × (base + (3 + n) ≤ length (now words)) ⌝ }
+    ensures { λ r. ⌜ r ≡ first (λ i. bit (getD (now (words .entry)) (base + (3 + i)) 0) i) n ⌝ }
+{
+    let mut i = 0;
+    while i < n {
+        if bit_of(words[base + (3 + i)], i) {
+            return i;
+        }
+        i += 1;
+    }
+    n
+}
+
+// Refusal 6, of rounds of the right number of words.
+fn own_loss(n: u8, rounds: u16, words: &[u32]) -> bool
+    requires { ⌜ length (now words) ≡ rounds * (3 + n) ⌝ }
+    ensures { λ r. ⌜ r ≡ ownLoss (λ w. getD (now (words .entry)) w 0) n rounds ⌝ }
+{
+    let m = n as usize;
+    let mut base = 0;
+    let mut r: u16 = 0;
+    while r < rounds {
+        let i = own_truck(words, base, m);
+        if i < m {
+            return true;
+        }
+        base = base + (3 + m);
+        r += 1;
+    }
+    false
+}
+
+// Refusals 8 and 6, of rounds one after the other.
+fn check_rounds(n: u8, rounds: u16, words: &[u32]) -> Outcome
+    ensures { λ r. ⌜ r ≡ roundsCheck n rounds (now (words .entry)) ⌝ }
+{
+    if bad_words(n, rounds, words) {
+        return Outcome::Refused(Refusal::PlainRound);
+    }
+    if own_loss(n, rounds, words) {
+        return Outcome::Refused(Refusal::OwnLoss);
+    }
+    Outcome::Accepted
+}
+
+// Refusals 8 and 6, of one round.
+pub fn check_round(trucks: u8, words: &[u32]) -> Outcome
+    ensures { λ r. ⌜ r ≡ roundCheck trucks (now (words .entry)) ⌝ }
+{
+    check_rounds(trucks, 1, words)
+}
+
+// Refusals 2, 3, 7, 8 and 6.
+pub fn check_plain(trucks: u8, rounds: u16, openings: &[u8], words: &[u32]) -> Outcome
+    ensures { λ r. ⌜ r ≡ plainCheck trucks rounds (now (openings .entry)) (now (words .entry)) ⌝ }
+{
+    if recording::bad_trucks(trucks) {
+        return Outcome::Refused(Refusal::TruckCount);
+    }
+    if 400 < rounds {
+        return Outcome::Refused(Refusal::RoundCount);
+    }
+    if bad_openings(trucks, openings) {
+        return Outcome::Refused(Refusal::Record);
+    }
+    check_rounds(trucks, rounds, words)
+}
+
+fn fill_openings(s: &[u8], openings: &mut [u8], n: u8)
+    requires { ⌜ n ≤ length (now openings) ⌝ }
+    ensures { λ r. ⌜ now (openings .exit) ≡ filled (openingAt (now (s .entry))) n (now (openings .entry)) ⌝ }
+{
+    let mut i: u8 = 0;
+    while i < n {
+        openings[i as usize] = recording::opening(s, i);
+        i += 1;
+    }
+}
+
+fn fill_words(s: &[u8], words: &mut [u32], n: usize, count: usize)
+    requires { ⌜ (n ≡ trucksOf (now s)) × ((n ≤ 32) × ((count ≤ 16908030) × (count ≤ length (now words)))) ⌝ }
+    ensures { λ r. ⌜ now (words .exit) ≡ filled (wordAt (now (s .entry))) count (now (words .entry)) ⌝ }
+{
+    let mut at = 16 + 4 * n;
+    let mut w = 0;
+    while w < count {
+        words[w] = bitreader::row_at(s, at, n);
+        at = at + n;
+        w += 1;
+    }
+}
+
+// Reading to plain form: refusals 1 to 6, then 9.
+pub fn read(s: &[u8], openings: &mut [u8], words: &mut [u32]) -> ReadOutcome
+    ensures { λ r. ⌜ afterRead r (now (openings .exit)) (now (words .exit)) ≡ readPlain (now (s .entry)) (now (openings .entry)) (now (words .entry)) ⌝ }
+{
+    let c = recording::check(s);
+    match c {
+        Outcome::Refused(r) => ReadOutcome::Refused(r),
+        Outcome::Accepted => {
+            let trucks = recording::truck_count(s);
+            let rounds = recording::round_count(s);
+            let n = trucks as usize;
+            let count = rounds as usize * (3 + n);
+            if (openings.len() < n) | (words.len() < count) {
+                return ReadOutcome::Refused(Refusal::ShortBuffer);
+            }
+            fill_openings(s, openings, trucks);
+            fill_words(s, words, n, count);
+            ReadOutcome::Plain { trucks, rounds }
+        }
+    }
+}
+
+// The bits that do not fill a byte yet, as a number of `have` digits, and the place of the byte that they begin.
+struct Pending {
+    acc: u64,
+    have: usize,
+    at: usize,
+}
+
+// Puts out the bytes that the first `have` digits of `acc` fill.
+fn put_bytes(buf: &mut [u8], at: usize, acc: u64, have: usize)
+    requires { ⌜ (have < 64) × (at + have / 8 ≤ length (now buf)) ⌝ }
+    ensures { λ r. ⌜ now (buf .exit) ≡ over (byteOf acc have) at (have / 8) (now (buf .entry)) ⌝ }
+{
+    let m = have / 8;
+    let mut j = 0;
+    while j < m {
+        buf[at + j] = ((acc >> (have - 8 * (j + 1))) % 256) as u8;
+        j += 1;
+    }
+}
+
+// Adds the k digits of v, puts out the bytes that are full, and keeps the rest.
+fn put(buf: &mut [u8], p: Pending, v: u32, k: usize) -> Pending
+    requires { ⌜ (p .have < 8) × ((k ≤ 32) × ((p .acc < 2 ^ p .have) × ((v < 2 ^ k) × (p .at + (p .have + k) / 8 ≤ length (now buf))))) ⌝ }
+    ensures { λ r. ⌜ (now (buf .exit) ≡ over (byteOf (p .acc * 2 ^ k + v) (p .have + k)) (p .at) ((p .have + k) / 8) (now (buf .entry)))
+        × ((r .acc ≡ (p .acc * 2 ^ k + v) % 2 ^ ((p .have + k) % 8)) × ((r .have ≡ (p .have + k) % 8) × (r .at ≡ p .at + (p .have + k) / 8))) ⌝ }
+{
+    let at = p.at;
+    let have = p.have + k;
+    let acc = (p.acc << k) + (v as u64);
+    put_bytes(buf, at, acc, have);
+    Pending {
+        acc: bitreader::low_bits(acc, have % 8),
+        have: have % 8,
+        at: at + have / 8,
+    }
+}
+
+struct Field {
+    value: u32,
+    width: usize,
+}
+
+// Field j after the header: the openings, and then the words, whose first bit is worth most here.
+fn field_at(n: usize, openings: &[u8], words: &[u32], j: usize) -> Field
+    requires { ⌜ (n ≤ 32) × ((length (now openings) ≡ n) × (j < n + length (now words))) ⌝ }
+    ensures { λ r. ⌜ (r .value ≡ fieldValue n (now (openings .entry)) (now (words .entry)) j) × (r .width ≡ fieldWidth n j) ⌝ }
+{
+    if j < n {
+        return Field {
+            value: openings[j] as u32,
+            width: 4,
+        };
+    }
+    Field {
+        value: bitreader::mirror(words[j - n], n),
+        width: n,
+    }
+}

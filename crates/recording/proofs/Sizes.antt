@@ -1,0 +1,22 @@
+-- Sizes of a recording as numbers of the code: they fit.
+use mathlib.Core.Path.{_≡_}
+use Prim.Native.Nat.{ℕ, suc, _+_, _*_, _<_, _≤_, _^_}
+use native.Mathlib.Nat.{mul-le-mul}
+use native.Mathlib.Omega.{arith}
+use Rattle.recording.specs.Packed.{bitsFor, bytesFor}
+
+pub square-small : (n : ℕ) → n < 256 → n * n ≤ 65025
+square-small n h = mul-le-mul (let o : n ≤ 255 = omega arith in o) (let o : n ≤ 255 = omega arith in o)
+
+pub rounds-small : (n R : ℕ) → n < 256 → R < 65536 → R * (3 * n + n * n) ≤ 4311547650
+rounds-small n R h l =
+    mul-le-mul (let o : R ≤ 65535 = omega arith in o) (let o : 3 * n + n * n ≤ 65790 = omega (arith, square-small n h) in o)
+
+pub bits-small : (n R : ℕ) → n < 256 → R < 65536 → bitsFor n R < 2 ^ 33
+unfolding bitsFor
+bits-small n R h l = omega (arith, rounds-small n R h l)
+
+-- within the limits of a recording
+pub rounds-within : (n R : ℕ) → n ≤ 32 → R ≤ 400 → R * (3 * n + n * n) ≤ 448000
+rounds-within n R h l =
+    mul-le-mul l (let o : 3 * n + n * n ≤ 1120 = omega (arith, mul-le-mul {n₁ = n} {m₁ = n} {n₂ = 32} {m₂ = 32} h h) in o)

@@ -4,3 +4,5 @@ pub mod ByCrusher
 pub mod Airs
 pub mod Turns
 pub mod Loops
+pub mod Records
+pub mod Same

@@ -1,8 +1,8 @@
 -- Sets of trucks in words, and loops that take the trucks of a set one by one: `left` holds those that are still to come.
-use mathlib.Core.Path.{_≡_, refl, ap, sym, _∙_}
+use mathlib.Core.Path.{_≡_, refl, ap, ap₂, sym, _∙_}
 use mathlib.Core.Bool.{Bool, true, false, cond, not, _&&_, _||_, and-true, and-false, or-false, true≢false, false≢true}
 use mathlib.Core.List.{List}
-use Prim.Native.Nat.{ℕ, _^_, _≤_, _<_}
+use Prim.Native.Nat.{ℕ, suc, _^_, _≤_, _<_}
 use native.Mathlib.Decide.{decLt, ℕ-discrete}
 use native.Mathlib.Omega.{arith}
 use borrow.Author.Tests.{eq-eqb, ne-eqb}
@@ -52,7 +52,28 @@ module _ {set n : ℕ} {p : ℕ → Bool} (m : Members set n p) where
 pub members-none : (n : ℕ) (p : ℕ → Bool) → ((j : ℕ) → j < n → p j ≡ false) → Members 0 n p
 members-none n p h = record { below = pow-pos n; each = λ j l. bit-zero j ∙ sym (h j l) }
 
--- no truck left
+-- one number more is looked at, and joins where it has p
+pub members-next : {m i : ℕ} {p : ℕ → Bool} → Members m i p → (b : Bool) → b ≡ p i → Members (cond b (bitOr m (2 ^ i)) m) (suc i) p
+members-next {m} {i} {p} s b e = record { below = below b; each = λ j l. each b e j l (decLt j i) }
+  where
+    less : m < 2 ^ suc i
+    less = omega (arith, s .below, pow-lt (let z : i < suc i = omega arith in z))
+
+    below : (b : Bool) → cond b (bitOr m (2 ^ i)) m < 2 ^ suc i
+    below true = or-lt (suc i) m (2 ^ i) less (pow-lt (omega arith))
+    below false = less
+
+    last : (b : Bool) → bit (cond b (bitOr m (2 ^ i)) m) i ≡ b
+    last true = bit-or m (2 ^ i) i ∙ ap₂ _||_ (bit-high m i i (s .below) (omega arith)) (bit-power i i ∙ eq-eqb i i refl)
+    last false = bit-high m i i (s .below) (omega arith)
+
+    each : (b : Bool) → b ≡ p i → (j : ℕ) → j < suc i → Dec (j < i) → bit (cond b (bitOr m (2 ^ i)) m) j ≡ p j
+    each true e j l (yes o) =
+        bit-or m (2 ^ i) j ∙ ap (λ (x : Bool). bit m j || x) (bit-power i j ∙ ne-eqb i j (λ q. omega arith)) ∙ or-false (bit m j) ∙ s .each j o
+    each false e j l (yes o) = s .each j o
+    each b e j l (no o) = let q : j ≡ i = omega arith in rw q (last b ∙ e)
+
+-- those that are left after one is taken were left before
 pub within-removed : (left i : ℕ) → bit left i ≡ true → (j : ℕ) → bit (bitXor left (2 ^ i)) j ≡ true → bit left j ≡ true
 within-removed left i h j e = and-left (bit left j) (not (eqb i j)) (sym (bit-removed left i j h) ∙ e)
 

@@ -57,6 +57,11 @@ emptied k Running false t played e h r = sym h
 emptied k (Stopped q) b t played e h r = absurd (false≢true (sym (ap isRunning e) ∙ r))
 emptied k (Decided q) b t played e h r = absurd (false≢true (sym (ap isRunning e) ∙ r))
 
+-- the row of truck i
+pub row-of : (stop active mark : ℕ) (rows : List ℕ) (i : ℕ) → getD (roundOf stop active mark rows) (3 + i) 0 ≡ getD rows i 0
+row-of stop active mark rows i =
+    ap (λ (x : ℕ). getD (roundOf stop active mark rows) x 0) (let e : 3 + i ≡ suc (suc (suc i)) = omega arith in e)
+
 module _ (n k stop active mark : ℕ) (rows : List ℕ) (ts : List Truck) where
   abbrev w : List ℕ
   w = roundOf stop active mark rows
@@ -74,10 +79,6 @@ module _ (n k stop active mark : ℕ) (rows : List ℕ) (ts : List Truck) where
 
   pub truck-rule : (i : ℕ) → i < n → truck (filled rule n ts) i ≡ rule i
   truck-rule i l = getD-filled rule n ts i (opened 0) l
-
-  -- the row of truck i
-  row-is : (i : ℕ) → getD w (3 + i) 0 ≡ getD rows i 0
-  row-is i = ap (λ (x : ℕ). getD w x 0) (let e : 3 + i ≡ suc (suc (suc i)) = omega arith in e)
 
   -- a truck that isn't running is left alone
   pub rule-idle : (i : ℕ) → runs (truck ts i) ≡ false → rule i ≡ truck ts i
@@ -147,7 +148,7 @@ module _ (n k stop active mark : ℕ) (rows : List ℕ) (ts : List Truck) where
 
     heard-is : Members (heardSet senders row i) n (hears air i)
     unfolding airOf
-    heard-is = hearers air i senders row sends (λ j lj s. ap (λ (x : ℕ). bit x j) (row-is i))
+    heard-is = hearers air i senders row sends (λ j lj s. ap (λ (x : ℕ). bit x j) (row-of stop active mark rows i))
 
     sends-bit : (j : ℕ) → j < n → air .sends j ≡ true → bit senders j ≡ true
     sends-bit j lj h = sends .each j lj ∙ h

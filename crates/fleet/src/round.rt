@@ -142,3 +142,16 @@ pub(crate) fn veto_round(r: Roster, stop: u32, mark: u32, rows: &[u32; 32]) -> R
         vetoing: 0,
     }
 }
+
+// The next round: odd rounds are for proposals, even rounds for vetoes.
+pub(crate) fn play(r: Roster, stop: u32, active: u32, mark: u32, rows: &[u32; 32]) -> Roster
+    requires { ⌜ Ready r ⌝ }
+    ensures { λ q. ⌜ Played r stop active mark (now (rows .entry)) q ⌝ }
+{
+    let f = r.fleet;
+    if f.done % 2 == 0 {
+        proposal_round(r, stop, active, mark, rows)
+    } else {
+        veto_round(r, stop, mark, rows)
+    }
+}

@@ -1,3 +1,4 @@
+-- `proposal_round` meets its contract.
 use lib.Bits.{bitAnd, bitXor}
 use lib.ListN.{getD}
 -- `proposal_round` meets its contract.

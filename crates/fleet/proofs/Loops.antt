@@ -1,0 +1,104 @@
+-- The loops of a round: the trucks of a set are taken one by one.
+use mathlib.Core.Path.{_≡_, refl, ap, sym, _∙_}
+use mathlib.Core.Bool.{Bool, true, false, cond, _&&_}
+use mathlib.Core.List.{List}
+use Prim.Native.Nat.{ℕ, _^_, _≤_, _<_}
+use native.Mathlib.Omega.{arith}
+use native.Mathlib.Decide.{ℕ-discrete}
+use borrow.Author.Tests.{eq-eqb, ne-eqb}
+use lib.Bits.{bitOr, bitXor}
+use lib.Dec.{eqb}
+use lib.ListN.{length, getD, set, replicate, getD-replicate, length-set}
+use lib.Seq.{getD-set-same, getD-set-other}
+use Rattle.basics.specs.Bits.{bit}
+use Rattle.basics.specs.Lists.{filled}
+use Rattle.basics.proofs.Laws.{and-left}
+use Rattle.protocol.specs.declared.Truck.{Truck}
+use Rattle.protocol.specs.declared.Fleet.{Fleet}
+use Rattle.protocol.specs.Rules.{opened, truck}
+use Rattle.fleet.specs.Sets.{Members, Sorted}
+use Rattle.fleet.proofs.Members.{set-below, within-removed, seen, seen-none, seen-all, seen-in, seen-out, seen-joined, replaced, replaced-at, replaced-all, replaced-none, replaced-more}
+
+-- a round under way: the trucks of `left` are as they were, the others of `running` as they become, and set holds those of the latter that have p
+pub record Going (n k : ℕ) (ts : List Truck) (new : ℕ → Truck) (running : ℕ) (p : Truck → Bool) (f : Fleet) (members left : ℕ) : Type 0 where
+  pub fleet : f ≡ record { n = n; done = k; trucks = replaced (opened 0) ts new n left }
+  pub within : (j : ℕ) → bit left j ≡ true → bit running j ≡ true
+  pub held : Members members n (seen left (λ j. bit running j && p (new j)))
+
+module _ (n k : ℕ) (ts : List Truck) (new : ℕ → Truck) (running : ℕ) (p : Truck → Bool) where
+  module _ (long : n ≤ length ts) where
+    pub going-starts : ((j : ℕ) → j < n → bit running j ≡ false → new j ≡ truck ts j)
+        → Going n k ts new running p (record { n = n; done = k; trucks = ts }) 0 running
+    going-starts h =
+        record {
+          fleet = ap (λ (l : List Truck). record { n = n; done = k; trucks = l }) (sym (replaced-none (opened 0) ts new n long running h));
+          within = λ j e. e;
+          held = seen-none n running (λ j. bit running j && p (new j)) (λ j l e. and-left (bit running j) (p (new j)) e);
+        }
+
+  module _ (below : running < 2 ^ n) {f : Fleet} {members left : ℕ} (g : Going n k ts new running p f members left) (i : ℕ) (h : bit left i ≡ true) where
+    pub going-below : i < n
+    going-below = set-below running n below i (g .within i h)
+
+    pub going-truck : truck (f .trucks) i ≡ truck ts i
+    going-truck = ap (λ (f : Fleet). truck (f .trucks) i) (g .fleet) ∙ replaced-at (opened 0) ts new n left i going-below h
+
+    pub going-more : (long : n ≤ length ts) (u : Truck) (b : Bool) (members′ left′ : ℕ) → u ≡ new i → b ≡ p u → members′ ≡ cond b (bitOr members (2 ^ i)) members
+        → left′ ≡ bitXor left (2 ^ i) → Going n k ts new running p (record { n = f .n; done = f .done; trucks = set (f .trucks) i u }) members′ left′
+    going-more long u b members′ left′ eu eb em el =
+        rw (em, el) (record {
+          fleet = ap (λ (f : Fleet). record { n = f .n; done = f .done; trucks = set (f .trucks) i u }) (g .fleet)
+              ∙ ap (λ (l : List Truck). record { n = n; done = k; trucks = l }) (replaced-more (opened 0) ts new n long left i u going-below h eu);
+          within = λ j e. g .within j (within-removed left i h j e);
+          held = seen-joined members n left i (λ j. bit running j && p (new j)) going-below h (g .held) b
+              (eb ∙ ap p eu ∙ sym (ap (λ (x : Bool). x && p (new i)) (g .within i h)));
+        })
+
+  -- none is left
+  pub going-fleet : {f : Fleet} {members left : ℕ} → Going n k ts new running p f members left → left ≡ 0 → f ≡ record { n = n; done = k; trucks = filled new n ts }
+  going-fleet {f} {members} {left} g z =
+      g .fleet ∙ ap (λ (l : List Truck). record { n = n; done = k; trucks = l }) (ap (replaced (opened 0) ts new n) z ∙ replaced-all (opened 0) ts new n)
+
+  pub going-held : {f : Fleet} {members left : ℕ} → Going n k ts new running p f members left → left ≡ 0 → Members members n (λ j. bit running j && p (new j))
+  going-held g z = seen-all (rw z at (g .held))
+
+-- ---- the senders of each crusher
+pub record Sorting (n senders : ℕ) (est : ℕ → ℕ) (values : List ℕ) (left : ℕ) : Type 0 where
+  pub long : length values ≡ 16
+  pub within : (j : ℕ) → bit left j ≡ true → bit senders j ≡ true
+  pub sorted : (c : ℕ) → c < 16 → Members (getD values c 0) n (seen left (λ j. bit senders j && eqb (est j) c))
+
+module _ (n senders : ℕ) (est : ℕ → ℕ) where
+  pub sorting-starts : Sorting n senders est (replicate 16 0) senders
+  sorting-starts =
+      record {
+        long = refl;
+        within = λ j e. e;
+        sorted = λ c l. rw (getD-replicate {A = ℕ} 16 c 0 0 l) (seen-none n senders (λ j. bit senders j && eqb (est j) c) (λ j lj e. and-left (bit senders j) (eqb (est j) c) e));
+      }
+
+  pub sorting-below : {values : List ℕ} {left : ℕ} → Sorting n senders est values left → senders < 2 ^ n → (i : ℕ) → bit left i ≡ true → i < n
+  sorting-below s below i h = set-below senders n below i (s .within i h)
+
+  pub sorting-more : {values : List ℕ} {left : ℕ} → Sorting n senders est values left → (i : ℕ) → i < n → bit left i ≡ true → est i < 16
+      → (left′ : ℕ) → left′ ≡ bitXor left (2 ^ i) → Sorting n senders est (set values (est i) (bitOr (getD values (est i) 0) (2 ^ i))) left′
+  sorting-more {values} {left} s i l h small left′ e =
+      rw e (record {
+        long = length-set values (est i) (bitOr (getD values (est i) 0) (2 ^ i)) ∙ s .long;
+        within = λ j o. s .within j (within-removed left i h j o);
+        sorted = λ c lc. go c lc (ℕ-discrete c (est i));
+      })
+    where
+      more : List ℕ
+      more = set values (est i) (bitOr (getD values (est i) 0) (2 ^ i))
+
+      go : (c : ℕ) → c < 16 → Dec (c ≡ est i) → Members (getD more c 0) n (seen (bitXor left (2 ^ i)) (λ j. bit senders j && eqb (est j) c))
+      go c lc (yes d) =
+          rw (d, getD-set-same values (est i) (bitOr (getD values (est i) 0) (2 ^ i)) 0 (omega (arith, s .long)))
+          (seen-in (getD values (est i) 0) n left i (λ j. bit senders j && eqb (est j) (est i)) l h (s .sorted (est i) small) (rw (s .within i h, eq-eqb (est i) (est i) refl)))
+      go c lc (no d) =
+          rw (getD-set-other values (est i) c (bitOr (getD values (est i) 0) (2 ^ i)) 0 d)
+          (seen-out (getD values c 0) n left i (λ j. bit senders j && eqb (est j) c) l h (s .sorted c lc) (rw (s .within i h, ne-eqb (est i) c (λ q. d (sym q)))))
+
+  pub sorting-done : {values : List ℕ} {left : ℕ} → Sorting n senders est values left → left ≡ 0 → Sorted values n senders est
+  sorting-done s z c l = seen-all (rw z at (s .sorted c l))

@@ -1,0 +1,223 @@
+-- What a round makes of each truck, worked out by sets of trucks.
+use mathlib.Core.Path.{_≡_, refl, ap, sym, _∙_}
+use mathlib.Core.Bool.{Bool, true, false, not, _&&_, true≢false, false≢true}
+use mathlib.Core.List.{List, map}
+use Prim.Native.Nat.{ℕ, suc, _+_, _<_}
+use native.Mathlib.Omega.{arith}
+use lib.Bits.{bitAnd, bitXor}
+use lib.Dec.{eqb, ltb}
+use lib.ListN.{getD}
+use Rattle.basics.specs.Bits.{bit, odd}
+use Rattle.basics.specs.Lists.{who, filled}
+use Rattle.basics.proofs.Laws.{getD-filled}
+use Rattle.air.specs.Round.{stopBit, activeBit, markBit}
+use Rattle.air.specs.Air.{Air, hears, heardBy, heard}
+use Rattle.air.proofs.Laws.{hears-sends}
+use Rattle.protocol.proofs.OneRound.{plays-proposal, plays-veto}
+use Rattle.protocol.specs.declared.State.{State}
+use Rattle.protocol.specs.declared.State.the-variants.{Running, Stopped, Decided}
+use Rattle.protocol.specs.declared.Truck.{Truck}
+use Rattle.protocol.specs.Rules.{opened, truck, isRunning, runs, vetoes, different, leastOr, stops, proposed, vetoed, turn, airOf, valuesHeard, plays, after}
+use Rattle.protocol.specs.declared.Fleet.{Fleet}
+use Rattle.protocol.specs.Fleets.{nextFleet}
+use Rattle.words.proofs.Words.{bit-zero}
+use Rattle.truck.specs.declared.Event.{Event}
+use Rattle.truck.specs.Events.{happened, turned}
+use Rattle.fleet.specs.declared.hearing.Values.{Values}
+use Rattle.fleet.specs.Sets.{Members, heardSet, valuesOf, Sorted}
+use Rattle.fleet.specs.Rounds.{estimates, proposalEvent, vetoEvent, Kept, roundOf}
+use Rattle.fleet.proofs.Members.{member-below, member-has, members-ext, members-and, members-without}
+use Rattle.fleet.proofs.ByCrusher.{values-right}
+use Rattle.fleet.proofs.Airs.{who-members, some-members, hearers}
+
+-- an event that stops a truck where its stop bit is set, and is what it plays where it isn't
+event-turn : (k : ℕ) (s : State) (b : Bool) (t played : Truck) (e : Event) → (b ≡ true → happened k e t ≡ stops k t) → (b ≡ false → happened k e t ≡ played)
+    → turn s false t (happened k e t) t ≡ turn s b (stops k t) played t
+event-turn k Running true t played e h g = h refl
+event-turn k Running false t played e h g = g refl
+event-turn k (Stopped r) true t played e h g = refl
+event-turn k (Stopped r) false t played e h g = refl
+event-turn k (Decided r) true t played e h g = refl
+event-turn k (Decided r) false t played e h g = refl
+
+-- a round that leaves the state of those that play
+kept-state : (k : ℕ) (s : State) (b : Bool) (t played : Truck) → t .state ≡ s → played .state ≡ t .state → (isRunning s && not b) ≡ runs (turn s b (stops k t) played t)
+kept-state k Running true t played e h = refl
+kept-state k Running false t played e h = sym (ap isRunning (h ∙ e))
+kept-state k (Stopped r) true t played e h = sym (ap isRunning e)
+kept-state k (Stopped r) false t played e h = sym (ap isRunning e)
+kept-state k (Decided r) true t played e h = sym (ap isRunning e)
+kept-state k (Decided r) false t played e h = sym (ap isRunning e)
+
+-- a round that empties the memory of those that play
+emptied : (k : ℕ) (s : State) (b : Bool) (t played : Truck) → t .state ≡ s → vetoes played ≡ false → runs (turn s b (stops k t) played t) ≡ true
+    → false ≡ vetoes (turn s b (stops k t) played t)
+emptied k Running true t played e h r = refl
+emptied k Running false t played e h r = sym h
+emptied k (Stopped q) b t played e h r = absurd (false≢true (sym (ap isRunning e) ∙ r))
+emptied k (Decided q) b t played e h r = absurd (false≢true (sym (ap isRunning e) ∙ r))
+
+-- the row of truck i
+pub row-of : (stop active mark : ℕ) (rows : List ℕ) (i : ℕ) → getD (roundOf stop active mark rows) (3 + i) 0 ≡ getD rows i 0
+row-of stop active mark rows i =
+    ap (λ (x : ℕ). getD (roundOf stop active mark rows) x 0) (let e : 3 + i ≡ suc (suc (suc i)) = omega arith in e)
+
+module _ (n k stop active mark : ℕ) (rows : List ℕ) (ts : List Truck) where
+  abbrev w : List ℕ
+  w = roundOf stop active mark rows
+
+  abbrev pub air : Air
+  air = airOf n (activeBit w) k w ts
+
+  -- what the round makes of truck i
+  abbrev pub rule : ℕ → Truck
+  rule i = turn (truck ts i .state) (stopBit w i) (stops k (truck ts i)) (plays air k w ts i) (truck ts i)
+
+  pub after-rule : after n (activeBit w) k w ts ≡ filled rule n ts
+  unfolding after
+  after-rule = refl
+
+  pub truck-rule : (i : ℕ) → i < n → truck (filled rule n ts) i ≡ rule i
+  truck-rule i l = getD-filled rule n ts i (opened 0) l
+
+  -- a truck that isn't running is left alone
+  pub rule-idle : (i : ℕ) → runs (truck ts i) ≡ false → rule i ≡ truck ts i
+  rule-idle i h = go (truck ts i .state) h
+    where
+      go : (s : State) → isRunning s ≡ false → turn s (stopBit w i) (stops k (truck ts i)) (plays air k w ts i) (truck ts i) ≡ truck ts i
+      go Running e = absurd (true≢false e)
+      go (Stopped r) e = refl
+      go (Decided r) e = refl
+
+  module _ (running : ℕ) (known : Members running n (λ j. runs (truck ts j))) where
+    abbrev going : ℕ
+    going = bitXor running (bitAnd running stop)
+
+    -- the round's stops
+    pub going-is : Members going n (air .running)
+    unfolding airOf
+    going-is = members-without known stop
+
+    -- the senders of a proposal round
+    pub proposers : odd k ≡ true → Members (bitAnd going active) n (air .sends)
+    unfolding airOf
+    proposers o = members-ext (members-and going-is active) (air .sends) (λ j l. rw o)
+
+    -- the senders of a veto round
+    pub vetoers : (vetoing : ℕ) → odd k ≡ false → ((j : ℕ) → j < n → runs (truck ts j) ≡ true → bit vetoing j ≡ vetoes (truck ts j))
+        → Members (bitAnd going vetoing) n (air .sends)
+    unfolding airOf
+    vetoers vetoing o h =
+        members-ext (members-and going-is vetoing) (air .sends) (λ j l. rw o (go (runs (truck ts j)) (not (stopBit w j)) (bit vetoing j) (vetoes (truck ts j)) (h j l)))
+      where
+        go : (x y b c : Bool) → (x ≡ true → b ≡ c) → ((x && y) && b) ≡ ((x && y) && c)
+        go true true b c e = e refl
+        go true false b c e = refl
+        go false y b c e = refl
+
+    -- of those that run, who has p after the round, where nobody has p that doesn't run
+    pub runners : (p : Truck → Bool) (set : ℕ) → Members set n (λ j. bit running j && p (rule j)) → (j : ℕ) → j < n → runs (rule j) ≡ true → bit set j ≡ p (rule j)
+    runners p set m j l r = m .each j l ∙ ap (λ (b : Bool). b && p (rule j)) (known .each j l ∙ ran (runs (truck ts j)) refl)
+      where
+        ran : (b : Bool) → runs (truck ts j) ≡ b → b ≡ true
+        ran true e = refl
+        ran false e = sym (sym r ∙ ap runs (rule-idle j e) ∙ e)
+
+    pub run-on : (set : ℕ) → Members set n (λ j. bit running j && runs (rule j)) → Members set n (λ j. runs (rule j))
+    run-on set m = members-ext m (λ j. runs (rule j)) (λ j l. ap (λ (b : Bool). b && runs (rule j)) (known .each j l) ∙ go j (runs (truck ts j)) refl)
+      where
+        go : (j : ℕ) (b : Bool) → runs (truck ts j) ≡ b → (b && runs (rule j)) ≡ runs (rule j)
+        go j true e = refl
+        go j false e = sym (ap runs (rule-idle j e) ∙ e)
+
+  -- who runs after a proposal round
+  pub proposal-runs : odd k ≡ true → (j : ℕ) → air .running j ≡ runs (rule j)
+  unfolding airOf
+  proposal-runs o j =
+      kept-state k (truck ts j .state) (stopBit w j) (truck ts j) (plays air k w ts j) refl
+      (ap (λ (t : Truck). t .state) (plays-proposal n (activeBit w) k w ts j o))
+
+  -- nobody that runs on after a veto round vetoes
+  pub veto-empty : odd k ≡ false → (j : ℕ) → runs (rule j) ≡ true → false ≡ vetoes (rule j)
+  veto-empty o j r =
+      emptied k (truck ts j .state) (stopBit w j) (truck ts j) (plays air k w ts j) refl (ap vetoes (plays-veto n (activeBit w) k w ts j o)) r
+
+  module _ (i senders : ℕ) (l : i < n) (sends : Members senders n (air .sends)) where
+    abbrev row : ℕ
+    row = getD rows i 0
+
+    heard-is : Members (heardSet senders row i) n (hears air i)
+    unfolding airOf
+    heard-is = hearers air i senders row sends (λ j lj s. ap (λ (x : ℕ). bit x j) (row-of stop active mark rows i))
+
+    sends-bit : (j : ℕ) → j < n → air .sends j ≡ true → bit senders j ≡ true
+    sends-bit j lj h = sends .each j lj ∙ h
+
+    -- the values that truck i hears
+    values-heard : valuesHeard air ts i ≡ map (estimates ts) (who (bit (heardSet senders row i)) n)
+    unfolding valuesHeard heardBy airOf
+    values-heard = ap (map (estimates ts)) (who-members heard-is)
+
+    -- it hears a veto
+    any-heard : ltb 0 (heard air i) ≡ not (eqb (heardSet senders row i) 0)
+    unfolding heard heardBy airOf
+    any-heard = some-members heard-is
+
+    proposed-is : odd k ≡ true
+        → plays air k w ts i ≡ proposed (markBit w i) (different (map (estimates ts) (who (bit (heardSet senders row i)) n)))
+        (leastOr (estimates ts i) (map (estimates ts) (who (bit (heardSet senders row i)) n))) (truck ts i)
+    unfolding airOf
+    proposed-is o =
+        plays-proposal n (activeBit w) k w ts i o
+        ∙ ap (λ (vs : List ℕ). proposed (markBit w i) (different vs) (leastOr (estimates ts i) vs) (truck ts i)) values-heard
+
+    vetoed-is : odd k ≡ false → plays air k w ts i ≡ vetoed k (markBit w i) (not (eqb (heardSet senders row i) 0)) (truck ts i)
+    unfolding airOf
+    vetoed-is o = plays-veto n (activeBit w) k w ts i o ∙ ap (λ (b : Bool). vetoed k (markBit w i) b (truck ts i)) any-heard
+
+    pub proposal-turn : (values : List ℕ) → odd k ≡ true → Sorted values n senders (estimates ts) → ((j : ℕ) → j < n → estimates ts j < 16)
+        → turned k (proposalEvent stop mark senders row i values (estimates ts i)) (truck ts i) ≡ rule i
+    unfolding proposalEvent
+    proposal-turn values o sorted small =
+        event-turn k (truck ts i .state) (stopBit w i) (truck ts i) (plays air k w ts i) (proposalEvent stop mark senders row i values (estimates ts i)) (λ h. rw h)
+        (λ h. rw h (ap (λ (v : Values). proposed (markBit w i) (v .heard) (v .least) (truck ts i)) values-are ∙ sym (proposed-is o)))
+      where
+        js : List ℕ
+        js = who (bit (heardSet senders row i)) n
+
+        values-are : valuesOf values (heardSet senders row i) (estimates ts i)
+            ≡ record { heard = different (map (estimates ts) js); least = leastOr (estimates ts i) (map (estimates ts) js) }
+        values-are =
+            values-right values n senders (heardSet senders row i) (estimates ts i) (estimates ts) sorted (heard-is .below)
+            (λ j h. sends-bit j (member-below heard-is j h) (hears-sends air i j (member-has heard-is j h))) (λ j lj s. small j lj)
+
+    pub veto-turn : odd k ≡ false → turned k (vetoEvent stop mark senders row i) (truck ts i) ≡ rule i
+    unfolding vetoEvent
+    veto-turn o =
+        event-turn k (truck ts i .state) (stopBit w i) (truck ts i) (plays air k w ts i) (vetoEvent stop mark senders row i) (λ h. rw h)
+        (λ h. rw h (sym (vetoed-is o)))
+
+  -- the fleet after the round, and its two sets
+  abbrev pub played : Fleet
+  played = record { n = n; done = k; trucks = filled rule n ts }
+
+  module _ (running : ℕ) (known : Members running n (λ j. runs (truck ts j))) where
+    pub kept-veto : (on : ℕ) → odd k ≡ false → Members on n (λ j. bit running j && runs (rule j)) → Kept (record { fleet = played; running = on; vetoing = 0 })
+    kept-veto on o m =
+        record {
+          running = members-ext (run-on running known on m) (λ j. runs (truck (filled rule n ts) j)) (λ j l. ap runs (sym (truck-rule j l)));
+          vetoing = λ j l h. bit-zero j ∙ veto-empty o j (sym (ap runs (truck-rule j l)) ∙ h) ∙ ap vetoes (sym (truck-rule j l));
+        }
+
+    pub kept-proposal : (vetoing : ℕ) → odd k ≡ true → Members vetoing n (λ j. bit running j && vetoes (rule j))
+        → Kept (record { fleet = played; running = bitXor running (bitAnd running stop); vetoing = vetoing })
+    kept-proposal vetoing o m =
+        record {
+          running = members-ext (going-is running known) (λ j. runs (truck (filled rule n ts) j)) (λ j l. proposal-runs o j ∙ ap runs (sym (truck-rule j l)));
+          vetoing = λ j l h. runners running known vetoes vetoing m j l (sym (ap runs (truck-rule j l)) ∙ h) ∙ ap vetoes (sym (truck-rule j l));
+        }
+
+pub next-is : (f : Fleet) (stop active mark : ℕ) (rows : List ℕ)
+    → nextFleet f (roundOf stop active mark rows) ≡ played (f .n) (f .done + 1) stop active mark rows (f .trucks)
+unfolding nextFleet after
+next-is f stop active mark rows = refl

@@ -1,0 +1,80 @@
+-- `values_of` meets its contract.
+use Rattle.fleet.specs.Sets.{wasHeard}
+use Rattle.fleet.proofs.ByCrusher.{values-hit, values-none}
+use mathlib.Core.Path.{_≡_, ap, sym, _∙_}
+use mathlib.Core.Bool.{not}
+use Prim.Native.Nat.{_≤_, _-_}
+use native.Mathlib.Omega.{arith}
+use native.Mathlib.Numerals.{add-one}
+use borrow.Author.Tests.{ne-eqb, eq-eqb}
+use Rattle.basics.specs.Lists.{first}
+use Rattle.basics.proofs.Laws.{first-none, first-on}
+use Rattle.fleet.proofs.Laws.{first-found}
+use borrow.Author.Needs.{needs}
+use Rattle.fleet.proofs.hearing.values_of.Statement.{statement}
+use Rattle.fleet.proofs.hearing.values_of.Tie as tie
+
+abbrev Inv-loop : tie.InvT-loop
+Inv-loop values heard estimate c₀ c = (c ≤ 16) × (first (wasHeard values heard) c ≡ c)
+
+abbrev μ-loop : tie.MeasureT-loop
+μ-loop values heard estimate c₀ c = 16 - c
+
+loop-holds : tie.Need-loop-holds Inv-loop μ-loop
+loop-holds c = (search needs, first-none (wasHeard (c .args .values .now) (c .args .heard)))
+
+mul-here : tie.Need-mul-here Inv-loop μ-loop
+mul-here c = search needs
+
+element-copy-out-here : tie.Need-element-copy-out-here Inv-loop μ-loop
+element-copy-out-here c = search needs
+
+count-requires : tie.Need-count-requires Inv-loop μ-loop
+count-requires c κs = search needs
+
+cast-t12 : tie.Need-cast-t12 Inv-loop μ-loop
+cast-t12 c = search needs
+
+returns : tie.Need-returns Inv-loop μ-loop
+returns c =
+    let a = c .before .before .before .before .before .args in
+    let i = c .before .before .before .before .loop in
+    rw (c .count .ensures)
+    (sym (values-hit (a .values .now) (a .heard) (a .estimate) (i .c) (c .before .before .before .loop-test .taken)
+    (first-found (wasHeard (a .values .now) (a .heard)) 16 (i .c) (c .before .before .before .loop-test .taken) (i .inv .1) (ap not (ne-eqb _ 0 (c .before .if1 .taken))))))
+
+add-c : tie.Need-add-c Inv-loop μ-loop
+add-c c = search needs
+
+loop-less : tie.Need-loop-less Inv-loop μ-loop
+loop-less c = search needs
+
+loop-again : tie.Need-loop-again Inv-loop μ-loop
+loop-again c =
+    let a = c .before .before .before .before .args in
+    let i = c .before .before .before .loop in
+    (search needs, ap (first (wasHeard (a .values .now) (a .heard))) (add-one (i .c)) ∙ first-on (wasHeard (a .values .now) (a .heard)) (i .c) (i .inv .1) (ap not (eq-eqb _ 0 (c .if1 .left))) ∙ sym (add-one (i .c)))
+
+returns-2 : tie.Need-returns-2 Inv-loop μ-loop
+returns-2 c =
+    let a = c .before .before .args in
+    let i = c .before .loop in
+    let e : i .c ≡ 16 = omega (arith, i .inv .0, c .loop-test .left) in
+    sym (values-none (a .values .now) (a .heard) (a .estimate) (ap (first (wasHeard (a .values .now) (a .heard))) (sym e) ∙ i .inv .1 ∙ e))
+
+pub values-of-spec : {M : Type 1} → statement M
+values-of-spec =
+    tie.close
+    (tie.spec
+    Inv-loop
+    μ-loop
+    loop-holds
+    mul-here
+    element-copy-out-here
+    count-requires
+    cast-t12
+    returns
+    add-c
+    loop-less
+    loop-again
+    returns-2)

@@ -1,0 +1,17 @@
+-- `blank` meets its contract.
+use Rattle.basics.specs.Lists.{tab, tabFrom}
+use Rattle.protocol.specs.Runs.{openedTrucks}
+use Rattle.protocol.specs.Fleets.{blank}
+use borrow.Author.Needs.{needs}
+use Rattle.fleet.proofs.record.blank.Statement.{statement}
+use Rattle.fleet.proofs.record.blank.Tie as tie
+
+opened-requires : tie.Need-opened-requires
+opened-requires c κs = search needs
+
+returns : tie.Need-returns
+unfolding blank openedTrucks tab tabFrom
+returns c = rw (c .opened .ensures)
+
+pub blank-spec : {M : Type 1} → statement M
+blank-spec = tie.close (tie.spec opened-requires returns)

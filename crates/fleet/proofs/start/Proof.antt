@@ -1,0 +1,54 @@
+-- `start` meets its contract.
+use mathlib.Core.Path.{sym, _∙_}
+use Rattle.protocol.specs.Fleets.{started, startCheck}
+use Rattle.recording.proofs.Accepted.{trucks-in, openings-in}
+use borrow.Author.Needs.{needs}
+use Rattle.fleet.proofs.start.Statement.{statement}
+use Rattle.fleet.proofs.start.Tie as tie
+
+bad-trucks-requires : tie.Need-bad-trucks-requires
+bad-trucks-requires c κs = search needs
+
+refused-requires : tie.Need-refused-requires
+refused-requires c κs = search needs
+
+returns : tie.Need-returns
+unfolding started startCheck
+returns c = c .refused .ensures ∙ rw (sym (c .before .before .bad-trucks .ensures) ∙ c .before .if1 .taken)
+
+bad-openings-requires : tie.Need-bad-openings-requires
+bad-openings-requires c κs = search needs
+
+refused-requires-2 : tie.Need-refused-requires-2
+refused-requires-2 c κs = search needs
+
+returns-2 : tie.Need-returns-2
+unfolding started startCheck
+returns-2 c =
+    c .refused2 .ensures
+    ∙ rw (sym (c .before .before .before .before .bad-trucks .ensures) ∙ c .before .before .before .if1 .left, sym (c .before .before .bad-openings .ensures) ∙ c .before .if2 .taken)
+
+open-fleet-requires : tie.Need-open-fleet-requires
+open-fleet-requires c κs =
+    let a = c .before .before .before .before .before .args in (
+      openings-in (a .n) (a .openings .now) (sym (c .before .bad-openings .ensures) ∙ c .if2 .left) .count,
+      trucks-in (a .n) (sym (c .before .before .before .bad-trucks .ensures) ∙ c .before .before .if1 .left) .1,
+    )
+
+returns-3 : tie.Need-returns-3
+unfolding started startCheck
+returns-3 c =
+    rw (sym (c .before .before .before .before .bad-trucks .ensures) ∙ c .before .before .before .if1 .left, sym (c .before .before .bad-openings .ensures) ∙ c .before .if2 .left, c .open-fleet .ensures)
+
+pub start-spec : {M : Type 1} → statement M
+start-spec =
+    tie.close
+    (tie.spec
+    bad-trucks-requires
+    refused-requires
+    returns
+    bad-openings-requires
+    refused-requires-2
+    returns-2
+    open-fleet-requires
+    returns-3)

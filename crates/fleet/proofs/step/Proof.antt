@@ -1,0 +1,37 @@
+-- `step` meets its contract.
+use mathlib.Core.Path.{sym, _∙_}
+use Rattle.protocol.specs.Fleets.{stepped}
+use borrow.Author.Needs.{needs}
+use Rattle.fleet.proofs.step.Statement.{statement}
+use Rattle.fleet.proofs.step.Tie as tie
+
+check-step-requires : tie.Need-check-step-requires
+check-step-requires c κs = search needs
+
+enum-told : tie.Need-enum-told
+enum-told c = search needs
+
+next-fleet-requires : tie.Need-next-fleet-requires
+next-fleet-requires c κs = sym (c .before .before .check-step .ensures) ∙ c .enum-told .given .1
+
+enum-known-outcome : tie.Need-enum-known-outcome
+enum-known-outcome c = search needs
+
+returns : tie.Need-returns
+unfolding stepped
+returns c = rw (sym (c .before .before .before .check-step .ensures) ∙ c .before .enum-told .given .1, c .next-fleet .ensures)
+
+returns-2 : tie.Need-returns-2
+unfolding stepped
+returns-2 c = rw (sym (c .before .before .before .check-step .ensures) ∙ c .before .outcome .given .1)
+
+pub step-spec : {M : Type 1} → statement M
+step-spec =
+    tie.close
+    (tie.spec
+    check-step-requires
+    enum-told
+    next-fleet-requires
+    enum-known-outcome
+    returns
+    returns-2)

@@ -1,0 +1,60 @@
+-- One round by sets of trucks.
+use Prim.Native.Nat.{ℕ, _<_, _≤_}
+use mathlib.Core.Path.{_≡_}
+use mathlib.Core.Bool.{Bool, true, cond, not}
+use mathlib.Core.List.{List, _∷_}
+use lib.Dec.{eqb}
+use lib.ListN.{length, replicate}
+use Rattle.basics.specs.Bits.{bit}
+use Rattle.protocol.specs.declared.Truck.{Truck}
+use Rattle.protocol.specs.declared.Fleet.{Fleet}
+use Rattle.protocol.specs.Rules.{truck, runs, vetoes}
+use Rattle.protocol.specs.Runs.{openedTrucks}
+use Rattle.protocol.specs.Fleets.{nextFleet}
+use Rattle.truck.specs.declared.Event.{Event}
+use Rattle.truck.specs.declared.Event.the-variants.{Stop, Proposals, Vetoes}
+use Rattle.fleet.specs.declared.round.Roster.{Roster}
+use Rattle.fleet.specs.Sets.{Members, heardSet, valuesOf}
+
+abbrev pub estimates : List Truck → ℕ → ℕ
+estimates ts j = truck ts j .estimate
+
+-- what a proposal round is to truck i, where values holds the senders of each crusher
+unfoldable pub proposalEvent : ℕ → ℕ → ℕ → ℕ → ℕ → List ℕ → ℕ → Event
+proposalEvent stop mark senders row i values e =
+    let v = valuesOf values (heardSet senders row i) e in
+    cond (bit stop i) Stop (Proposals (bit mark i) (v .heard) (v .least))
+
+-- what a veto round is to truck i
+unfoldable pub vetoEvent : ℕ → ℕ → ℕ → ℕ → ℕ → Event
+vetoEvent stop mark senders row i = cond (bit stop i) Stop (Vetoes (bit mark i) (not (eqb (heardSet senders row i) 0)))
+
+-- the two sets of a roster are those that its name says
+pub record Kept (r : Roster) : Type 0 where
+  pub running : Members (r .running) (r .fleet .n) (λ j. runs (truck (r .fleet .trucks) j))
+  pub vetoing : (j : ℕ) → j < r .fleet .n → runs (truck (r .fleet .trucks) j) ≡ true → bit (r .vetoing) j ≡ vetoes (truck (r .fleet .trucks) j)
+
+-- what a round asks of a roster
+pub record Ready (r : Roster) : Type 0 where
+  pub most : r .fleet .n ≤ 32
+  pub places : length (r .fleet .trucks) ≡ 32
+  pub room : r .fleet .done < 400
+  pub small : (j : ℕ) → j < r .fleet .n → estimates (r .fleet .trucks) j < 16
+  pub kept : Kept r
+
+-- a round in plain form
+abbrev pub roundOf : ℕ → ℕ → ℕ → List ℕ → List ℕ
+roundOf stop active mark rows = stop ∷ active ∷ mark ∷ rows
+
+-- the roster after a round
+pub record Played (r : Roster) (stop active mark : ℕ) (rows : List ℕ) (q : Roster) : Type 0 where
+  pub fleet : q .fleet ≡ nextFleet (r .fleet) (roundOf stop active mark rows)
+  pub kept : Kept q
+
+-- a fleet of n trucks before round 1
+abbrev pub openFleet : ℕ → List ℕ → Fleet
+openFleet n openings = record { n = n; done = 0; trucks = openedTrucks openings }
+
+-- rows before any is read
+abbrev pub noRows : List ℕ
+noRows = replicate 32 0

@@ -1,0 +1,97 @@
+// Fleets of trucks: started, stepped, run through a recording, and graded.
+use protocol::Answer;
+use protocol::Fleet;
+use refusals::Outcome;
+use refusals::Refusal;
+ghost use mathlib.Core.Path.{_≡_};
+ghost use Prim.Native.Nat.{_≤_, _+_};
+ghost use lib.ListN.{length, getD};
+ghost use Rattle.refusals.specs.declared.Outcome.the-variants.{Accepted, Refused};
+ghost use Rattle.basics.specs.Lists.{filled};
+ghost use Rattle.protocol.specs.Fleets.{blank, started, stepCheck, nextFleet, stepped};
+ghost use Rattle.fleet.specs.Rounds.{noRows};
+
+mod hearing;
+mod record;
+mod round;
+
+// A refusal of a call that has no record to hand back.
+fn refused(refusal: Refusal) -> Answer
+    ensures { λ r. ⌜ r ≡ record { outcome = Refused refusal; fleet = blank } ⌝ }
+{
+    Answer {
+        outcome: Outcome::Refused(refusal),
+        fleet: record::blank(),
+    }
+}
+
+// Starting a fleet of n trucks.
+pub fn start(n: u8, openings: &[u8]) -> Answer
+    ensures { λ r. ⌜ r ≡ started n (now (openings .entry)) ⌝ }
+{
+    if recording::bad_trucks(n) {
+        return refused(Refusal::TruckCount);
+    }
+    if plain::bad_openings(n, openings) {
+        return refused(Refusal::Record);
+    }
+    Answer {
+        outcome: Outcome::Accepted,
+        fleet: record::open_fleet(n, openings),
+    }
+}
+
+fn check_step(f: Fleet, words: &[u32]) -> Outcome
+    ensures { λ r. ⌜ r ≡ stepCheck f (now (words .entry)) ⌝ }
+{
+    if !record::good_fleet(f) {
+        return Outcome::Refused(Refusal::Record);
+    }
+    if f.done == 400 {
+        return Outcome::Refused(Refusal::RoundsDone);
+    }
+    plain::check_round(f.n, words)
+}
+
+// The rows of a round in plain form.
+fn rows_of(words: &[u32], n: usize) -> [u32; 32]
+    requires { ⌜ (n ≤ 32) × (length (now words) ≡ 3 + n) ⌝ }
+    ensures { λ r. ⌜ r ≡ filled (λ i. getD (now (words .entry)) (3 + i) 0) n noRows ⌝ }
+{
+    let mut rows = [0u32; 32];
+    let mut i = 0;
+    while i < n {
+        rows[i] = words[3 + i];
+        i += 1;
+    }
+    rows
+}
+
+fn next_fleet(f: Fleet, words: &[u32]) -> Fleet
+    requires { ⌜ stepCheck f (now words) ≡ Accepted ⌝ }
+    ensures { λ r. ⌜ r ≡ nextFleet f (now (words .entry)) ⌝ }
+{
+    let stop = words[0];
+    let active = words[1];
+    let mark = words[2];
+    let rows = rows_of(words, f.n as usize);
+    let q = round::play(record::roster(f), stop, active, mark, &rows);
+    q.fleet
+}
+
+// A step by a round in plain form.
+pub fn step(f: Fleet, words: &[u32]) -> Answer
+    ensures { λ r. ⌜ r ≡ stepped f (now (words .entry)) ⌝ }
+{
+    let outcome = check_step(f, words);
+    match outcome {
+        Outcome::Accepted => Answer {
+            outcome: Outcome::Accepted,
+            fleet: next_fleet(f, words),
+        },
+        Outcome::Refused(refusal) => Answer {
+            outcome: Outcome::Refused(refusal),
+            fleet: f,
+        },
+    }
+}

@@ -1,0 +1,157 @@
+// One round of a fleet, by sets of trucks: only running trucks are looked at.
+use crate::hearing::heard_set;
+use crate::hearing::holds;
+use crate::hearing::joined;
+use crate::hearing::lowest;
+use crate::hearing::only;
+use crate::hearing::values_of;
+use crate::hearing::without;
+use protocol::Fleet;
+use truck::Event;
+ghost use mathlib.Core.Path.{_≡_};
+ghost use mathlib.Core.Bool.{true, false};
+ghost use Prim.Native.Nat.{ℕ, _<_, _≤_, _^_, _+_};
+ghost use Rattle.basics.specs.Bits.{odd};
+ghost use Rattle.fleet.specs.Sets.{Sorted};
+ghost use Rattle.fleet.specs.Rounds.{estimates, proposalEvent, vetoEvent, Ready, Played};
+
+// A fleet with two sets of its trucks: who runs, and who of those sends a veto in the next veto round.
+pub struct Roster {
+    pub fleet: Fleet,
+    pub running: u32,
+    pub vetoing: u32,
+}
+
+// The senders of each crusher.
+fn by_crusher(f: Fleet, senders: u32) -> [u32; 16]
+    requires { ⌜ (f .n ≤ 32) × (senders < 2 ^ f .n) × ((j : ℕ) → j < f .n → estimates (f .trucks) j < 16) ⌝ }
+    ensures { λ r. ⌜ Sorted r (f .n) senders (estimates (f .trucks)) ⌝ }
+{
+    let mut values = [0u32; 16];
+    let mut left = senders;
+    while left != 0 {
+        let i = lowest(left);
+        let t = f.trucks[i];
+        let c = t.estimate as usize;
+        values[c] = values[c] | only(i);
+        left = without(left, i);
+    }
+    values
+}
+
+// What a proposal round is to truck i.
+fn proposal_event(
+    stop: u32,
+    mark: u32,
+    senders: u32,
+    row: u32,
+    i: usize,
+    values: &[u32; 16],
+    estimate: u8,
+) -> Event
+    requires { ⌜ i < 32 ⌝ }
+    ensures { λ r. ⌜ r ≡ proposalEvent stop mark senders row i (now (values .entry)) estimate ⌝ }
+{
+    if holds(stop, i) {
+        return Event::Stop;
+    }
+    let v = values_of(values, heard_set(senders, row, i), estimate);
+    let heard = v.heard;
+    Event::Proposals {
+        mark: holds(mark, i),
+        heard,
+        least: v.least,
+    }
+}
+
+// What a veto round is to truck i.
+fn veto_event(stop: u32, mark: u32, senders: u32, row: u32, i: usize) -> Event
+    requires { ⌜ i < 32 ⌝ }
+    ensures { λ r. ⌜ r ≡ vetoEvent stop mark senders row i ⌝ }
+{
+    if holds(stop, i) {
+        return Event::Stop;
+    }
+    Event::Vetoes {
+        mark: holds(mark, i),
+        veto: heard_set(senders, row, i) != 0,
+    }
+}
+
+// A proposal round.
+pub(crate) fn proposal_round(
+    r: Roster,
+    stop: u32,
+    active: u32,
+    mark: u32,
+    rows: &[u32; 32],
+) -> Roster
+    requires { ⌜ Ready r × (odd (r .fleet .done + 1) ≡ true) ⌝ }
+    ensures { λ q. ⌜ Played r stop active mark (now (rows .entry)) q ⌝ }
+{
+    let running = r.running;
+    let going = running ^ (running & stop);
+    let senders = going & active;
+    let mut fleet = r.fleet;
+    let values = by_crusher(fleet, senders);
+    let round = fleet.done + 1;
+    fleet.done = round;
+    let mut vetoing = 0;
+    let mut left = running;
+    while left != 0 {
+        let i = lowest(left);
+        let t = fleet.trucks[i];
+        let event = proposal_event(stop, mark, senders, rows[i], i, &values, t.estimate);
+        let u = truck::after(t, round, event);
+        fleet.trucks[i] = u;
+        vetoing = joined(vetoing, i, truck::vetoes(u));
+        left = without(left, i);
+    }
+    Roster {
+        fleet,
+        running: going,
+        vetoing,
+    }
+}
+
+// A veto round: active bits do nothing.
+pub(crate) fn veto_round(r: Roster, stop: u32, mark: u32, rows: &[u32; 32]) -> Roster
+    requires { ⌜ Ready r × (odd (r .fleet .done + 1) ≡ false) ⌝ }
+    ensures { λ q. ⌜ Played r stop 0 mark (now (rows .entry)) q ⌝ }
+{
+    let running = r.running;
+    let going = running ^ (running & stop);
+    let senders = going & r.vetoing;
+    let mut fleet = r.fleet;
+    let round = fleet.done + 1;
+    fleet.done = round;
+    let mut on = 0;
+    let mut left = running;
+    while left != 0 {
+        let i = lowest(left);
+        let t = fleet.trucks[i];
+        let event = veto_event(stop, mark, senders, rows[i], i);
+        let u = truck::after(t, round, event);
+        fleet.trucks[i] = u;
+        on = joined(on, i, truck::runs(u));
+        left = without(left, i);
+    }
+    Roster {
+        fleet,
+        running: on,
+        vetoing: 0,
+    }
+}
+
+// The next round: odd rounds are for proposals, even rounds for vetoes.
+pub(crate) fn play(r: Roster, stop: u32, active: u32, mark: u32, rows: &[u32; 32]) -> Roster
+    requires { ⌜ Ready r ⌝ }
+    ensures { λ q. ⌜ Played r stop active mark (now (rows .entry)) q ⌝ }
+{
+    let f = r.fleet;
+    if f.done % 2 == 0 {
+        proposal_round(r, stop, active, mark, rows)
+    } else {
+        veto_round(r, stop, mark, rows)
+    }
+}

@@ -1,0 +1,17 @@
+-- What a round makes of one truck (document 01, 'The fleet and its rounds').
+use Prim.Native.Nat.{ℕ}
+use mathlib.Core.Bool.{Bool, true, false}
+use Rattle.protocol.specs.declared.Truck.{Truck}
+use Rattle.protocol.specs.Rules.{stops, proposed, vetoed, turn}
+use Rattle.truck.specs.declared.Event.{Event}
+use Rattle.truck.specs.declared.Event.the-variants.{Stop, Proposals, Vetoes}
+
+-- of a running truck in round k
+abbrev pub happened : ℕ → Event → Truck → Truck
+happened k Stop t = stops k t
+happened k (Proposals m h v) t = proposed m h v t
+happened k (Vetoes m veto) t = vetoed k m veto t
+
+-- of any truck: one that isn't running is left alone
+abbrev pub turned : ℕ → Event → Truck → Truck
+turned k e t = turn (t .state) false t (happened k e t) t

@@ -1,0 +1,143 @@
+// What a round makes of one truck: by value, and where its record stands.
+use protocol::Heard;
+use protocol::State;
+use protocol::Truck;
+ghost use mathlib.Core.Path.{_≡_};
+ghost use Rattle.protocol.specs.Rules.{runs, vetoes, isOne, isSeveral, stops, proposed, vetoed, decides};
+ghost use Rattle.truck.specs.Events.{happened, turned};
+
+// What a round is to a running truck.
+pub enum Event {
+    // Its stop bit is set.
+    Stop,
+    // A proposal round: its mark, how many different values it heard, and the least of them (its estimate where it heard none).
+    Proposals { mark: bool, heard: Heard, least: u8 },
+    // A veto round: its mark, and whether it heard a veto.
+    Vetoes { mark: bool, veto: bool },
+}
+
+// The truck is running.
+pub fn runs(t: Truck) -> bool
+    ensures { λ r. ⌜ r ≡ runs t ⌝ }
+{
+    let state = t.state;
+    match state {
+        State::Running => true,
+        State::Stopped(_) => false,
+        State::Decided(_) => false,
+    }
+}
+
+fn is_several(heard: Heard) -> bool
+    ensures { λ r. ⌜ r ≡ isSeveral heard ⌝ }
+{
+    match heard {
+        Heard::Nothing => false,
+        Heard::One => false,
+        Heard::Several => true,
+    }
+}
+
+// What it heard in a proposal round makes the truck veto in the next.
+pub fn vetoes(t: Truck) -> bool
+    ensures { λ r. ⌜ r ≡ vetoes t ⌝ }
+{
+    let heard = t.heard;
+    t.mark | is_several(heard)
+}
+
+fn after_stop(t: Truck, round: u16) -> Truck
+    ensures { λ r. ⌜ r ≡ stops round t ⌝ }
+{
+    Truck {
+        mark: false,
+        heard: Heard::Nothing,
+        state: State::Stopped(round),
+        ..t
+    }
+}
+
+fn after_proposals(t: Truck, mark: bool, heard: Heard, least: u8) -> Truck
+    ensures { λ r. ⌜ r ≡ proposed mark heard least t ⌝ }
+{
+    let estimate = if mark { t.estimate } else { least };
+    Truck {
+        estimate,
+        mark,
+        heard,
+        ..t
+    }
+}
+
+fn is_one(heard: Heard) -> bool
+    ensures { λ r. ⌜ r ≡ isOne heard ⌝ }
+{
+    match heard {
+        Heard::Nothing => false,
+        Heard::One => true,
+        Heard::Several => false,
+    }
+}
+
+// Whether a truck decides after a veto round.
+fn decides(t: Truck, mark: bool, veto: bool) -> bool
+    ensures { λ r. ⌜ r ≡ decides mark veto t ⌝ }
+{
+    let heard = t.heard;
+    !veto & !mark & is_one(heard)
+}
+
+fn after_vetoes(t: Truck, round: u16, mark: bool, veto: bool) -> Truck
+    ensures { λ r. ⌜ r ≡ vetoed round mark veto t ⌝ }
+{
+    let done = Truck {
+        mark: false,
+        heard: Heard::Nothing,
+        ..t
+    };
+    if decides(t, mark, veto) {
+        Truck {
+            state: State::Decided(round),
+            ..done
+        }
+    } else {
+        done
+    }
+}
+
+fn after_event(t: Truck, round: u16, event: Event) -> Truck
+    ensures { λ r. ⌜ r ≡ happened round event t ⌝ }
+{
+    match event {
+        Event::Stop => after_stop(t, round),
+        Event::Proposals { mark, heard, least } => after_proposals(t, mark, heard, least),
+        Event::Vetoes { mark, veto } => after_vetoes(t, round, mark, veto),
+    }
+}
+
+// The form by value. A truck that isn't running is left alone.
+pub fn updated(t: Truck, round: u16, event: Event) -> Truck
+    ensures { λ r. ⌜ r ≡ turned round event t ⌝ }
+{
+    let state = t.state;
+    match state {
+        State::Running => after_event(t, round, event),
+        State::Stopped(_) => t,
+        State::Decided(_) => t,
+    }
+}
+
+// The truck's record is brought up to date where it stands.
+pub fn update(t: &mut Truck, round: u16, event: Event)
+    ensures { λ _. ⌜ now (t .exit) ≡ turned round event (now (t .entry)) ⌝ }
+{
+    *t = updated(*t, round, event);
+}
+
+// From a record to a record, by way of the loan: whoever calls this one needs no proof by hand.
+pub fn after(mut t: Truck, round: u16, event: Event) -> Truck
+    ensures { λ r. ⌜ r ≡ turned round event t ⌝ }
+{
+    update(&mut t, round, event);
+    t
+}

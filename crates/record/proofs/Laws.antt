@@ -138,18 +138,18 @@ accepted-is n room h = go (badTrucks n) (ltb room (sizeFor 32)) refl refl h
     go false false p q e = (p, range-is n p .1, ltb-false room (sizeFor 32) q)
 
 module _ (n room : ℕ) where
-  pub check-7 : (eqb n 0 || ltb 32 n) ≡ true → Refused Record ≡ packCheck n room
-  unfolding packCheck badTrucks
-  check-7 h = rw h
+  pub check-7 : (b : Bool) → b ≡ badTrucks n → b ≡ true → Refused Record ≡ packCheck n room
+  unfolding packCheck
+  check-7 b e h = rw (sym e ∙ h)
 
-  module _ (range : (eqb n 0 || ltb 32 n) ≡ false) where
+  module _ (b : Bool) (counted : b ≡ badTrucks n) (range : b ≡ false) where
     pub check-9 : room < sizeFor 32 → Refused ShortBuffer ≡ packCheck n room
-    unfolding packCheck badTrucks
-    check-9 h = rw (range, lt-ltb room (sizeFor 32) h)
+    unfolding packCheck
+    check-9 h = rw (sym counted ∙ range, lt-ltb room (sizeFor 32) h)
 
     pub check-0 : sizeFor 32 ≤ room → Accepted ≡ packCheck n room
-    unfolding packCheck badTrucks
-    check-0 h = rw (range, le-ltb room (sizeFor 32) h)
+    unfolding packCheck
+    check-0 h = rw (sym counted ∙ range, le-ltb room (sizeFor 32) h)
 
 module _ (f : Fleet) (d : List ℕ) (o : Outcome) (checked : o ≡ packCheck (f .n) (length d)) where
   module _ (r : Refusal) (kept : o ≡ Refused r) where
@@ -220,24 +220,23 @@ module _ (d : List ℕ) where
   unfolding damaged
   unpack-short a e h = refused-as (rw (lt-ltb (length d) (sizeFor 32) h)) a e
 
-  module _ (whole : sizeFor 32 ≤ length d) where
-    pub unpack-count : (a : Answer) → a ≡ noRecord → (eqb (getD d 0 0) 0 || ltb 32 (getD d 0 0)) ≡ true → a ≡ unpacked d
-    unfolding damaged badTrucks
-    unpack-count a e h = refused-as (rw (le-ltb (length d) (sizeFor 32) whole, h)) a e
+  module _ (whole : sizeFor 32 ≤ length d) (b : Bool) (counted : b ≡ badTrucks (getD d 0 0)) where
+    pub unpack-count : (a : Answer) → a ≡ noRecord → b ≡ true → a ≡ unpacked d
+    unfolding damaged
+    unpack-count a e h = refused-as (rw (le-ltb (length d) (sizeFor 32) whole, sym counted ∙ h)) a e
 
-    module _ (range : (eqb (getD d 0 0) 0 || ltb 32 (getD d 0 0)) ≡ false) where
+    module _ (range : b ≡ false) where
       pub count-most : getD d 0 0 ≤ 32
-      unfolding badTrucks
-      count-most = range-is (getD d 0 0) range .1
+      count-most = range-is (getD d 0 0) (sym counted ∙ range) .1
 
-      module _ (b : Bool) (searched : b ≡ someBelow (damagedAt d) (getD d 0 0)) where
-        damaged-by : damaged d ≡ b
-        unfolding damaged badTrucks
-        damaged-by = rw (le-ltb (length d) (sizeFor 32) whole, range, searched)
+      module _ (x : Bool) (searched : x ≡ someBelow (damagedAt d) (getD d 0 0)) where
+        damaged-by : damaged d ≡ x
+        unfolding damaged
+        damaged-by = rw (le-ltb (length d) (sizeFor 32) whole, sym counted ∙ range, searched)
 
-        pub unpack-place : (a : Answer) → a ≡ noRecord → b ≡ true → a ≡ unpacked d
+        pub unpack-place : (a : Answer) → a ≡ noRecord → x ≡ true → a ≡ unpacked d
         unpack-place a e h = refused-as (damaged-by ∙ h) a e
 
-        pub unpack-0 : (f : Fleet) → f ≡ recordOf d → b ≡ false → record { outcome = Accepted; fleet = f } ≡ unpacked d
+        pub unpack-0 : (f : Fleet) → f ≡ recordOf d → x ≡ false → record { outcome = Accepted; fleet = f } ≡ unpacked d
         unfolding unpacked
         unpack-0 f e h = rw (damaged-by ∙ h, e)

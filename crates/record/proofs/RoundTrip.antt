@@ -156,12 +156,12 @@ module _ (d : List ℕ) (bytes : Bytes d) (u : Undamaged d) where
 
 -- the bytes of an undamaged record come back as they were
 pub bytes-back : (d : List ℕ) → Bytes d → damaged d ≡ false → packedRecord (recordOf d) d ≡ d
-unfolding packedRecord recordOf badTrucks
+unfolding packedRecord recordOf
 bytes-back d bytes h =
     let u = undamaged d h in
     let n = getD d 0 0 in
     let most : n ≤ 32 = range-is n (u .range) .1 in
-    ap (λ (o : Outcome). packFor o n (recordOf d) d) (sym (check-0 n (length d) (u .range) (u .whole)))
+    ap (λ (o : Outcome). packFor o n (recordOf d) d) (sym (check-0 n (length d) false (sym (u .range)) refl (u .whole)))
     ∙ filled-same (recordByte (recordOf d)) (sizeFor n) d (omega (arith, u .whole)) (byte-back d bytes u)
 
 -- ---- a record that is put into a buffer is read out of it

@@ -84,7 +84,7 @@ fn put(f: Fleet, m: usize, d: &mut [u8])
 fn check(n: u8, room: usize) -> Outcome
     ensures { λ r. ⌜ r ≡ packCheck n room ⌝ }
 {
-    if (n == 0) | (32 < n) {
+    if recording::bad_trucks(n) {
         return Outcome::Refused(Refusal::Record);
     }
     if room < 227 {
@@ -276,7 +276,7 @@ pub fn unpack(d: &[u8]) -> Answer
         return no_record();
     }
     let n = d[0];
-    if (n == 0) | (32 < n) {
+    if recording::bad_trucks(n) {
         return no_record();
     }
     if some_damaged(d, n) {

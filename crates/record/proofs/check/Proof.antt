@@ -1,3 +1,4 @@
+use borrow.Author.Needs.{needs}
 use Rattle.record.proofs.Laws.{check-7, check-9, check-0}
 use Rattle.record.proofs.check.Statement.{statement}
 use Rattle.record.proofs.check.Tie as tie
@@ -12,4 +13,4 @@ returns-3 : tie.Need-returns-3
 returns-3 c = search check-0
 
 pub check-spec : {M : Type 1} → statement M
-check-spec = tie.close (tie.spec returns returns-2 returns-3)
+check-spec = tie.close (tie.spec (λ c κs. search needs) returns returns-2 returns-3)

@@ -29,6 +29,7 @@ unpack-spec =
     returns
     (λ c. search needs)
     (λ c κs. search needs)
+    (λ c κs. search needs)
     returns-2
     some-damaged-requires
     (λ c κs. search needs)

@@ -1,0 +1,265 @@
+-- Bytes and records: the bytes of an undamaged record come back as they were, and a record that is put into a buffer is read out of it again.
+use mathlib.Core.Path.{_≡_, refl, ap, ap₂, sym, _∙_}
+use mathlib.Core.Bool.{Bool, true, false, _&&_, _||_}
+use mathlib.Core.List.{List, []}
+use Prim.Native.Nat.{ℕ, zero, suc, _+_, _*_, _/_, _%_, _≤_, _<_}
+use native.Mathlib.Decide.{decLt}
+use native.Mathlib.Omega.{arith}
+use lib.Dec.{eqb, ltb}
+use lib.ListN.{length, getD}
+use lib.Seq.{ext-getD}
+use borrow.Author.Tests.{le-ltb, ltb-false}
+use Rattle.basics.specs.Lists.{filled, someBelow}
+use Rattle.basics.proofs.Laws.{length-filled, getD-filled, getD-filled-past, someBelow-none, none-someBelow}
+use Rattle.refusals.specs.declared.Outcome.{Outcome}
+use Rattle.refusals.specs.declared.Outcome.the-variants.{Accepted}
+use Rattle.recording.specs.Checks.{badTrucks}
+use Rattle.protocol.specs.declared.Heard.{Heard}
+use Rattle.protocol.specs.declared.Heard.the-variants.{Nothing, One, Several}
+use Rattle.protocol.specs.declared.State.{State}
+use Rattle.protocol.specs.declared.State.the-variants.{Running, Stopped, Decided}
+use Rattle.protocol.specs.declared.Truck.{Truck}
+use Rattle.protocol.specs.declared.Fleet.{Fleet}
+use Rattle.protocol.specs.Rules.{truck, opened}
+use Rattle.protocol.specs.Runs.{openedTrucks}
+use Rattle.record.specs.Layout.{sizeFor, markByte, heardByte, stateByte, roundOf, truckBytes, recordByte, packCheck, packFor, packedRecord, packedWhole, heardOf, stateOf, pairOf, placeByte, placeRound, truckAt, damagedAt, damaged, recordOf, unpacked}
+use Rattle.record.proofs.Laws.{or-first, or-second, place-byte, range-is, accepted-is, check-0}
+
+-- ---- numbers of two bytes
+
+pair-low : (a b : ℕ) → a < 256 → pairOf a b % 256 ≡ a
+pair-low a b h = omega arith
+
+pair-high : (a b : ℕ) → a < 256 → pairOf a b / 256 ≡ b
+pair-high a b h = omega arith
+
+pair-back : (k : ℕ) → pairOf (k % 256) (k / 256) ≡ k
+pair-back k = omega arith
+
+-- ---- a byte, as what it stands for and back
+
+mark-back : (b : ℕ) → ltb 1 b ≡ false → markByte (eqb b 1) ≡ b
+mark-back zero h = refl
+mark-back (suc zero) h = refl
+mark-back (suc (suc b)) h = absurd (omega (arith, ltb-false 1 (suc (suc b)) h))
+
+heard-back : (b : ℕ) → ltb 2 b ≡ false → heardByte (heardOf b) ≡ b
+heard-back zero h = refl
+heard-back (suc zero) h = refl
+heard-back (suc (suc zero)) h = refl
+heard-back (suc (suc (suc b))) h = absurd (omega (arith, ltb-false 2 (suc (suc (suc b))) h))
+
+state-back : (b k : ℕ) → ltb 2 b ≡ false → stateByte (stateOf b k) ≡ b
+state-back zero k h = refl
+state-back (suc zero) k h = refl
+state-back (suc (suc zero)) k h = refl
+state-back (suc (suc (suc b))) k h = absurd (omega (arith, ltb-false 2 (suc (suc (suc b))) h))
+
+-- a running truck has no round
+round-back : (b k : ℕ) → ltb 2 b ≡ false → (eqb b 0 && ltb 0 k) ≡ false → roundOf (stateOf b k) ≡ k
+round-back zero k h e = omega (arith, ltb-false 0 k e)
+round-back (suc zero) k h e = refl
+round-back (suc (suc zero)) k h e = refl
+round-back (suc (suc (suc b))) k h e = absurd (omega (arith, ltb-false 2 (suc (suc (suc b))) h))
+
+-- ---- bytes that are a record come back
+
+-- a list that is filled with what it holds
+filled-same : (g : ℕ → ℕ) (m : ℕ) (d : List ℕ) → m ≤ length d → ((k : ℕ) → k < m → g k ≡ getD d k 0) → filled g m d ≡ d
+filled-same g m d h e =
+    ext-getD 0 (filled g m d) d (length-filled g m d h) (λ k l. at k (decLt k m))
+  where
+    at : (k : ℕ) → Dec (k < m) → getD (filled g m d) k 0 ≡ getD d k 0
+    at k (yes l) = getD-filled g m d k 0 l ∙ e k l
+    at k (no l) = getD-filled-past g m d k 0 (omega arith)
+
+-- what the bytes of an undamaged place are
+record Sound (d : List ℕ) (i : ℕ) : Type 0 where
+  mark : ltb 1 (placeByte d i 2) ≡ false
+  heard : ltb 2 (placeByte d i 3) ≡ false
+  state : ltb 2 (placeByte d i 4) ≡ false
+  round : (eqb (placeByte d i 4) 0 && ltb 0 (placeRound d i)) ≡ false
+
+sound : (d : List ℕ) (i : ℕ) → damagedAt d i ≡ false → Sound d i
+unfolding damagedAt
+sound d i h = go (ltb 1 (placeByte d i 2)) (ltb 2 (placeByte d i 3)) (ltb 2 (placeByte d i 4)) (eqb (placeByte d i 4) 0 && ltb 0 (placeRound d i)) refl refl refl refl h
+  where
+    go : (a b c e : Bool) → ltb 1 (placeByte d i 2) ≡ a → ltb 2 (placeByte d i 3) ≡ b → ltb 2 (placeByte d i 4) ≡ c → (eqb (placeByte d i 4) 0 && ltb 0 (placeRound d i)) ≡ e
+        → (a || b || c || e) ≡ false → Sound d i
+    go a b c e p q r t h =
+        let abc = or-first (a || b || c) e h in
+        let ab = or-first (a || b) c abc in
+        record {
+          mark = p ∙ or-first a b ab;
+          heard = q ∙ or-second a b ab;
+          state = r ∙ or-second (a || b) c abc;
+          round = t ∙ or-second (a || b || c) e h;
+        }
+
+-- its seven bytes
+place-back : (d : List ℕ) (i : ℕ) → Sound d i → placeByte d i 5 < 256 → (j : ℕ) → j < 7 → getD (truckBytes (truckAt d i)) j 0 ≡ placeByte d i j
+unfolding truckAt
+place-back d i s low zero l = refl
+place-back d i s low (suc zero) l = refl
+place-back d i s low (suc (suc zero)) l = mark-back (placeByte d i 2) (s .mark)
+place-back d i s low (suc (suc (suc zero))) l = heard-back (placeByte d i 3) (s .heard)
+place-back d i s low (suc (suc (suc (suc zero)))) l = state-back (placeByte d i 4) (placeRound d i) (s .state)
+place-back d i s low (suc (suc (suc (suc (suc zero))))) l =
+    ap (λ (k : ℕ). k % 256) (round-back (placeByte d i 4) (placeRound d i) (s .state) (s .round)) ∙ pair-low (placeByte d i 5) (placeByte d i 6) low
+place-back d i s low (suc (suc (suc (suc (suc (suc zero)))))) l =
+    ap (λ (k : ℕ). k / 256) (round-back (placeByte d i 4) (placeRound d i) (s .state) (s .round)) ∙ pair-high (placeByte d i 5) (placeByte d i 6) low
+place-back d i s low (suc (suc (suc (suc (suc (suc (suc j))))))) l = absurd (omega arith)
+
+-- bytes: every element of the list is below 256
+abbrev pub Bytes : List ℕ → Type 0
+Bytes d = (k : ℕ) → k < length d → getD d k 0 < 256
+
+-- what makes bytes a record
+record Undamaged (d : List ℕ) : Type 0 where
+  whole : sizeFor 32 ≤ length d
+  range : badTrucks (getD d 0 0) ≡ false
+  places : (i : ℕ) → i < getD d 0 0 → Sound d i
+
+undamaged : (d : List ℕ) → damaged d ≡ false → Undamaged d
+unfolding damaged
+undamaged d h =
+    let front : (ltb (length d) (sizeFor 32) || badTrucks (getD d 0 0)) ≡ false = or-first (ltb (length d) (sizeFor 32) || badTrucks (getD d 0 0)) (someBelow (damagedAt d) (getD d 0 0)) h in
+    record {
+      whole = ltb-false (length d) (sizeFor 32) (or-first (ltb (length d) (sizeFor 32)) (badTrucks (getD d 0 0)) front);
+      range = or-second (ltb (length d) (sizeFor 32)) (badTrucks (getD d 0 0)) front;
+      places = λ i l. sound d i (someBelow-none (damagedAt d) (getD d 0 0) (or-second (ltb (length d) (sizeFor 32) || badTrucks (getD d 0 0)) (someBelow (damagedAt d) (getD d 0 0)) h) i l);
+    }
+
+module _ (d : List ℕ) (bytes : Bytes d) (u : Undamaged d) where
+  -- a byte of a place
+  later-back : (q : ℕ) → q < 7 * getD d 0 0 → recordByte (recordOf d) (3 + q) ≡ getD d (3 + q) 0
+  unfolding recordOf placeByte
+  later-back q h =
+      let n = getD d 0 0 in
+      let most : n ≤ 32 = range-is n (u .range) .1 in
+      let i : q / 7 < n = omega arith in
+      let low : placeByte d (q / 7) 5 < 256 = bytes (sizeFor (q / 7) + 5) (omega (arith, u .whole)) in
+      let e : sizeFor (q / 7) + q % 7 ≡ 3 + q = omega arith in
+      sym (place-byte (recordOf d) q)
+      ∙ ap (λ (t : Truck). getD (truckBytes t) (q % 7) 0) (getD-filled (truckAt d) n (openedTrucks []) (q / 7) (opened 0) i)
+      ∙ place-back d (q / 7) (u .places (q / 7) i) low (q % 7) (omega arith)
+      ∙ ap (λ (k : ℕ). getD d k 0) e
+
+  byte-back : (p : ℕ) → p < sizeFor (getD d 0 0) → recordByte (recordOf d) p ≡ getD d p 0
+  unfolding recordOf recordByte
+  byte-back zero h = refl
+  byte-back (suc zero) h = pair-low (getD d 1 0) (getD d 2 0) (bytes 1 (omega (arith, u .whole)))
+  byte-back (suc (suc zero)) h = pair-high (getD d 1 0) (getD d 2 0) (bytes 1 (omega (arith, u .whole)))
+  byte-back (suc (suc (suc q))) h =
+      let e : suc (suc (suc q)) ≡ 3 + q = omega arith in
+      ap (recordByte (recordOf d)) e ∙ later-back q (omega arith) ∙ sym (ap (λ (k : ℕ). getD d k 0) e)
+
+-- the bytes of an undamaged record come back as they were
+pub bytes-back : (d : List ℕ) → Bytes d → damaged d ≡ false → packedRecord (recordOf d) d ≡ d
+unfolding packedRecord recordOf
+bytes-back d bytes h =
+    let u = undamaged d h in
+    let n = getD d 0 0 in
+    let most : n ≤ 32 = range-is n (u .range) .1 in
+    ap (λ (o : Outcome). packFor o n (recordOf d) d) (sym (check-0 n (length d) false (sym (u .range)) refl (u .whole)))
+    ∙ filled-same (recordByte (recordOf d)) (sizeFor n) d (omega (arith, u .whole)) (byte-back d bytes u)
+
+-- ---- a record that is put into a buffer is read out of it
+
+-- the two records have n, the rounds done and the trucks below n in common
+pub record Same (f g : Fleet) : Type 0 where
+  pub n : g .n ≡ f .n
+  pub done : g .done ≡ f .done
+  pub trucks : (i : ℕ) → i < f .n → truck (g .trucks) i ≡ truck (f .trucks) i
+
+mark-there : (m : Bool) → (eqb (markByte m) 1 ≡ m) × (ltb 1 (markByte m) ≡ false)
+mark-there true = (refl, refl)
+mark-there false = (refl, refl)
+
+heard-there : (h : Heard) → (heardOf (heardByte h) ≡ h) × (ltb 2 (heardByte h) ≡ false)
+heard-there Nothing = (refl, refl)
+heard-there One = (refl, refl)
+heard-there Several = (refl, refl)
+
+state-there : (s : State)
+    → (stateOf (stateByte s) (roundOf s) ≡ s) × (ltb 2 (stateByte s) ≡ false) × ((eqb (stateByte s) 0 && ltb 0 (roundOf s)) ≡ false)
+state-there Running = (refl, refl, refl)
+state-there (Stopped k) = (refl, refl, refl)
+state-there (Decided k) = (refl, refl, refl)
+
+-- a place that holds the bytes of a truck
+module _ (d : List ℕ) (i : ℕ) (t : Truck) (holds : (j : ℕ) → j < 7 → placeByte d i j ≡ getD (truckBytes t) j 0) where
+  round-there : placeRound d i ≡ roundOf (t .state)
+  round-there = ap₂ (λ (a b : ℕ). pairOf a b) (holds 5 (omega arith)) (holds 6 (omega arith)) ∙ pair-back (roundOf (t .state))
+
+  truck-there : truckAt d i ≡ t
+  unfolding truckAt
+  truck-there =
+      rw (holds 0 (omega arith), holds 1 (omega arith), holds 2 (omega arith), holds 3 (omega arith), holds 4 (omega arith), round-there)
+      (simp (mark-there (t .mark) .0, heard-there (t .heard) .0, state-there (t .state) .0))
+
+  place-there : damagedAt d i ≡ false
+  unfolding damagedAt
+  place-there =
+      rw (holds 2 (omega arith), holds 3 (omega arith), holds 4 (omega arith), round-there)
+      (simp (mark-there (t .mark) .1, heard-there (t .heard) .1, state-there (t .state) .1, state-there (t .state) .2))
+
+-- the first m places, n of which hold trucks, in a buffer with room for all
+module _ (f : Fleet) (d : List ℕ) (m : ℕ) (range : badTrucks (f .n) ≡ false) (room : sizeFor 32 ≤ length d) (low : f .n ≤ m) (high : m ≤ 32) where
+  abbrev laid : List ℕ
+  laid = filled (recordByte f) (sizeFor m) d
+
+  byte-laid : (p : ℕ) → p < sizeFor m → getD laid p 0 ≡ recordByte f p
+  byte-laid p h = getD-filled (recordByte f) (sizeFor m) d p 0 h
+
+  head-laid : (getD laid 0 0 ≡ f .n) × (pairOf (getD laid 1 0) (getD laid 2 0) ≡ f .done)
+  unfolding recordByte
+  head-laid =
+      (byte-laid 0 (omega arith), ap₂ (λ (a b : ℕ). pairOf a b) (byte-laid 1 (omega arith)) (byte-laid 2 (omega arith)) ∙ pair-back (f .done))
+
+  place-laid : (i : ℕ) → i < m → (j : ℕ) → j < 7 → placeByte laid i j ≡ getD (truckBytes (truck (f .trucks) i)) j 0
+  unfolding placeByte
+  place-laid i h j l =
+      let e : sizeFor i + j ≡ 3 + (7 * i + j) = omega arith in
+      let q : (7 * i + j) / 7 ≡ i = omega arith in
+      let r : (7 * i + j) % 7 ≡ j = omega arith in
+      byte-laid (sizeFor i + j) (omega arith)
+      ∙ ap (recordByte f) e
+      ∙ sym (place-byte f (7 * i + j))
+      ∙ ap₂ (λ (a b : ℕ). getD (truckBytes (truck (f .trucks) a)) b 0) q r
+
+  same-laid : Same f (recordOf laid)
+  unfolding recordOf
+  same-laid =
+      record {
+        n = head-laid .0;
+        done = head-laid .1;
+        trucks = λ i l.
+            getD-filled (truckAt laid) (getD laid 0 0) (openedTrucks []) i (opened 0) (omega (arith, head-laid .0))
+            ∙ truck-there laid i (truck (f .trucks) i) (place-laid i (omega arith));
+      }
+
+  undamaged-laid : damaged laid ≡ false
+  unfolding damaged
+  undamaged-laid =
+      rw (le-ltb (length laid) (sizeFor 32) (omega (arith, length-filled (recordByte f) (sizeFor m) d (omega arith))), head-laid .0, range)
+      (none-someBelow (damagedAt laid) (f .n) (λ i l. place-there laid i (truck (f .trucks) i) (place-laid i (omega arith))))
+
+  read-laid : (unpacked laid .outcome ≡ Accepted) × Same f (unpacked laid .fleet)
+  unfolding unpacked
+  read-laid = rw undamaged-laid (refl, same-laid)
+
+-- a record brought up to date in a buffer is read out of it, and so is one that is put there whole
+pub record-back : (f : Fleet) (d : List ℕ) → packCheck (f .n) (length d) ≡ Accepted
+    → (unpacked (packedRecord f d) .outcome ≡ Accepted) × Same f (unpacked (packedRecord f d) .fleet)
+unfolding packedRecord
+record-back f d h =
+    let g = accepted-is (f .n) (length d) h in
+    rw h (read-laid f d (f .n) (g .0) (g .2) (omega arith) (g .1))
+
+pub whole-back : (f : Fleet) (d : List ℕ) → packCheck (f .n) (length d) ≡ Accepted
+    → (unpacked (packedWhole f d) .outcome ≡ Accepted) × Same f (unpacked (packedWhole f d) .fleet)
+unfolding packedWhole
+whole-back f d h =
+    let g = accepted-is (f .n) (length d) h in
+    rw h (read-laid f d 32 (g .0) (g .2) (g .1) (omega arith))

@@ -1,0 +1,21 @@
+use borrow.Author.Needs.{needs}
+use Rattle.record.proofs.Laws.{truck-is}
+use Rattle.record.proofs.truck_at.Statement.{statement}
+use Rattle.record.proofs.truck_at.Tie as tie
+
+returns : tie.Need-returns
+returns c = search truck-is
+
+pub truck-at-spec : {M : Type 1} → statement M
+truck-at-spec =
+    tie.close
+    (tie.spec
+    (λ c κs. search needs)
+    (λ c κs. search needs)
+    (λ c κs. search needs)
+    (λ c κs. search needs)
+    (λ c κs. search needs)
+    (λ c κs. search needs)
+    (λ c κs. search needs)
+    (λ c κs. search needs)
+    returns)

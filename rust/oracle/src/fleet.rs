@@ -1,0 +1,106 @@
+//! Fleet records, and refusal 7 of one.
+
+use crate::recording::{MAX_CRUSHER, MAX_ROUNDS, MAX_TRUCKS};
+
+/// Places of a record, whatever its n.
+pub const PLACES: usize = 32;
+
+/// How many different values a truck heard in the proposal round.
+#[derive(Clone, Copy, Debug, PartialEq, Eq)]
+pub enum Heard {
+    Nothing,
+    One,
+    Several,
+}
+
+/// What a truck does; the number is the round of its stop or decision.
+#[derive(Clone, Copy, Debug, PartialEq, Eq)]
+pub enum State {
+    Running,
+    Stopped(u16),
+    Decided(u16),
+}
+
+/// One truck. A decided truck's crusher is its estimate.
+#[derive(Clone, Copy, Debug, PartialEq, Eq)]
+pub struct Truck {
+    pub opening: u8,
+    pub estimate: u8,
+    /// Memory: had a mark in the proposal round.
+    pub mark: bool,
+    /// Memory: values heard in the proposal round.
+    pub heard: Heard,
+    pub state: State,
+}
+
+impl Truck {
+    /// A truck before round 1.
+    pub fn opened(opening: u8) -> Truck {
+        Truck {
+            opening,
+            estimate: opening,
+            mark: false,
+            heard: Heard::Nothing,
+            state: State::Running,
+        }
+    }
+
+    pub fn is_running(&self) -> bool {
+        self.state == State::Running
+    }
+
+    pub fn memory_is_empty(&self) -> bool {
+        !self.mark && self.heard == Heard::Nothing
+    }
+
+    /// The same truck with nothing remembered.
+    pub fn with_empty_memory(self) -> Truck {
+        Truck { mark: false, heard: Heard::Nothing, ..self }
+    }
+}
+
+/// A fleet record: n trucks in the first places, and the rounds done.
+#[derive(Clone, Copy, Debug, PartialEq, Eq)]
+pub struct Fleet {
+    pub n: u8,
+    pub done: u16,
+    pub trucks: [Truck; PLACES],
+}
+
+impl Fleet {
+    /// The record that a refused start or run holds.
+    pub fn blank() -> Fleet {
+        Fleet { n: 0, done: 0, trucks: [Truck::opened(0); PLACES] }
+    }
+
+    /// The trucks below n. Only for a record with n in range.
+    pub fn trucks_below_n(&self) -> &[Truck] {
+        &self.trucks[..self.n as usize]
+    }
+
+    /// Whether two records have the same n, rounds done and trucks below n.
+    pub fn same_below_n(&self, other: &Fleet) -> bool {
+        self.n == other.n
+            && self.done == other.done
+            && self.trucks_below_n() == other.trucks_below_n()
+    }
+}
+
+/// Refusal 7 of a record. Places n and above are not read.
+pub fn record_refused(fleet: &Fleet) -> bool {
+    if fleet.n == 0 || fleet.n as usize > MAX_TRUCKS || fleet.done as usize > MAX_ROUNDS {
+        return true;
+    }
+    fleet.trucks_below_n().iter().any(|truck| truck_refused(truck, fleet.done))
+}
+
+fn truck_refused(truck: &Truck, done: u16) -> bool {
+    let crusher_too_high = truck.opening > MAX_CRUSHER || truck.estimate > MAX_CRUSHER;
+    let round_wrong = match truck.state {
+        State::Running => false,
+        State::Stopped(round) => round == 0 || round > done,
+        State::Decided(round) => round == 0 || round % 2 == 1 || round > done,
+    };
+    let memory_wrong = !truck.memory_is_empty() && (done % 2 == 0 || !truck.is_running());
+    crusher_too_high || round_wrong || memory_wrong
+}

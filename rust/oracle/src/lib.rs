@@ -1,0 +1,31 @@
+//! A second reading of the scope paper "Crusher agreement by radio rounds",
+//! in plain Rust, made to test the library from outside.
+//!
+//! Everything outside [`fast`] is written for reading: bits one at a time,
+//! trucks one at a time, no masks. [`fast`] follows the same rules with masks
+//! and is a yardstick for speed. [`gen`] makes inputs from a fixed seed.
+//!
+//! A refusal is its number in the paper, 1 to 14. Where an answer is a number
+//! beside a record, 0 stands for accepted.
+
+#![forbid(unsafe_code)]
+// Rules read best with plain indices and remainders.
+#![allow(clippy::needless_range_loop, clippy::manual_is_multiple_of)]
+
+pub mod fast;
+pub mod fleet;
+pub mod gen;
+pub mod listing;
+pub mod lists;
+pub mod marks;
+pub mod recording;
+pub mod roads;
+pub mod steps;
+
+pub use fleet::{Fleet, Heard, State, Truck};
+pub use listing::{listing, listing_into, program};
+pub use lists::List;
+pub use marks::{calm, grade, Classes};
+pub use recording::{check, read, read_into, write, write_into, Header, Plain};
+pub use roads::opening;
+pub use steps::{run, start, step, Air};

@@ -1,0 +1,90 @@
+//! What a mark is worth: the four classes, grading, and calm.
+
+use crate::recording::{read, Plain};
+use crate::steps::{air, follow, start, Air};
+
+/// Whether a round keeps each of the four.
+#[derive(Clone, Copy, Debug, PartialEq, Eq)]
+pub struct Classes {
+    pub complete: bool,
+    pub majority: bool,
+    pub zero: bool,
+    pub accurate: bool,
+}
+
+/// Every round of a plain form on the air, by the rules from its openings.
+pub fn airs(plain: &Plain) -> Vec<Air> {
+    let (_, mut fleet) = start(plain.n as u64, &plain.openings);
+    let mut list = Vec::new();
+    for round in 1..=plain.rounds {
+        list.push(air(&fleet, plain.round(round)));
+        fleet = follow(&fleet, plain.round(round));
+    }
+    list
+}
+
+/// Judges the running trucks of one round.
+pub fn classes(air: &Air) -> Classes {
+    let messages = air.messages();
+    let mut kept = Classes { complete: true, majority: true, zero: true, accurate: true };
+    for i in air.running_trucks() {
+        let heard = air.heard(i);
+        let missed = air.missed(i);
+        let mark = air.mark_bit[i];
+        if missed > 0 && !mark {
+            kept.complete = false;
+        }
+        if messages > 0 && 2 * heard <= messages && !mark {
+            kept.majority = false;
+        }
+        if messages > 0 && heard == 0 && !mark {
+            kept.zero = false;
+        }
+        if mark && missed == 0 {
+            kept.accurate = false;
+        }
+    }
+    kept
+}
+
+/// The classes of each round, round 1 first.
+pub fn classes_of(plain: &Plain) -> Vec<Classes> {
+    airs(plain).iter().map(classes).collect()
+}
+
+/// Whether the marks are majority complete in every round.
+pub fn majority_complete(plain: &Plain) -> bool {
+    classes_of(plain).iter().all(|c| c.majority)
+}
+
+/// The first round that breaks each of complete, majority complete, zero
+/// complete and accurate, or 0.
+pub fn grade(bytes: &[u8]) -> Result<[u16; 4], u8> {
+    let kept = classes_of(&read(bytes)?);
+    let first = |keeps: fn(&Classes) -> bool| match kept.iter().position(|c| !keeps(c)) {
+        Some(index) => index as u16 + 1,
+        None => 0,
+    };
+    Ok([first(|c| c.complete), first(|c| c.majority), first(|c| c.zero), first(|c| c.accurate)])
+}
+
+/// Whether a recording is calm from S with b.
+pub fn calm(plain: &Plain, s: u64, b: u64) -> bool {
+    if !(1..=400).contains(&s) || s + 4 > plain.rounds as u64 {
+        return false;
+    }
+    let first = s as usize - 1;
+    airs(plain)[first..first + 5].iter().all(|air| round_is_calm(air, b))
+}
+
+/// What calm asks of each of its five rounds.
+pub fn round_is_calm(air: &Air, b: u64) -> bool {
+    let running = air.running_trucks();
+    let senders = air.messages() as u64;
+    let few_senders = 1 <= senders && senders <= b;
+    let no_false_mark = classes(air).accurate;
+    let heard_in_full = running.iter().all(|i| air.missed(*i) == 0);
+    no_false_mark
+        && (!few_senders || heard_in_full)
+        && (!air.is_proposal() || running.is_empty() || few_senders)
+}

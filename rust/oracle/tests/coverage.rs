@@ -1,0 +1,171 @@
+//! What the generators reach: every refusal number, and every branch of the
+//! rules that is easy to count.
+
+use std::collections::{BTreeMap, BTreeSet};
+
+use oracle::gen::{self, Rng, FULL, SMALL};
+use oracle::lists::play;
+use oracle::marks::airs;
+use oracle::steps::follow;
+use oracle::*;
+
+#[test]
+fn every_refusal_number_is_produced() {
+    let mut rng = Rng::new(61);
+    let mut met = BTreeSet::new();
+    for k in 0..240u8 {
+        let damaged = gen::damaged(&mut rng, SMALL, k % 6 + 1);
+        met.insert(run(&damaged.bytes).0);
+        let w = gen::writing(&mut rng, SMALL, [2, 3, 7, 8, 6, 9][k as usize % 6]);
+        let mut buffer = vec![0; w.buffer];
+        met.extend(write_into(w.n, w.rounds, &w.openings, &w.words, &mut buffer).err());
+        let lists = gen::refused_roads(&mut rng, 10 + k % 4);
+        met.extend(opening(&lists.lengths, &lists.metres, &lists.seconds).err());
+    }
+    met.extend(play(&gen::long_list(&mut rng, 4)).unwrap().0);
+    met.remove(&0);
+    assert_eq!(met, (1..=14).collect());
+}
+
+/// Names of what happens to a running truck in a round.
+fn events(before: &Truck, after: &Truck, air: &Air, i: usize) -> Vec<&'static str> {
+    let (mark, heard, missed) = (air.mark_bit[i], air.heard(i), air.missed(i));
+    let mut list = vec![];
+    let mut note = |holds: bool, name| {
+        if holds {
+            list.push(name);
+        }
+    };
+    let others = air.messages() > air.sends[i] as usize;
+    if !air.running[i] {
+        note(air.is_proposal(), "stops in a proposal round");
+        note(!air.is_proposal(), "stops in a veto round");
+        note(!before.memory_is_empty(), "stops with a memory");
+        return list;
+    }
+    note(mark && missed == 0, "false mark");
+    note(mark && missed > 0, "true mark");
+    note(!mark && missed > 0 && 2 * heard > air.messages(), "misses a minority unmarked");
+    note(!mark && missed > 0 && 2 * heard == air.messages(), "hears just half unmarked");
+    note(!mark && others && heard == 0, "hears none of some unmarked");
+    if air.is_proposal() {
+        note(air.sends[i], "proposes");
+        note(after.estimate < before.estimate, "takes a lower value");
+        note(after.estimate > before.estimate, "takes a higher value");
+        note(mark && after.heard == Heard::Nothing, "marked with no value");
+        note(mark && after.heard == Heard::One, "marked with one value");
+        note(mark && after.heard == Heard::Several, "marked with several values");
+        note(!mark && after.heard == Heard::Nothing, "unmarked with no value");
+        note(!mark && after.heard == Heard::One, "unmarked with one value");
+        note(!mark && after.heard == Heard::Several, "unmarked with several values");
+        note(after.heard == Heard::One && heard > 1, "equal messages");
+    } else {
+        let decides = after.state != State::Running;
+        note(before.mark && before.heard != Heard::Several, "vetoes by a mark");
+        note(!before.mark && before.heard == Heard::Several, "vetoes by several values");
+        note(decides, "decides");
+        note(decides && missed > 0, "decides with a veto missed");
+        let one = before.heard == Heard::One && !before.mark;
+        note(one && heard > 0, "held back by a veto");
+        note(one && heard == 0 && mark, "held back by a mark");
+        note(before.memory_is_empty() && heard == 0 && !mark, "silent, runs on");
+    }
+    list
+}
+
+#[test]
+fn every_branch_of_the_rules_is_taken() {
+    let mut rng = Rng::new(62);
+    let mut counts: BTreeMap<&str, usize> = BTreeMap::new();
+    let mut endings = BTreeMap::new();
+    for k in 0..2_000 {
+        let limits = if k % 40 == 0 { FULL } else { SMALL };
+        let plain = gen::plain(&mut rng, limits);
+        let (_, mut fleet) = start(plain.n as u64, &plain.openings);
+        for (index, air) in airs(&plain).iter().enumerate() {
+            let next = follow(&fleet, plain.round(index + 1));
+            if air.running_trucks().is_empty() {
+                *counts.entry("nobody runs").or_insert(0) += 1;
+            }
+            for i in 0..plain.n {
+                let (before, after) = (&fleet.trucks[i], &next.trucks[i]);
+                if before.is_running() {
+                    for name in events(before, after, air, i) {
+                        *counts.entry(name).or_insert(0) += 1;
+                    }
+                } else {
+                    assert_eq!(before, after);
+                    *counts.entry("out of it already").or_insert(0) += 1;
+                }
+            }
+            fleet = next;
+        }
+        for truck in fleet.trucks_below_n() {
+            let ending = match truck.state {
+                State::Running => "running",
+                State::Stopped(_) => "stopped",
+                State::Decided(2) => "decided at once",
+                State::Decided(_) => "decided later",
+            };
+            *endings.entry(ending).or_insert(0) += 1;
+        }
+    }
+    assert_eq!(counts.len(), 27, "{counts:?}");
+    assert!(counts.values().all(|count| *count > 100), "{counts:?}");
+    assert_eq!(endings.len(), 4);
+    assert!(endings.values().all(|count| *count > 500), "{endings:?}");
+}
+
+#[test]
+fn sizes_reach_their_edges() {
+    let mut rng = Rng::new(63);
+    let sizes: Vec<_> = (0..2_000).map(|_| gen::size(&mut rng, FULL)).collect();
+    let trucks: BTreeSet<_> = sizes.iter().map(|size| size.n).collect();
+    assert_eq!(trucks, (1..=32).collect());
+    assert!(sizes.iter().any(|size| size.rounds == 0));
+    assert!(sizes.iter().any(|size| size.n == 32 && size.rounds == 400));
+    assert!(sizes.iter().any(|size| size.rounds % 2 == 1));
+}
+
+#[test]
+fn the_same_seed_makes_the_same_inputs() {
+    let make = || {
+        let mut rng = Rng::new(64);
+        let recording = gen::recording(&mut rng, FULL);
+        let list = gen::list(&mut rng, SMALL);
+        let roads = gen::roads(&mut rng);
+        (recording, list, roads, rng.next_u64())
+    };
+    assert_eq!(make(), make());
+    // Splitmix64 from seed 0.
+    assert_eq!(Rng::new(0).next_u64(), 0xE220_A839_7B1D_CDAF);
+}
+
+#[test]
+fn listings_have_the_three_kinds_of_lines() {
+    let mut rng = Rng::new(65);
+    let mut kinds = BTreeSet::new();
+    for _ in 0..200 {
+        let bytes = gen::recording(&mut rng, SMALL);
+        let text = listing(&bytes);
+        let header = check(&bytes).unwrap();
+        let lines: Vec<_> = text.lines().collect();
+        assert!(text.ends_with('\n'));
+        assert_eq!(lines.len(), header.n + 1);
+        assert_eq!(lines[0], format!("trucks {} rounds {}", header.n, header.rounds));
+        for (i, line) in lines[1..].iter().enumerate() {
+            let words: Vec<_> = line.split(' ').collect();
+            assert_eq!((words[0], words[1]), (i.to_string().as_str(), "opened"));
+            assert_eq!(words.len(), if words[3] == "running" { 5 } else { 7 });
+            kinds.insert(words[3].to_string());
+        }
+        // In a lent buffer.
+        let mut buffer = vec![b'#'; text.len() + 3];
+        assert_eq!(listing_into(&bytes, &mut buffer), Ok(text.len()));
+        assert_eq!(buffer, [text.as_bytes(), b"###"].concat());
+        let mut short = vec![b'#'; text.len() - 1];
+        assert_eq!(listing_into(&bytes, &mut short), Err(9));
+        assert!(short.iter().all(|byte| *byte == b'#'));
+    }
+    assert_eq!(kinds.len(), 3);
+}

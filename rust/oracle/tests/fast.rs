@@ -1,0 +1,75 @@
+//! The fast version answers as the simple one on everything.
+
+use oracle::gen::{self, Rng, FULL, SMALL, TINY};
+use oracle::*;
+
+fn same(bytes: &[u8]) -> u8 {
+    let simple = run(bytes);
+    assert_eq!(fast::run(bytes), simple, "{bytes:02x?}");
+    assert_eq!(fast::check(bytes), check(bytes));
+    assert_eq!(fast::grade(bytes), grade(bytes), "{bytes:02x?}");
+    assert_eq!(fast::read(bytes), read(bytes));
+    simple.0
+}
+
+#[test]
+fn random_recordings() {
+    let mut rng = Rng::new(51);
+    for _ in 0..6_000 {
+        assert_eq!(same(&gen::recording(&mut rng, SMALL)), 0);
+    }
+    for _ in 0..60 {
+        assert_eq!(same(&gen::recording(&mut rng, FULL)), 0);
+    }
+    for _ in 0..6 {
+        assert_eq!(same(&gen::largest(&mut rng)), 0);
+    }
+}
+
+#[test]
+fn made_recordings() {
+    let mut rng = Rng::new(52);
+    for k in 0..2_000 {
+        let plain = gen::majority_complete(&mut rng, SMALL);
+        assert_eq!(same(&gen::bytes_of(&plain)), 0);
+        let made = gen::calm(&mut rng, SMALL, k % 2 == 0);
+        assert_eq!(same(&gen::bytes_of(&made.plain)), 0);
+    }
+}
+
+#[test]
+fn damaged_recordings() {
+    let mut rng = Rng::new(53);
+    for k in 0..3_000 {
+        let refusal = (k % 6) as u8 + 1;
+        let damaged = gen::damaged(&mut rng, TINY, refusal);
+        assert_eq!(same(&damaged.bytes), refusal);
+    }
+}
+
+#[test]
+fn flipped_and_random_bytes() {
+    let mut rng = Rng::new(54);
+    for _ in 0..6_000 {
+        let mut bytes = gen::recording(&mut rng, TINY);
+        for _ in 0..rng.within(1, 4) {
+            let at = rng.below(8 * bytes.len());
+            bytes[at / 8] ^= 0x80 >> (at % 8);
+        }
+        same(&bytes);
+        let count = rng.below(12);
+        let bytes: Vec<u8> = (0..count).map(|_| rng.next_u64() as u8).collect();
+        same(&bytes);
+    }
+}
+
+#[test]
+fn random_records() {
+    let mut rng = Rng::new(55);
+    for _ in 0..6_000 {
+        let fleet = gen::record(&mut rng);
+        let habits = gen::habits(&mut rng);
+        let words = gen::round(&mut rng, fleet.n as usize, fleet.done as usize + 1, &habits);
+        assert_eq!(fast::step(&fleet, &words), step(&fleet, &words));
+    }
+}

@@ -33,14 +33,17 @@ fn close_pairs() {
             Ordering::Greater => assert_eq!((first, turned), (Ok(1), Ok(0))),
         }
     }
-    // The first pair differs by 1 in its cross products, the others are equal.
+    // The first four pairs differ by 1 in their cross products, the others are equal.
     let cross = |pair: [(u16, u16, u16); 2]| {
         let [a, b] = pair.map(|(l, m, s)| (l as i64 * s as i64, m as i64));
         a.0 * b.1 - b.0 * a.1
     };
-    assert_eq!(cross(CLOSE_PAIRS[0]).abs(), 1);
-    assert_eq!(cross(CLOSE_PAIRS[1]), 0);
-    assert_eq!(cross(CLOSE_PAIRS[2]), 0);
+    for pair in &CLOSE_PAIRS[..4] {
+        assert_eq!(cross(*pair).abs(), 1);
+    }
+    for pair in &CLOSE_PAIRS[4..] {
+        assert_eq!(cross(*pair), 0);
+    }
 }
 
 #[test]

@@ -1,11 +1,16 @@
 // The library for callers in other languages: functions on numbers and slices. A slice is passed as a pointer and then a length.
 // Each answers document 01's number of the refusal, or 0; a refusal changes nothing that was lent.
 ghost use mathlib.Core.Path.{_≡_};
+ghost use mathlib.Core.Bool.{false};
 ghost use Prim.Native.Nat.{min};
-ghost use Rattle.refusals.specs.Numbers.{numberOf};
-ghost use Rattle.ffi.specs.Calls.{openingLeft, openingCall, readLeft, readCall, writeLeft, writeCall};
+ghost use Rattle.refusals.specs.Numbers.{numberOf, outcomeNumber};
+ghost use Rattle.refusals.specs.declared.Outcome.the-variants.{Accepted};
+ghost use Rattle.recording.specs.Checks.{badTrucks};
+ghost use Rattle.ffi.specs.Calls.{openingLeft, openingCall, readLeft, readCall, writeLeft, writeCall, recordLeft, storeCall, startCall, stepCall};
 use plain::ReadOutcome;
 use plain::WriteOutcome;
+use protocol::Answer;
+use refusals::Outcome;
 use refusals::Refusal;
 use roads::Opening;
 
@@ -13,6 +18,12 @@ fn number(r: Refusal) -> u32
     ensures { λ k. ⌜ k ≡ numberOf r ⌝ }
 {
     refusals::number(r) as u32
+}
+
+fn outcome_number(o: Outcome) -> u32
+    ensures { λ k. ⌜ k ≡ outcomeNumber o ⌝ }
+{
+    refusals::outcome_number(o) as u32
 }
 
 // The crusher that a truck opens with.
@@ -96,5 +107,51 @@ pub extern "C" fn rajvokshul_write(
             0
         }
         WriteOutcome::Refused(r) => number(r),
+    }
+}
+
+// Puts the record of an answer into a lent buffer, all 32 places.
+fn store(a: Answer, d: &mut [u8]) -> u32
+    requires { ⌜ (a .outcome ≡ Accepted → badTrucks (a .fleet .n) ≡ false) ⌝ }
+    ensures { λ r. ⌜ recordLeft r (now (d .exit)) ≡ storeCall a (now (d .entry)) ⌝ }
+{
+    let o = a.outcome;
+    let f = a.fleet;
+    match o {
+        Outcome::Refused(r) => number(r),
+        Outcome::Accepted => outcome_number(record::pack_whole(f, d)),
+    }
+}
+
+// Starts a fleet.
+#[no_mangle]
+pub extern "C" fn rajvokshul_start(trucks: u32, openings: &[u8], fleet: &mut [u8]) -> u32
+    ensures { λ r. ⌜ recordLeft r (now (fleet .exit)) ≡ startCall trucks (now (openings .entry)) (now (fleet .entry)) ⌝ }
+{
+    let a = fleet::start(narrow_trucks(trucks), openings);
+    store(a, fleet)
+}
+
+// Steps a fleet by a round in plain form.
+#[no_mangle]
+pub extern "C" fn rajvokshul_step(fleet: &mut [u8], words: &[u32]) -> u32
+    ensures { λ r. ⌜ recordLeft r (now (fleet .exit)) ≡ stepCall (now (fleet .entry)) (now (words .entry)) ⌝ }
+{
+    let u = record::unpack(fleet);
+    let whole = u.outcome;
+    match whole {
+        Outcome::Refused(r) => number(r),
+        Outcome::Accepted => {
+            let f = u.fleet;
+            let a = fleet::step(f, words);
+            let taken = a.outcome;
+            match taken {
+                Outcome::Refused(r) => number(r),
+                Outcome::Accepted => {
+                    let g = a.fleet;
+                    outcome_number(record::pack(g, fleet))
+                }
+            }
+        }
     }
 }

@@ -1,6 +1,6 @@
 -- Laws of a record as bytes: one for each place of the code that they serve.
 use mathlib.Core.Path.{_≡_, refl, ap, sym, _∙_}
-use mathlib.Core.Bool.{Bool, true, false, _&&_, _||_, true≢false}
+use mathlib.Core.Bool.{Bool, true, false, _&&_, _||_}
 use mathlib.Core.List.{List, []}
 use Prim.Native.Nat.{ℕ, _+_, _*_, _-_, _/_, _%_, _≤_, _<_}
 use native.Mathlib.Numerals.{add-one}
@@ -10,13 +10,14 @@ use lib.Dec.{eqb, ltb}
 use lib.ListN.{length, getD, set}
 use lib.Seq.{ext-getD}
 use mir.Val.{boolByte}
-use borrow.Author.Tests.{lt-ltb, le-ltb, ltb-false, eqb-false}
+use borrow.Author.Tests.{lt-ltb, le-ltb, ltb-false}
 use Rattle.basics.specs.Lists.{filled, someBelow}
 use Rattle.basics.proofs.Laws.{filled-none, filled-more, length-filled, getD-filled, getD-filled-past, length-tab}
 use Rattle.refusals.specs.declared.Refusal.{Refusal}
 use Rattle.refusals.specs.declared.Refusal.the-variants.{Record, ShortBuffer}
 use Rattle.refusals.specs.declared.Outcome.{Outcome}
 use Rattle.refusals.specs.declared.Outcome.the-variants.{Accepted, Refused}
+use Rattle.recording.proofs.Accepted.{trucks-in, refuse-false, refuse-rest}
 use Rattle.recording.specs.Checks.{badTrucks, refuse}
 use Rattle.protocol.specs.declared.Heard.{Heard}
 use Rattle.protocol.specs.declared.State.{State}
@@ -27,16 +28,6 @@ use Rattle.protocol.specs.Rules.{truck, opened}
 use Rattle.protocol.specs.Runs.{openedTrucks}
 use Rattle.protocol.specs.Fleets.{blank}
 use Rattle.record.specs.Layout.{markByte, roundOf, truckBytes, recordByte, sizeFor, packCheck, packFor, packedRecord, packedWhole, heardOf, stateOf, pairOf, placeByte, placeRound, truckAt, damagedAt, damaged, recordOf, noRecord, unpacked}
-
--- ---- a test with an `or` that fails
-
-pub or-first : (a b : Bool) → (a || b) ≡ false → a ≡ false
-or-first true b h = h
-or-first false b h = refl
-
-pub or-second : (a b : Bool) → (a || b) ≡ false → b ≡ false
-or-second true b h = absurd (true≢false h)
-or-second false b h = h
 
 -- ---- the bytes of a truck that are computed
 
@@ -120,22 +111,12 @@ module _ (f : Fleet) (d : List ℕ) (room : sizeFor 32 ≤ length d) where
 
 -- ---- what putting a record answers
 
--- n in range
-pub range-is : (n : ℕ) → badTrucks n ≡ false → (1 ≤ n) × (n ≤ 32)
-unfolding badTrucks
-range-is n h =
-    let z : n ≡ 0 → ⊥ = eqb-false n 0 (or-first (eqb n 0) (ltb 32 n) h) in
-    (omega arith, ltb-false 32 n (or-second (eqb n 0) (ltb 32 n) h))
-
 pub accepted-is : (n room : ℕ) → packCheck n room ≡ Accepted → (badTrucks n ≡ false) × (n ≤ 32) × (sizeFor 32 ≤ room)
 unfolding packCheck
-accepted-is n room h = go (badTrucks n) (ltb room (sizeFor 32)) refl refl h
-  where
-    go : (a b : Bool) → badTrucks n ≡ a → ltb room (sizeFor 32) ≡ b → refuse a Record (refuse b ShortBuffer Accepted) ≡ Accepted
-        → (badTrucks n ≡ false) × (n ≤ 32) × (sizeFor 32 ≤ room)
-    go true b p q e = let z : _≡_ {A = ℕ} 0 1 = cc in absurd (omega arith)
-    go false true p q e = let z : _≡_ {A = ℕ} 0 1 = cc in absurd (omega arith)
-    go false false p q e = (p, range-is n p .1, ltb-false room (sizeFor 32) q)
+accepted-is n room h =
+    let later = refuse (ltb room (sizeFor 32)) ShortBuffer Accepted in
+    let t = refuse-false (badTrucks n) Record later h in
+    (t, trucks-in n t .1, ltb-false room (sizeFor 32) (refuse-false (ltb room (sizeFor 32)) ShortBuffer Accepted (refuse-rest (badTrucks n) Record later h)))
 
 module _ (n room : ℕ) where
   pub check-7 : (b : Bool) → b ≡ badTrucks n → b ≡ true → Refused Record ≡ packCheck n room
@@ -227,7 +208,7 @@ module _ (d : List ℕ) where
 
     module _ (range : b ≡ false) where
       pub count-most : getD d 0 0 ≤ 32
-      count-most = range-is (getD d 0 0) (sym counted ∙ range) .1
+      count-most = trucks-in (getD d 0 0) (sym counted ∙ range) .1
 
       module _ (x : Bool) (searched : x ≡ someBelow (damagedAt d) (getD d 0 0)) where
         damaged-by : damaged d ≡ x

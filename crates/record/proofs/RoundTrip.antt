@@ -1,6 +1,6 @@
 -- Bytes and records: the bytes of an undamaged record come back as they were, and a record that is put into a buffer is read out of it again.
 use mathlib.Core.Path.{_≡_, refl, ap, ap₂, sym, _∙_}
-use mathlib.Core.Bool.{Bool, true, false, _&&_, _||_}
+use mathlib.Core.Bool.{Bool, true, false, cond, _&&_, _||_, true≢false}
 use mathlib.Core.List.{List, []}
 use Prim.Native.Nat.{ℕ, zero, suc, _+_, _*_, _/_, _%_, _≤_, _<_}
 use native.Mathlib.Decide.{decLt}
@@ -13,6 +13,7 @@ use Rattle.basics.specs.Lists.{filled, someBelow}
 use Rattle.basics.proofs.Laws.{length-filled, getD-filled, getD-filled-past, someBelow-none, none-someBelow}
 use Rattle.refusals.specs.declared.Outcome.{Outcome}
 use Rattle.refusals.specs.declared.Outcome.the-variants.{Accepted}
+use Rattle.recording.proofs.Accepted.{trucks-in}
 use Rattle.recording.specs.Checks.{badTrucks}
 use Rattle.protocol.specs.declared.Heard.{Heard}
 use Rattle.protocol.specs.declared.Heard.the-variants.{Nothing, One, Several}
@@ -22,8 +23,18 @@ use Rattle.protocol.specs.declared.Truck.{Truck}
 use Rattle.protocol.specs.declared.Fleet.{Fleet}
 use Rattle.protocol.specs.Rules.{truck, opened}
 use Rattle.protocol.specs.Runs.{openedTrucks}
-use Rattle.record.specs.Layout.{sizeFor, markByte, heardByte, stateByte, roundOf, truckBytes, recordByte, packCheck, packFor, packedRecord, packedWhole, heardOf, stateOf, pairOf, placeByte, placeRound, truckAt, damagedAt, damaged, recordOf, unpacked}
-use Rattle.record.proofs.Laws.{or-first, or-second, place-byte, range-is, accepted-is, check-0}
+use Rattle.record.specs.Layout.{sizeFor, markByte, heardByte, stateByte, roundOf, truckBytes, recordByte, packCheck, packFor, packedRecord, packedWhole, heardOf, stateOf, pairOf, placeByte, placeRound, truckAt, damagedAt, damaged, recordOf, noRecord, unpacked}
+use Rattle.record.proofs.Laws.{place-byte, accepted-is, check-0}
+
+-- ---- a test with an `or` that fails
+
+or-first : (a b : Bool) → (a || b) ≡ false → a ≡ false
+or-first true b h = h
+or-first false b h = refl
+
+or-second : (a b : Bool) → (a || b) ≡ false → b ≡ false
+or-second true b h = absurd (true≢false h)
+or-second false b h = h
 
 -- ---- numbers of two bytes
 
@@ -115,12 +126,12 @@ abbrev pub Bytes : List ℕ → Type 0
 Bytes d = (k : ℕ) → k < length d → getD d k 0 < 256
 
 -- what makes bytes a record
-record Undamaged (d : List ℕ) : Type 0 where
-  whole : sizeFor 32 ≤ length d
-  range : badTrucks (getD d 0 0) ≡ false
+pub record Undamaged (d : List ℕ) : Type 0 where
+  pub whole : sizeFor 32 ≤ length d
+  pub range : badTrucks (getD d 0 0) ≡ false
   places : (i : ℕ) → i < getD d 0 0 → Sound d i
 
-undamaged : (d : List ℕ) → damaged d ≡ false → Undamaged d
+pub undamaged : (d : List ℕ) → damaged d ≡ false → Undamaged d
 unfolding damaged
 undamaged d h =
     let front : (ltb (length d) (sizeFor 32) || badTrucks (getD d 0 0)) ≡ false = or-first (ltb (length d) (sizeFor 32) || badTrucks (getD d 0 0)) (someBelow (damagedAt d) (getD d 0 0)) h in
@@ -136,7 +147,7 @@ module _ (d : List ℕ) (bytes : Bytes d) (u : Undamaged d) where
   unfolding recordOf placeByte
   later-back q h =
       let n = getD d 0 0 in
-      let most : n ≤ 32 = range-is n (u .range) .1 in
+      let most : n ≤ 32 = trucks-in n (u .range) .1 in
       let i : q / 7 < n = omega arith in
       let low : placeByte d (q / 7) 5 < 256 = bytes (sizeFor (q / 7) + 5) (omega (arith, u .whole)) in
       let e : sizeFor (q / 7) + q % 7 ≡ 3 + q = omega arith in
@@ -154,13 +165,22 @@ module _ (d : List ℕ) (bytes : Bytes d) (u : Undamaged d) where
       let e : suc (suc (suc q)) ≡ 3 + q = omega arith in
       ap (recordByte (recordOf d)) e ∙ later-back q (omega arith) ∙ sym (ap (λ (k : ℕ). getD d k 0) e)
 
+-- bytes that are taken for a record are undamaged
+pub taken-whole : (d : List ℕ) → unpacked d .outcome ≡ Accepted → damaged d ≡ false
+unfolding unpacked
+taken-whole d h = go (damaged d) h
+  where
+    go : (b : Bool) → cond b noRecord (record { outcome = Accepted; fleet = recordOf d }) .outcome ≡ Accepted → b ≡ false
+    go true e = let z : _≡_ {A = ℕ} 0 1 = cc in absurd (omega arith)
+    go false e = refl
+
 -- the bytes of an undamaged record come back as they were
 pub bytes-back : (d : List ℕ) → Bytes d → damaged d ≡ false → packedRecord (recordOf d) d ≡ d
 unfolding packedRecord recordOf
 bytes-back d bytes h =
     let u = undamaged d h in
     let n = getD d 0 0 in
-    let most : n ≤ 32 = range-is n (u .range) .1 in
+    let most : n ≤ 32 = trucks-in n (u .range) .1 in
     ap (λ (o : Outcome). packFor o n (recordOf d) d) (sym (check-0 n (length d) false (sym (u .range)) refl (u .whole)))
     ∙ filled-same (recordByte (recordOf d)) (sizeFor n) d (omega (arith, u .whole)) (byte-back d bytes u)
 

@@ -1,0 +1,125 @@
+-- What is left of a lent record: after a start or a run, and after a step.
+use mathlib.Core.Path.{_≡_, refl, ap, ap₂, sym, _∙_}
+use mathlib.Core.Bool.{true, false, not, _&&_}
+use mathlib.Core.List.{List}
+use Prim.Native.Nat.{ℕ, min}
+use native.Mathlib.Omega.{arith}
+use lib.Dec.{ltb, leb, eqb}
+use lib.ListN.{length}
+use borrow.Author.Tests.{le-ltb, not-true, not-false}
+use Rattle.basics.specs.Lists.{allBelow}
+use Rattle.basics.proofs.Laws.{and-left}
+use Rattle.refusals.specs.Numbers.{numberOf, outcomeNumber}
+use Rattle.refusals.specs.declared.Refusal.{Refusal}
+use Rattle.refusals.specs.declared.Refusal.the-variants.{TruckCount, Record, RoundsDone}
+use Rattle.refusals.specs.declared.Outcome.{Outcome}
+use Rattle.refusals.specs.declared.Outcome.the-variants.{Accepted, Refused}
+use Rattle.recording.specs.Checks.{refuse, badTrucks, roundCheck}
+use Rattle.recording.proofs.Accepted.{refuse-false}
+use Rattle.protocol.specs.declared.Fleet.{Fleet}
+use Rattle.protocol.specs.declared.Answer.{Answer}
+use Rattle.protocol.specs.Rules.{truck}
+use Rattle.protocol.specs.Runs.{openedTrucks}
+use Rattle.protocol.specs.Fleets.{answer, blank, startCheck, started, stepCheck, stepped, nextFleet, goodTruck, goodFleet}
+use Rattle.protocol.proofs.Steps.{start-by}
+use Rattle.record.proofs.RoundTrip.{undamaged, taken-whole}
+use Rattle.record.specs.Layout.{sizeFor, packCheck, packFor, packedRecord, packedWhole, unpacked}
+use Rattle.ffi.specs.Calls.{RecordLeft, recordLeft, recordAs, storeCall, startCall, stepCall}
+use Rattle.ffi.proofs.Narrow.{many-trucks, narrowed}
+
+refused-not : {A : Type 0} (r : Refusal) → Refused r ≡ Accepted → A
+refused-not r h = let z : _≡_ {A = ℕ} 0 1 = cc in absurd (omega arith)
+
+-- a record that refusal 7 lets pass has an n in range
+good-range : (f : Fleet) → not (goodFleet f) ≡ false → badTrucks (f .n) ≡ false
+unfolding goodFleet
+good-range f h =
+    let range = not (badTrucks (f .n)) in
+    let few = leb (f .done) 400 in
+    let all = allBelow (λ i. goodTruck (f .done) (truck (f .trucks) i)) (f .n) in
+    not-true (badTrucks (f .n)) (and-left range few (and-left (range && few) all (not-false (range && few && all) h)))
+
+-- what a number and a buffer say together
+both : (o : Outcome) (m : ℕ) (f : Fleet) (d : List ℕ) → recordLeft (outcomeNumber o) (packFor o m f d) ≡ recordAs o m f d
+both Accepted m f d = refl
+both (Refused r) m f d = refl
+
+-- ---- a whole record
+
+module _ (a : Answer) (d : List ℕ) where
+  pub store-refused : (r : Refusal) (k : ℕ) → a .outcome ≡ Refused r → k ≡ numberOf r → recordLeft k d ≡ storeCall a d
+  unfolding storeCall
+  store-refused r k h e = ap (λ (x : ℕ). recordLeft x d) e ∙ rw h
+
+  pub store-0 : (a .outcome ≡ Accepted → badTrucks (a .fleet .n) ≡ false) → a .outcome ≡ Accepted → (o : Outcome) (l : List ℕ) (k : ℕ)
+      → o ≡ packCheck (a .fleet .n) (length d) → l ≡ packedWhole (a .fleet) d → k ≡ outcomeNumber o → recordLeft k l ≡ storeCall a d
+  unfolding storeCall packedWhole packCheck
+  store-0 range h o l k p q e =
+      ap₂ (λ (x : ℕ) (y : List ℕ). recordLeft x y) (e ∙ ap outcomeNumber p) q
+      ∙ both (packCheck (a .fleet .n) (length d)) 32 (a .fleet) d
+      ∙ rw (range h, h)
+
+-- ---- a start
+
+pub start-range : (n : ℕ) (openings : List ℕ) (a : Answer) → a ≡ started n openings → a .outcome ≡ Accepted → badTrucks (a .fleet .n) ≡ false
+unfolding started
+start-range n openings a s h = rw s (go (startCheck n openings) refl (rw s at h))
+  where
+    go : (o : Outcome) → startCheck n openings ≡ o → answer o (record { n = n; done = 0; trucks = openedTrucks openings }) blank .outcome ≡ Accepted
+        → badTrucks (answer o (record { n = n; done = 0; trucks = openedTrucks openings }) blank .fleet .n) ≡ false
+    go Accepted e h = start-by n openings e .trucks
+    go (Refused r) e h = refused-not r h
+
+start-2 : (n : ℕ) (openings : List ℕ) → badTrucks n ≡ true → started n openings ≡ record { outcome = Refused TruckCount; fleet = blank }
+unfolding started startCheck
+start-2 n openings h = rw h
+
+narrow-start : (n m : ℕ) (openings : List ℕ) → m ≡ min n 255 → started m openings ≡ started n openings
+narrow-start n m openings e =
+    narrowed (λ k. started k openings) badTrucks (record { outcome = Refused TruckCount; fleet = blank }) n m 255 e
+    (many-trucks 255 (omega arith))
+    (λ l. many-trucks n (omega arith))
+    (λ k h. start-2 k openings h)
+
+pub start-stored : (n m : ℕ) (openings d : List ℕ) (a : Answer) (x : RecordLeft) → m ≡ min n 255 → a ≡ started m openings → x ≡ storeCall a d → x ≡ startCall n openings d
+unfolding startCall
+start-stored n m openings d a x e h s = s ∙ ap (λ (a : Answer). storeCall a d) (h ∙ narrow-start n m openings e)
+
+-- ---- a step
+
+step-range : (f : Fleet) (w : List ℕ) → stepped f w .outcome ≡ Accepted → badTrucks (stepped f w .fleet .n) ≡ false
+unfolding stepped stepCheck goodFleet nextFleet
+step-range f w h = go (stepCheck f w) refl h
+  where
+    go : (o : Outcome) → stepCheck f w ≡ o → answer o (nextFleet f w) f .outcome ≡ Accepted → badTrucks (answer o (nextFleet f w) f .fleet .n) ≡ false
+    go Accepted e h = good-range f (refuse-false (not (goodFleet f)) Record (refuse (eqb (f .done) 400) RoundsDone (roundCheck (f .n) w)) e)
+    go (Refused r) e h = refused-not r h
+
+module _ (d w : List ℕ) (u : Answer) (read : u ≡ unpacked d) where
+  pub step-7 : (r : Refusal) (k : ℕ) → u .outcome ≡ Refused r → k ≡ numberOf r → recordLeft k d ≡ stepCall d w
+  unfolding stepCall
+  step-7 r k h e = ap (λ (x : ℕ). recordLeft x d) e ∙ rw (sym read, h)
+
+  module _ (whole : u .outcome ≡ Accepted) (a : Answer) (done : a ≡ stepped (u .fleet) w) where
+    step-as : recordAs (a .outcome) (a .fleet .n) (a .fleet) d ≡ stepCall d w
+    unfolding stepCall
+    step-as = rw (sym read, whole, sym done)
+
+    pub step-refused : (r : Refusal) (k : ℕ) → a .outcome ≡ Refused r → k ≡ numberOf r → recordLeft k d ≡ stepCall d w
+    step-refused r k h e = ap (λ (x : ℕ). recordLeft x d) e ∙ ap (λ (o : Outcome). recordAs o (a .fleet .n) (a .fleet) d) (sym h) ∙ step-as
+
+    step-room : a .outcome ≡ Accepted → packCheck (a .fleet .n) (length d) ≡ Accepted
+    unfolding packCheck
+    step-room h =
+        let range : badTrucks (a .fleet .n) ≡ false = rw done (step-range (u .fleet) w (rw done at h)) in
+        let room : ltb (length d) (sizeFor 32) ≡ false = le-ltb (length d) (sizeFor 32) (undamaged d (taken-whole d (rw read at whole)) .whole) in
+        rw (range, room)
+
+    pub step-0 : a .outcome ≡ Accepted → (o : Outcome) (l : List ℕ) (k : ℕ)
+        → o ≡ packCheck (a .fleet .n) (length d) → l ≡ packedRecord (a .fleet) d → k ≡ outcomeNumber o → recordLeft k l ≡ stepCall d w
+    unfolding packedRecord
+    step-0 h o l k p q e =
+        ap₂ (λ (x : ℕ) (y : List ℕ). recordLeft x y) (e ∙ ap outcomeNumber p) q
+        ∙ both (packCheck (a .fleet .n) (length d)) (a .fleet .n) (a .fleet) d
+        ∙ ap (λ (o : Outcome). recordAs o (a .fleet .n) (a .fleet) d) (step-room h ∙ sym h)
+        ∙ step-as

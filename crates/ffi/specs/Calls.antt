@@ -1,0 +1,163 @@
+-- What each exported function answers, with everything lent as it leaves it, by the answers of the library. The number answered is document 01's number of the refusal, and 0 where
+-- nothing is refused; a refusal changes nothing that was lent.
+use Prim.Native.Nat.{ℕ}
+use mathlib.Core.Bool.{cond}
+use mathlib.Core.List.{List, _∷_}
+use lib.Dec.{ltb}
+use lib.ListN.{length, drop}
+use Rattle.basics.specs.Lists.{filled}
+use Rattle.refusals.specs.Numbers.{numberOf}
+use Rattle.refusals.specs.declared.Refusal.the-variants.{ShortBuffer}
+use Rattle.refusals.specs.declared.Outcome.{Outcome}
+use Rattle.refusals.specs.declared.Outcome.the-variants.{Accepted, Refused}
+use Rattle.roads.specs.declared.Opening.{Opening}
+use Rattle.roads.specs.declared.Opening.the-variants as opening
+use Rattle.roads.specs.Opening.{openingOf}
+use Rattle.recording.specs.Checks.{refuse, andThen}
+use Rattle.plain.specs.declared.ReadOutcome.{ReadOutcome}
+use Rattle.plain.specs.declared.ReadOutcome.the-variants as read
+use Rattle.plain.specs.declared.WriteOutcome.{WriteOutcome}
+use Rattle.plain.specs.declared.WriteOutcome.the-variants as write
+use Rattle.plain.specs.Forms.{readPlain, writePlain}
+use Rattle.protocol.specs.declared.Fleet.{Fleet}
+use Rattle.protocol.specs.declared.Answer.{Answer}
+use Rattle.protocol.specs.declared.Grading.{Grading}
+use Rattle.protocol.specs.declared.Grading.the-variants as grading
+use Rattle.protocol.specs.Fleets.{started, stepped, ran, graded}
+use Rattle.listing.specs.declared.Listed.{Listed}
+use Rattle.listing.specs.declared.Listed.the-variants as listing
+use Rattle.listing.specs.Listed.{listed}
+use Rattle.record.specs.Layout.{sizeFor, recordByte, unpacked}
+
+-- ---- the opening crusher
+
+pub record OpeningLeft : Type 0 where
+  pub number : ℕ
+  pub crusher : ℕ
+
+abbrev pub openingLeft : ℕ → ℕ → OpeningLeft
+openingLeft number crusher = record { number = number; crusher = crusher }
+
+abbrev pub openingAs : Opening → ℕ → OpeningLeft
+openingAs (opening.Crusher k) crusher = openingLeft 0 k
+openingAs (opening.Refused r) crusher = openingLeft (numberOf r) crusher
+
+-- 10, 11, 12, 13
+unfoldable pub openingCall : List ℕ → List ℕ → List ℕ → ℕ → OpeningLeft
+openingCall lengths metres seconds crusher = openingAs (openingOf lengths metres seconds) crusher
+
+-- ---- reading to plain form
+
+pub record ReadLeft : Type 0 where
+  pub number : ℕ
+  pub openings : List ℕ
+  pub words : List ℕ
+  pub trucks : ℕ
+  pub rounds : ℕ
+
+abbrev pub readLeft : ℕ → List ℕ → List ℕ → ℕ → ℕ → ReadLeft
+readLeft number openings words trucks rounds =
+    record { number = number; openings = openings; words = words; trucks = trucks; rounds = rounds }
+
+abbrev pub readAs : ReadOutcome → List ℕ → List ℕ → ℕ → ℕ → ReadLeft
+readAs (read.Plain n R) openings words trucks rounds = readLeft 0 openings words n R
+readAs (read.Refused r) openings words trucks rounds = readLeft (numberOf r) openings words trucks rounds
+
+-- 1 to 6, then 9
+unfoldable pub readCall : List ℕ → List ℕ → List ℕ → ℕ → ℕ → ReadLeft
+readCall bytes openings words trucks rounds =
+    let a = readPlain bytes openings words in
+    readAs (a .answer) (a .openings) (a .words) trucks rounds
+
+-- ---- writing
+
+pub record WriteLeft : Type 0 where
+  pub number : ℕ
+  pub bytes : List ℕ
+  pub written : ℕ
+
+abbrev pub writeLeft : ℕ → List ℕ → ℕ → WriteLeft
+writeLeft number bytes written = record { number = number; bytes = bytes; written = written }
+
+abbrev pub writeAs : WriteOutcome → List ℕ → ℕ → WriteLeft
+writeAs (write.Bytes m) bytes written = writeLeft 0 bytes m
+writeAs (write.Refused r) bytes written = writeLeft (numberOf r) bytes written
+
+-- 2, 3, 7, 8, 6, then 9
+unfoldable pub writeCall : ℕ → ℕ → List ℕ → List ℕ → List ℕ → ℕ → WriteLeft
+writeCall n R openings words bytes written =
+    let a = writePlain n R openings words bytes in
+    writeAs (a .answer) (a .buffer) written
+
+-- ---- a recording's listing
+
+pub record ListLeft : Type 0 where
+  pub number : ℕ
+  pub text : List ℕ
+  pub written : ℕ
+
+abbrev pub listLeft : ℕ → List ℕ → ℕ → ListLeft
+listLeft number text written = record { number = number; text = text; written = written }
+
+abbrev pub listAs : Listed → List ℕ → ℕ → ListLeft
+listAs (listing.Text k) text written = listLeft 0 text k
+listAs (listing.Refused r) text written = listLeft (numberOf r) text written
+
+-- 1 to 6, then 9
+unfoldable pub listCall : List ℕ → List ℕ → ℕ → ListLeft
+listCall bytes text written =
+    let a = listed bytes text in
+    listAs (a .answer) (a .buffer) written
+
+-- ---- a recording's grading
+
+pub record GradeLeft : Type 0 where
+  pub number : ℕ
+  pub grades : List ℕ
+
+abbrev pub gradeLeft : ℕ → List ℕ → GradeLeft
+gradeLeft number grades = record { number = number; grades = grades }
+
+-- complete, majority, zero and accurate, in this order
+abbrev pub gradeAs : Grading → List ℕ → GradeLeft
+gradeAs (grading.Graded g) grades =
+    cond (ltb (length grades) 4) (gradeLeft (numberOf ShortBuffer) grades)
+    (gradeLeft 0 (g .complete ∷ g .majority ∷ g .zero ∷ g .accurate ∷ drop 4 grades))
+gradeAs (grading.Refused r) grades = gradeLeft (numberOf r) grades
+
+-- 1 to 6, then 9
+unfoldable pub gradeCall : List ℕ → List ℕ → GradeLeft
+gradeCall bytes grades = gradeAs (graded bytes) grades
+
+-- ---- fleet records as bytes
+
+pub record RecordLeft : Type 0 where
+  pub number : ℕ
+  pub bytes : List ℕ
+
+abbrev pub recordLeft : ℕ → List ℕ → RecordLeft
+recordLeft number bytes = record { number = number; bytes = bytes }
+
+-- the head and the first m places of a record
+abbrev pub recordAs : Outcome → ℕ → Fleet → List ℕ → RecordLeft
+recordAs Accepted m f d = recordLeft 0 (filled (recordByte f) (sizeFor m) d)
+recordAs (Refused r) m f d = recordLeft (numberOf r) d
+
+-- a whole record, all 32 places; 9 where the buffer has fewer than 227 bytes
+unfoldable pub storeCall : Answer → List ℕ → RecordLeft
+storeCall a d = recordAs (andThen (a .outcome) (refuse (ltb (length d) (sizeFor 32)) ShortBuffer Accepted)) 32 (a .fleet) d
+
+-- running a recording: 1 to 6, then 9
+unfoldable pub runCall : List ℕ → List ℕ → RecordLeft
+runCall bytes d = storeCall (ran bytes) d
+
+-- starting a fleet: 2, 7, then 9
+unfoldable pub startCall : ℕ → List ℕ → List ℕ → RecordLeft
+startCall n openings d = storeCall (started n openings) d
+
+-- a step: 7 where the bytes are no record, then 7, 14, 8, 6; places n and above stay as they came
+unfoldable pub stepCall : List ℕ → List ℕ → RecordLeft
+stepCall d words =
+    let u = unpacked d in
+    let a = stepped (u .fleet) words in
+    recordAs (andThen (u .outcome) (a .outcome)) (a .fleet .n) (a .fleet) d

@@ -1,0 +1,157 @@
+// The library for callers in other languages: functions on numbers and slices. A slice is passed as a pointer and then a length.
+// Each answers document 01's number of the refusal, or 0; a refusal changes nothing that was lent.
+ghost use mathlib.Core.Path.{_≡_};
+ghost use mathlib.Core.Bool.{false};
+ghost use Prim.Native.Nat.{min};
+ghost use Rattle.refusals.specs.Numbers.{numberOf, outcomeNumber};
+ghost use Rattle.refusals.specs.declared.Outcome.the-variants.{Accepted};
+ghost use Rattle.recording.specs.Checks.{badTrucks};
+ghost use Rattle.ffi.specs.Calls.{openingLeft, openingCall, readLeft, readCall, writeLeft, writeCall, recordLeft, storeCall, startCall, stepCall};
+use plain::ReadOutcome;
+use plain::WriteOutcome;
+use protocol::Answer;
+use refusals::Outcome;
+use refusals::Refusal;
+use roads::Opening;
+
+fn number(r: Refusal) -> u32
+    ensures { λ k. ⌜ k ≡ numberOf r ⌝ }
+{
+    refusals::number(r) as u32
+}
+
+fn outcome_number(o: Outcome) -> u32
+    ensures { λ k. ⌜ k ≡ outcomeNumber o ⌝ }
+{
+    refusals::outcome_number(o) as u32
+}
+
+// The crusher that a truck opens with.
+#[no_mangle]
+pub extern "C" fn rajvokshul_opening(
+    lengths: &[u16],
+    metres: &[u16],
+    seconds: &[u16],
+    crusher: &mut u8,
+) -> u32
+    ensures { λ r. ⌜ openingLeft r (now (crusher .exit)) ≡ openingCall (now (lengths .entry)) (now (metres .entry)) (now (seconds .entry)) (now (crusher .entry)) ⌝ }
+{
+    let o = roads::opening_crusher(lengths, metres, seconds);
+    match o {
+        Opening::Crusher(k) => {
+            *crusher = k;
+            0
+        }
+        Opening::Refused(r) => number(r),
+    }
+}
+
+// Reads a recording to plain form.
+#[no_mangle]
+pub extern "C" fn rajvokshul_read(
+    bytes: &[u8],
+    openings: &mut [u8],
+    words: &mut [u32],
+    trucks: &mut u32,
+    rounds: &mut u32,
+) -> u32
+    ensures { λ r. ⌜ readLeft r (now (openings .exit)) (now (words .exit)) (now (trucks .exit)) (now (rounds .exit))
+        ≡ readCall (now (bytes .entry)) (now (openings .entry)) (now (words .entry)) (now (trucks .entry)) (now (rounds .entry)) ⌝ }
+{
+    let o = plain::read(bytes, openings, words);
+    match o {
+        ReadOutcome::Plain {
+            trucks: n,
+            rounds: k,
+        } => {
+            *trucks = n as u32;
+            *rounds = k as u32;
+            0
+        }
+        ReadOutcome::Refused(r) => number(r),
+    }
+}
+
+// A count as a narrower number, the largest where it does not fit: every check refuses that one too, for the same reason.
+fn narrow_trucks(n: u32) -> u8
+    ensures { λ r. ⌜ r ≡ min n 255 ⌝ }
+{
+    if n < 255 { n as u8 } else { 255 }
+}
+
+fn narrow_rounds(k: u32) -> u16
+    ensures { λ r. ⌜ r ≡ min k 65535 ⌝ }
+{
+    if k < 65535 { k as u16 } else { 65535 }
+}
+
+// Writes a recording from plain form.
+#[no_mangle]
+pub extern "C" fn rajvokshul_write(
+    trucks: u32,
+    rounds: u32,
+    openings: &[u8],
+    words: &[u32],
+    bytes: &mut [u8],
+    written: &mut usize,
+) -> u32
+    ensures { λ r. ⌜ writeLeft r (now (bytes .exit)) (now (written .exit))
+        ≡ writeCall trucks rounds (now (openings .entry)) (now (words .entry)) (now (bytes .entry)) (now (written .entry)) ⌝ }
+{
+    let n = narrow_trucks(trucks);
+    let k = narrow_rounds(rounds);
+    let o = plain::write(n, k, openings, words, bytes);
+    match o {
+        WriteOutcome::Bytes(m) => {
+            *written = m;
+            0
+        }
+        WriteOutcome::Refused(r) => number(r),
+    }
+}
+
+// Puts the record of an answer into a lent buffer, all 32 places.
+fn store(a: Answer, d: &mut [u8]) -> u32
+    requires { ⌜ (a .outcome ≡ Accepted → badTrucks (a .fleet .n) ≡ false) ⌝ }
+    ensures { λ r. ⌜ recordLeft r (now (d .exit)) ≡ storeCall a (now (d .entry)) ⌝ }
+{
+    let o = a.outcome;
+    let f = a.fleet;
+    match o {
+        Outcome::Refused(r) => number(r),
+        Outcome::Accepted => outcome_number(record::pack_whole(f, d)),
+    }
+}
+
+// Starts a fleet.
+#[no_mangle]
+pub extern "C" fn rajvokshul_start(trucks: u32, openings: &[u8], fleet: &mut [u8]) -> u32
+    ensures { λ r. ⌜ recordLeft r (now (fleet .exit)) ≡ startCall trucks (now (openings .entry)) (now (fleet .entry)) ⌝ }
+{
+    let a = fleet::start(narrow_trucks(trucks), openings);
+    store(a, fleet)
+}
+
+// Steps a fleet by a round in plain form.
+#[no_mangle]
+pub extern "C" fn rajvokshul_step(fleet: &mut [u8], words: &[u32]) -> u32
+    ensures { λ r. ⌜ recordLeft r (now (fleet .exit)) ≡ stepCall (now (fleet .entry)) (now (words .entry)) ⌝ }
+{
+    let u = record::unpack(fleet);
+    let whole = u.outcome;
+    match whole {
+        Outcome::Refused(r) => number(r),
+        Outcome::Accepted => {
+            let f = u.fleet;
+            let a = fleet::step(f, words);
+            let taken = a.outcome;
+            match taken {
+                Outcome::Refused(r) => number(r),
+                Outcome::Accepted => {
+                    let g = a.fleet;
+                    outcome_number(record::pack(g, fleet))
+                }
+            }
+        }
+    }
+}

@@ -1,0 +1,146 @@
+//! The library and the fast plain Rust reading side by side, in one process, on the same inputs. Prints a table; nothing here is a test.
+
+use checks::RECORD;
+use oracle::gen::{self, Rng};
+use oracle::{fast, Header};
+use std::hint::black_box;
+use std::time::Instant;
+
+/// The least time of one call in nanoseconds, over several batches.
+fn time(mut call: impl FnMut()) -> f64 {
+    let mut batch = 1u32;
+    loop {
+        let begun = Instant::now();
+        for _ in 0..batch {
+            call();
+        }
+        if begun.elapsed().as_micros() > 2000 {
+            break;
+        }
+        batch *= 2;
+    }
+    let mut least = f64::INFINITY;
+    for _ in 0..25 {
+        let begun = Instant::now();
+        for _ in 0..batch {
+            call();
+        }
+        least = least.min(begun.elapsed().as_nanos() as f64 / f64::from(batch));
+    }
+    least
+}
+
+fn row(what: &str, rounds: usize, ours: f64, plain: f64) {
+    let each = if rounds == 0 { String::new() } else { format!("{:.1}", ours / rounds as f64) };
+    println!("| {what} | {:.2} | {:.2} | {:.2} | {each} |", ours / 1000.0, plain / 1000.0, ours / plain);
+}
+
+/// Running, grading, reading and writing one recording.
+fn recording(what: &str, bytes: &[u8]) {
+    let plain = fast::read(bytes).expect("an accepted recording");
+    let rounds = plain.rounds;
+    let mut record = [0u8; RECORD];
+    row(
+        &format!("run, {what}"),
+        rounds,
+        time(|| {
+            black_box(checks::run(black_box(bytes), &mut record));
+        }),
+        time(|| {
+            black_box(fast::run(black_box(bytes)));
+        }),
+    );
+    let mut grades = [0u16; 4];
+    row(
+        &format!("grade, {what}"),
+        rounds,
+        time(|| {
+            black_box(checks::grade(black_box(bytes), &mut grades));
+        }),
+        time(|| {
+            black_box(fast::grade(black_box(bytes)).ok());
+        }),
+    );
+    let mut openings = [0u8; 32];
+    let mut words = vec![0u32; 400 * 35];
+    let (mut n, mut r) = (0, 0);
+    row(
+        &format!("read, {what}"),
+        rounds,
+        time(|| {
+            black_box(checks::read(black_box(bytes), &mut openings, &mut words, &mut n, &mut r));
+        }),
+        time(|| {
+            black_box(fast::read_into(black_box(bytes), &mut openings, &mut words).ok());
+        }),
+    );
+    let mut buffer = vec![0u8; bytes.len()];
+    let mut written = 0;
+    row(
+        &format!("write, {what}"),
+        rounds,
+        time(|| {
+            let (n, r) = (plain.n as u32, plain.rounds as u32);
+            black_box(checks::write(n, r, black_box(&plain.openings), &plain.words, &mut buffer, &mut written));
+        }),
+        time(|| {
+            let (n, r) = (plain.n as u64, plain.rounds as u64);
+            black_box(fast::write_into(n, r, black_box(&plain.openings), &plain.words, &mut buffer).ok());
+        }),
+    );
+}
+
+/// A recording of n trucks and R rounds in which trucks keep running: lossy, with marks, and nobody stops.
+fn busy(seed: u64, n: usize, rounds: usize) -> Vec<u8> {
+    let mut rng = Rng::new(seed);
+    let habits = gen::Habits { stop: 0, active: 128, mark: 40, veto_mark: 250, loss: 60, ..gen::habits(&mut rng) };
+    let openings: Vec<u8> = (0..n).map(|_| rng.below(16) as u8).collect();
+    let mut words = Vec::new();
+    for k in 1..=rounds {
+        words.extend(gen::round(&mut rng, n, k, &habits));
+    }
+    oracle::write(n as u64, rounds as u64, &openings, &words).expect("valid rounds")
+}
+
+fn main() {
+    println!("| what | library, µs | plain Rust, µs | ratio | library, ns a round |");
+    println!("|---|---|---|---|---|");
+    recording("32 trucks, 400 rounds, all running", &busy(1, 32, 400));
+    let quiet = oracle::write(32, 400, &[7; 32], &vec![0; 400 * 35]).expect("a silent recording");
+    recording("32 trucks, 400 silent rounds", &quiet);
+    let mut rng = Rng::new(2);
+    recording("32 trucks, 400 rounds, random", &gen::largest(&mut rng));
+    for n in [1, 2, 4, 8, 16, 24, 32] {
+        recording(&format!("{n} trucks, 200 rounds"), &busy(3, n, 200));
+    }
+    for rounds in [1, 10, 50, 100, 400] {
+        recording(&format!("16 trucks, {rounds} rounds"), &busy(4, 16, rounds));
+    }
+    let plain = gen::plain_of_size(&mut rng, Header { n: 32, rounds: 1 });
+    let mut record = [0u8; RECORD];
+    checks::start(32, &plain.openings, &mut record);
+    let (_, fleet) = oracle::start(32, &plain.openings);
+    row(
+        "step, 32 trucks",
+        1,
+        time(|| {
+            let mut d = record;
+            black_box(checks::step(black_box(&mut d), &plain.words));
+        }),
+        time(|| {
+            black_box(fast::step(black_box(&fleet), &plain.words));
+        }),
+    );
+    let roads = gen::Roads::of(&(0..16).map(|k| (900 + k, 300 + 7 * k, 60 + 3 * k)).collect::<Vec<_>>());
+    let mut crusher = 0;
+    row(
+        "opening, 16 roads",
+        0,
+        time(|| {
+            black_box(checks::opening(black_box(&roads.lengths), &roads.metres, &roads.seconds, &mut crusher));
+        }),
+        time(|| {
+            black_box(fast::opening(black_box(&roads.lengths), &roads.metres, &roads.seconds).ok());
+        }),
+    );
+}

@@ -1,0 +1,164 @@
+//! The exported functions as they are, and fleet records as the bytes that cross the boundary.
+
+use oracle::{Fleet, Heard, State, Truck};
+
+mod raw {
+    extern "C" {
+        pub fn rajvokshul_opening(
+            lengths: *const u16,
+            lengths_len: usize,
+            metres: *const u16,
+            metres_len: usize,
+            seconds: *const u16,
+            seconds_len: usize,
+            crusher: *mut u8,
+        ) -> u32;
+        pub fn rajvokshul_list(
+            bytes: *const u8,
+            bytes_len: usize,
+            text: *mut u8,
+            text_len: usize,
+            written: *mut usize,
+        ) -> u32;
+        pub fn rajvokshul_run(bytes: *const u8, bytes_len: usize, record: *mut u8, record_len: usize) -> u32;
+        pub fn rajvokshul_grade(bytes: *const u8, bytes_len: usize, grades: *mut u16, grades_len: usize) -> u32;
+        pub fn rajvokshul_read(
+            bytes: *const u8,
+            bytes_len: usize,
+            openings: *mut u8,
+            openings_len: usize,
+            words: *mut u32,
+            words_len: usize,
+            trucks: *mut u32,
+            rounds: *mut u32,
+        ) -> u32;
+        pub fn rajvokshul_write(
+            trucks: u32,
+            rounds: u32,
+            openings: *const u8,
+            openings_len: usize,
+            words: *const u32,
+            words_len: usize,
+            bytes: *mut u8,
+            bytes_len: usize,
+            written: *mut usize,
+        ) -> u32;
+        pub fn rajvokshul_start(
+            trucks: u32,
+            openings: *const u8,
+            openings_len: usize,
+            record: *mut u8,
+            record_len: usize,
+        ) -> u32;
+        pub fn rajvokshul_step(record: *mut u8, record_len: usize, words: *const u32, words_len: usize) -> u32;
+    }
+}
+
+pub fn opening(lengths: &[u16], metres: &[u16], seconds: &[u16], crusher: &mut u8) -> u32 {
+    unsafe {
+        raw::rajvokshul_opening(
+            lengths.as_ptr(),
+            lengths.len(),
+            metres.as_ptr(),
+            metres.len(),
+            seconds.as_ptr(),
+            seconds.len(),
+            crusher,
+        )
+    }
+}
+
+pub fn list(bytes: &[u8], text: &mut [u8], written: &mut usize) -> u32 {
+    unsafe { raw::rajvokshul_list(bytes.as_ptr(), bytes.len(), text.as_mut_ptr(), text.len(), written) }
+}
+
+pub fn run(bytes: &[u8], record: &mut [u8]) -> u32 {
+    unsafe { raw::rajvokshul_run(bytes.as_ptr(), bytes.len(), record.as_mut_ptr(), record.len()) }
+}
+
+pub fn grade(bytes: &[u8], grades: &mut [u16]) -> u32 {
+    unsafe { raw::rajvokshul_grade(bytes.as_ptr(), bytes.len(), grades.as_mut_ptr(), grades.len()) }
+}
+
+pub fn read(bytes: &[u8], openings: &mut [u8], words: &mut [u32], trucks: &mut u32, rounds: &mut u32) -> u32 {
+    unsafe {
+        raw::rajvokshul_read(
+            bytes.as_ptr(),
+            bytes.len(),
+            openings.as_mut_ptr(),
+            openings.len(),
+            words.as_mut_ptr(),
+            words.len(),
+            trucks,
+            rounds,
+        )
+    }
+}
+
+pub fn write(
+    trucks: u32,
+    rounds: u32,
+    openings: &[u8],
+    words: &[u32],
+    bytes: &mut [u8],
+    written: &mut usize,
+) -> u32 {
+    unsafe {
+        raw::rajvokshul_write(
+            trucks,
+            rounds,
+            openings.as_ptr(),
+            openings.len(),
+            words.as_ptr(),
+            words.len(),
+            bytes.as_mut_ptr(),
+            bytes.len(),
+            written,
+        )
+    }
+}
+
+pub fn start(trucks: u32, openings: &[u8], record: &mut [u8]) -> u32 {
+    unsafe {
+        raw::rajvokshul_start(trucks, openings.as_ptr(), openings.len(), record.as_mut_ptr(), record.len())
+    }
+}
+
+pub fn step(record: &mut [u8], words: &[u32]) -> u32 {
+    unsafe { raw::rajvokshul_step(record.as_mut_ptr(), record.len(), words.as_ptr(), words.len()) }
+}
+
+/// How many bytes a record has.
+pub const RECORD: usize = 227;
+
+fn truck_bytes(t: &Truck) -> [u8; 7] {
+    let heard = match t.heard {
+        Heard::Nothing => 0,
+        Heard::One => 1,
+        Heard::Several => 2,
+    };
+    let (state, round) = match t.state {
+        State::Running => (0, 0),
+        State::Stopped(k) => (1, k),
+        State::Decided(k) => (2, k),
+    };
+    let [low, high] = round.to_le_bytes();
+    [t.opening, t.estimate, u8::from(t.mark), heard, state, low, high]
+}
+
+/// A record as bytes, all 32 places.
+pub fn record_bytes(f: &Fleet) -> [u8; RECORD] {
+    let mut d = [0; RECORD];
+    d[0] = f.n;
+    d[1..3].copy_from_slice(&f.done.to_le_bytes());
+    for (i, t) in f.trucks.iter().enumerate() {
+        d[3 + 7 * i..10 + 7 * i].copy_from_slice(&truck_bytes(t));
+    }
+    d
+}
+
+/// How often a test repeats: the environment variable CHECKS multiplies it for longer runs.
+pub fn times(count: usize) -> usize {
+    let factor = std::env::var("CHECKS").ok().and_then(|s| s.parse().ok()).unwrap_or(1usize);
+    count * factor
+}

@@ -1,0 +1,357 @@
+//! The library compared with the independent reading, on inputs from fixed seeds.
+
+use checks::{record_bytes, times, RECORD};
+use oracle::gen::{self, Limits, Rng, FULL, SMALL, TINY};
+use oracle::{fleet, lists, marks};
+
+/// What a buffer holds before a call, so that a stray write shows.
+const FILL: u8 = 0xA5;
+
+/// Mostly tiny recordings, some small ones, now and then one of any size.
+fn mixed(k: usize) -> Limits {
+    match k {
+        k if k % 400 == 0 => FULL,
+        k if k % 8 == 0 => SMALL,
+        _ => TINY,
+    }
+}
+
+/// Running, listing, grading and reading of any bytes, accepted or not, with the buffers around what is written.
+fn whole(bytes: &[u8]) {
+    let (number, record) = oracle::run(bytes);
+    let number = u32::from(number);
+
+    let mut d = [FILL; RECORD + 3];
+    assert_eq!(checks::run(bytes, &mut d), number);
+    if number == 0 {
+        assert_eq!(d[..RECORD], record_bytes(&record));
+        assert_eq!(d[RECORD..], [FILL; 3]);
+    } else {
+        assert_eq!(d, [FILL; RECORD + 3]);
+    }
+
+    let text = oracle::listing(bytes);
+    let mut buf = [FILL; 1466];
+    let mut written = 77;
+    assert_eq!(checks::list(bytes, &mut buf, &mut written), number);
+    if number == 0 {
+        assert_eq!(&buf[..written], text.as_bytes());
+        assert!(buf[written..].iter().all(|&b| b == FILL));
+    } else {
+        assert_eq!(text, format!("refused {number}\n"));
+        assert!(written == 77 && buf.iter().all(|&b| b == FILL));
+    }
+
+    let mut grades = [999u16; 5];
+    let graded = checks::grade(bytes, &mut grades);
+    match oracle::grade(bytes) {
+        Ok(g) => assert_eq!((graded, &grades[..]), (0, &[g[0], g[1], g[2], g[3], 999][..])),
+        Err(k) => assert_eq!((graded, grades), (u32::from(k), [999; 5])),
+    }
+
+    read_into(bytes, 40, 420 * 35);
+}
+
+/// Reading with buffers of these lengths.
+fn read_into(bytes: &[u8], openings: usize, words: usize) {
+    let mut expected = (vec![FILL; openings], vec![0xDEAD_BEEF; words]);
+    let mut found = expected.clone();
+    let (mut n, mut rounds) = (1234, 5678);
+    let number = checks::read(bytes, &mut found.0, &mut found.1, &mut n, &mut rounds);
+    match oracle::read_into(bytes, &mut expected.0, &mut expected.1) {
+        Ok(h) => assert_eq!((number, n, rounds), (0, h.n as u32, h.rounds as u32)),
+        Err(k) => assert_eq!((number, n, rounds), (u32::from(k), 1234, 5678)),
+    }
+    assert_eq!(found, expected);
+}
+
+#[test]
+fn accepted_recordings() {
+    let mut rng = Rng::new(1);
+    for k in 0..times(120_000) {
+        let limits = mixed(k);
+        let bytes = gen::recording(&mut rng, limits);
+        whole(&bytes);
+        let plain = oracle::read(&bytes).unwrap();
+        let mut back = vec![FILL; bytes.len() + 2];
+        let mut written = 0;
+        let number =
+            checks::write(plain.n as u32, plain.rounds as u32, &plain.openings, &plain.words, &mut back, &mut written);
+        assert_eq!((number, written), (0, bytes.len()));
+        assert_eq!(back[..written], bytes[..]);
+        assert_eq!(back[written..], [FILL; 2]);
+    }
+}
+
+#[test]
+fn largest_recordings() {
+    let mut rng = Rng::new(2);
+    for _ in 0..times(20) {
+        whole(&gen::largest(&mut rng));
+    }
+}
+
+#[test]
+fn damaged_recordings() {
+    let mut rng = Rng::new(3);
+    for k in 0..times(60_000) {
+        let refusal = 1 + (k % 6) as u8;
+        let limits = mixed(k / 6);
+        let damaged = gen::damaged(&mut rng, limits, refusal);
+        assert_eq!(oracle::run(&damaged.bytes).0, damaged.refusal, "{}", damaged.how);
+        whole(&damaged.bytes);
+    }
+}
+
+#[test]
+fn any_short_bytes() {
+    let mut rng = Rng::new(4);
+    for header in 0..=0xFFFFu16 {
+        whole(&header.to_be_bytes());
+    }
+    for _ in 0..times(20_000) {
+        let length = rng.within(0, 12);
+        let bytes: Vec<u8> = (0..length).map(|_| rng.next_u64() as u8).collect();
+        whole(&bytes);
+    }
+}
+
+#[test]
+fn buffers_for_reading() {
+    let mut rng = Rng::new(5);
+    for _ in 0..times(20_000) {
+        let bytes = gen::recording(&mut rng, TINY);
+        let header = oracle::check(&bytes).unwrap();
+        let (openings, words) = gen::reading_buffers(&mut rng, header);
+        read_into(&bytes, openings, words);
+    }
+}
+
+#[test]
+fn writing() {
+    let mut rng = Rng::new(6);
+    let kinds = [0, 2, 3, 7, 8, 6, 9];
+    for k in 0..times(42_000) {
+        let limits = if k % 100 == 0 { SMALL } else { TINY };
+        let w = gen::writing(&mut rng, limits, kinds[k % 7]);
+        let mut expected = vec![FILL; w.buffer];
+        let mut found = expected.clone();
+        let mut written = 4321;
+        let trucks = u32::try_from(w.n).unwrap_or(u32::MAX);
+        let rounds = u32::try_from(w.rounds).unwrap_or(u32::MAX);
+        let number = checks::write(trucks, rounds, &w.openings, &w.words, &mut found, &mut written);
+        match oracle::write_into(w.n, w.rounds, &w.openings, &w.words, &mut expected) {
+            Ok(m) => assert_eq!((number, written), (0, m)),
+            Err(r) => assert_eq!((number, written), (u32::from(r), 4321)),
+        }
+        assert_eq!(number, u32::from(w.refusal));
+        assert_eq!(found, expected);
+    }
+}
+
+fn a_round(rng: &mut Rng, n: usize, number: usize) -> Vec<u32> {
+    let habits = gen::habits(rng);
+    gen::round(rng, n, number, &habits)
+}
+
+/// One step on both sides, from the same record.
+fn step_both(f: &oracle::Fleet, words: &[u32]) -> oracle::Fleet {
+    let mut d = record_bytes(f);
+    let number = checks::step(&mut d, words);
+    let (expected, next) = oracle::step(f, words);
+    assert_eq!(number, u32::from(expected));
+    assert_eq!(d, record_bytes(&next));
+    next
+}
+
+#[test]
+fn lists_of_steps() {
+    let mut rng = Rng::new(7);
+    let mut full = 0;
+    for k in 0..times(20_000) {
+        let list = match k {
+            k if k % 2000 == 0 => gen::long_list(&mut rng, 5),
+            k if k % 20 == 0 => gen::list(&mut rng, SMALL),
+            _ => gen::list(&mut rng, TINY),
+        };
+        let (number, mut fleet) = oracle::start(list.n, &list.openings);
+        let mut d = [FILL; RECORD];
+        assert_eq!(checks::start(list.n as u32, &list.openings, &mut d), u32::from(number));
+        if number != 0 {
+            assert_eq!(d, [FILL; RECORD]);
+            continue;
+        }
+        assert_eq!(d, record_bytes(&fleet));
+        for words in &list.steps {
+            fleet = step_both(&fleet, words);
+        }
+        full += usize::from(fleet.done == 400);
+        // stepped or run, the same record
+        let plain = lists::recording_of(&list);
+        let bytes = gen::bytes_of(&plain);
+        assert_eq!(checks::run(&bytes, &mut d), 0);
+        assert_eq!(d, record_bytes(&fleet));
+    }
+    assert!(full > 0);
+}
+
+#[test]
+fn starts() {
+    let mut rng = Rng::new(8);
+    for k in 0..times(9_000) {
+        let s = gen::starting(&mut rng, [0, 2, 7][k % 3]);
+        let mut d = [FILL; RECORD];
+        let n = u32::try_from(s.n).unwrap_or(u32::MAX);
+        let number = checks::start(n, &s.openings, &mut d);
+        assert_eq!(number, u32::from(s.refusal));
+        let expected = oracle::start(s.n, &s.openings);
+        if number == 0 {
+            assert_eq!(d, record_bytes(&expected.1));
+        } else {
+            assert_eq!(d, [FILL; RECORD]);
+        }
+        let mut short = [FILL; RECORD - 1];
+        let refused = checks::start(n, &s.openings, &mut short);
+        assert_eq!(refused, if number == 0 { 9 } else { number });
+        assert_eq!(short, [FILL; RECORD - 1]);
+    }
+}
+
+#[test]
+fn records_handed_in() {
+    let mut rng = Rng::new(9);
+    for _ in 0..times(200) {
+        for broken in gen::broken_records(&mut rng) {
+            let f = broken.fleet;
+            let n = usize::from(f.n.clamp(1, 32));
+            let words = a_round(&mut rng, n, usize::from(f.done) + 1);
+            assert_eq!(fleet::record_refused(&f), broken.refused, "{}", broken.condition);
+            step_both(&f, &words);
+        }
+    }
+    for _ in 0..times(20_000) {
+        let f = gen::record(&mut rng);
+        let words = a_round(&mut rng, usize::from(f.n), usize::from(f.done) + 1);
+        step_both(&f, &words);
+        let (bad, _) = gen::bad_round(&mut rng, usize::from(f.n));
+        step_both(&f, &bad);
+    }
+}
+
+#[test]
+fn damaged_record_bytes() {
+    let mut rng = Rng::new(10);
+    for _ in 0..times(20_000) {
+        let f = gen::good_record(&mut rng, 5, 2);
+        let place = rng.below(32);
+        let mut d = record_bytes(&f);
+        let at = 3 + 7 * place;
+        match rng.below(4) {
+            0 => d[at + 2] = 2 + rng.below(254) as u8,
+            1 => d[at + 3] = 3 + rng.below(253) as u8,
+            2 => d[at + 4] = 3 + rng.below(253) as u8,
+            _ => {
+                d[at + 4] = 0;
+                d[at + 2] = 0;
+                d[at + 3] = 0;
+                d[at + 5 + rng.below(2)] = 1 + rng.below(255) as u8;
+            }
+        }
+        let words = a_round(&mut rng, 5, 3);
+        let before = d;
+        let number = checks::step(&mut d, &words);
+        if place < 5 {
+            assert_eq!((number, d), (7, before));
+        } else {
+            assert_eq!(number, 0);
+            let end = 3 + 7 * 5;
+            assert_eq!(d[end..], before[end..]);
+            assert_eq!(d[..end], record_bytes(&oracle::step(&f, &words).1)[..end]);
+        }
+    }
+    for length in 0..RECORD {
+        let mut d = vec![1; length];
+        assert_eq!(checks::step(&mut d, &[0; 4]), 7);
+        assert_eq!(d, vec![1; length]);
+    }
+}
+
+#[test]
+fn agreement_of_the_library() {
+    let mut rng = Rng::new(11);
+    let mut several = 0;
+    for k in 0..times(20_000) {
+        let plain = gen::majority_complete(&mut rng, if k % 10 == 0 { SMALL } else { TINY });
+        assert!(marks::majority_complete(&plain));
+        let mut d = [0; RECORD];
+        assert_eq!(checks::run(&gen::bytes_of(&plain), &mut d), 0);
+        let decided: Vec<u8> =
+            (0..plain.n).filter(|i| d[3 + 7 * i + 4] == 2).map(|i| d[3 + 7 * i + 1]).collect();
+        assert!(decided.iter().all(|v| *v == decided[0] && plain.openings.contains(v)));
+        several += usize::from(decided.len() > 1);
+    }
+    assert!(several > 1000);
+}
+
+#[test]
+fn deciding_in_calm_rounds() {
+    let mut rng = Rng::new(12);
+    for k in 0..times(10_000) {
+        let calm = gen::calm(&mut rng, if k % 10 == 0 { SMALL } else { TINY }, k % 2 == 0);
+        assert!(oracle::calm(&calm.plain, calm.s, calm.b));
+        let mut d = [0; RECORD];
+        assert_eq!(checks::run(&gen::bytes_of(&calm.plain), &mut d), 0);
+        for i in 0..calm.plain.n {
+            let t = &d[3 + 7 * i..10 + 7 * i];
+            let round = u64::from(u16::from_le_bytes([t[5], t[6]]));
+            assert!(t[4] != 0 && round <= calm.s + 4);
+        }
+    }
+}
+
+#[test]
+fn roads() {
+    let mut rng = Rng::new(13);
+    let check = |r: &gen::Roads| {
+        let mut crusher = 99;
+        let number = checks::opening(&r.lengths, &r.metres, &r.seconds, &mut crusher);
+        match oracle::opening(&r.lengths, &r.metres, &r.seconds) {
+            Ok(k) => assert_eq!((number, crusher), (0, k)),
+            Err(k) => assert_eq!((number, crusher), (u32::from(k), 99)),
+        }
+    };
+    for k in 0..times(60_000) {
+        let r = gen::roads(&mut rng);
+        check(&r);
+        check(&gen::refused_roads(&mut rng, 10 + (k % 4) as u8));
+        check(&gen::Roads::of(&gen::near_tie(&mut rng)));
+    }
+    // a tie at every pair of places of 16 roads
+    for a in 0..16 {
+        for b in a + 1..16 {
+            let mut roads = [(60_000, 1, 3_600); 16];
+            roads[a] = (1200, 600, 90);
+            roads[b] = (900, 300, 60);
+            let r = gen::Roads::of(&roads);
+            let mut crusher = 99;
+            assert_eq!(checks::opening(&r.lengths, &r.metres, &r.seconds, &mut crusher), 0);
+            assert_eq!(crusher, a as u8);
+        }
+    }
+    for pair in gen::CLOSE_PAIRS {
+        check(&gen::Roads::of(&pair));
+        check(&gen::Roads::of(&[pair[1], pair[0]]));
+    }
+}
+
+/// C13: three trucks send, one hears two without a mark.
+#[test]
+fn case_13() {
+    let words = [0, 0b111, 0, 0b100, 0, 0];
+    let mut bytes = [0; 64];
+    let mut written = 0;
+    assert_eq!(checks::write(3, 1, &[1, 1, 1], &words, &mut bytes, &mut written), 0);
+    let mut grades = [9; 4];
+    assert_eq!(checks::grade(&bytes[..written], &mut grades), 0);
+    assert_eq!(grades, [1, 0, 0, 0]);
+}

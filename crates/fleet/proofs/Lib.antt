@@ -6,3 +6,4 @@ pub mod Turns
 pub mod Loops
 pub mod Records
 pub mod Same
+pub mod Verdicts

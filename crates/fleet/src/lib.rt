@@ -11,6 +11,7 @@ ghost use Rattle.basics.specs.Lists.{filled};
 ghost use Rattle.protocol.specs.Fleets.{blank, started, stepCheck, nextFleet, stepped};
 ghost use Rattle.fleet.specs.Rounds.{noRows};
 
+mod grading;
 mod hearing;
 mod record;
 mod round;

@@ -7,3 +7,5 @@ pub mod Loops
 pub mod Records
 pub mod Same
 pub mod Verdicts
+pub mod Reading
+pub mod Stages

@@ -16,9 +16,10 @@ use Rattle.basics.proofs.Laws.{allBelow-all, first-le, first-kept, first-hit, f
 use Rattle.air.specs.Air.{Air, implies, sent, hears, heardBy, heard, misses, missesAny, judged, complete, majorityComplete, zeroComplete, accurate, firstBreak}
 use Rattle.air.proofs.Laws.{hears-sends}
 use Rattle.words.proofs.Words.{bit-zero, bit-removed, same-bits}
+use Rattle.protocol.specs.declared.Grades.{Grades}
 use Rattle.fleet.specs.declared.grading.Verdict.{Verdict}
 use Rattle.fleet.specs.Sets.{Members, heardSet}
-use Rattle.fleet.specs.Grading.{verdictOf, truckVerdict, bothOf, Described, carried}
+use Rattle.fleet.specs.Grading.{verdictOf, truckVerdict, bothOf, Described, carried, carriedAll}
 use Rattle.fleet.proofs.Members.{member-below, member-has, seen}
 use Rattle.fleet.proofs.Airs.{count-members, hearers}
 
@@ -209,3 +210,16 @@ module _ (class : Air → Bool) (airs : ℕ → Air) where
           last : (b : Bool) → class (airs (suc k)) ≡ b → cond (ltb (first breaks (suc k)) (suc k)) (suc (first breaks (suc k))) 0 ≡ cond b 0 (suc k)
           last true e = rw (first-on breaks k at (ap not e), le-ltb (suc k) (suc k) (omega arith))
           last false e = rw (first-hit breaks k at (ap not e), lt-ltb k (suc k) (omega arith))
+
+-- a round that breaks nothing
+carried-true : (g k : ℕ) → carried g true k ≡ g
+unfolding carried
+carried-true g k = go (ℕ-discrete g 0)
+  where
+    go : Dec (g ≡ 0) → cond (eqb g 0) 0 g ≡ g
+    go (yes e) = rw (eq-eqb g 0 e) (sym e)
+    go (no e) = rw (ne-eqb g 0 e)
+
+pub carried-all : (g : Grades) (k : ℕ) → carriedAll g (record { complete = true; majority = true; zero = true; accurate = true }) k ≡ g
+unfolding carriedAll
+carried-all g k = rw (carried-true (g .complete) k, carried-true (g .majority) k, carried-true (g .zero) k, carried-true (g .accurate) k)

@@ -6,3 +6,6 @@ pub mod Turns
 pub mod Loops
 pub mod Records
 pub mod Same
+pub mod Verdicts
+pub mod Reading
+pub mod Stages

@@ -16,6 +16,7 @@ use Rattle.basics.specs.Lists.{filled}
 use Rattle.basics.proofs.Laws.{and-left, length-filled, getD-filled, getD-filled-past, filled-ext}
 use Rattle.words.proofs.Words.{bit-and, bit-or, bit-without, bit-power, bit-high, bit-zero, bit-removed}
 use Rattle.fleet.specs.Sets.{Members}
+use Rattle.fleet.proofs.Laws.{filled-same}
 
 pub set-below : (set n : ℕ) → set < 2 ^ n → (j : ℕ) → bit set j ≡ true → j < n
 set-below set n below j h = go (decLt j n)
@@ -152,17 +153,11 @@ module _ {A : Type 0} (z : A) (d : List A) (new : ℕ → A) (n : ℕ) (long : n
   part = replaced z d new n
 
   pub replaced-none : (left : ℕ) → ((j : ℕ) → j < n → bit left j ≡ false → new j ≡ getD d j z) → part left ≡ d
-  replaced-none left h =
-      ext-getD z (part left) d (length-filled (old left) n d long)
-      (λ j l. go j (decLt j n))
+  replaced-none left h = filled-same z (old left) n d long (λ j l. pick j (bit left j) refl (h j l))
     where
       pick : (j : ℕ) → (b : Bool) → bit left j ≡ b → (bit left j ≡ false → new j ≡ getD d j z) → cond b (getD d j z) (new j) ≡ getD d j z
       pick j true e f = refl
       pick j false e f = f e
-
-      go : (j : ℕ) → Dec (j < n) → getD (part left) j z ≡ getD d j z
-      go j (yes l) = getD-filled (old left) n d j z l ∙ pick j (bit left j) refl (h j l)
-      go j (no l) = getD-filled-past (old left) n d j z (omega arith)
 
   pub replaced-more : (left i : ℕ) (a : A) → i < n → bit left i ≡ true → a ≡ new i → set (part left) i a ≡ part (bitXor left (2 ^ i))
   replaced-more left i a l h e =

@@ -21,7 +21,8 @@ use Rattle.recording.proofs.Rounds.{round-good}
 use Rattle.protocol.specs.declared.Truck.{Truck}
 use Rattle.protocol.specs.declared.Fleet.{Fleet}
 use Rattle.protocol.specs.Rules.{opened, truck}
-use Rattle.protocol.specs.Runs.{openedTrucks}
+use Rattle.air.specs.Runs.{stateAt}
+use Rattle.protocol.specs.Runs.{openedTrucks, trucksAt}
 use Rattle.protocol.specs.Fleets.{blank, goodTruck, goodFleet, stepCheck}
 use Rattle.protocol.proofs.Good.{good-parts}
 use Rattle.fleet.specs.Rounds.{openFleet}
@@ -29,6 +30,11 @@ use Rattle.fleet.specs.Rounds.{openFleet}
 pub length-opened : (openings : List ℕ) → length (openedTrucks openings) ≡ 32
 unfolding openedTrucks
 length-opened openings = length-tab (λ i. opened (getD openings i 0)) 32
+
+-- a run before round 1
+pub length-start : (n : ℕ) (openings : List ℕ) (rounds : ℕ → List ℕ) → length (trucksAt n openings rounds 0) ≡ 32
+unfolding trucksAt stateAt
+length-start n openings rounds = length-opened openings
 
 truck-opened : (openings : List ℕ) (i : ℕ) → i < 32 → truck (openedTrucks openings) i ≡ opened (getD openings i 0)
 unfolding openedTrucks

@@ -2,9 +2,9 @@
 use mathlib.Core.Path.{_≡_, refl, ap, ap₂, sym, _∙_}
 use mathlib.Core.Bool.{Bool, true, false, cond, not, _&&_, _||_, true≢false}
 use mathlib.Core.List.{List}
-use Prim.Native.Nat.{ℕ, _+_, _<_}
+use Prim.Native.Nat.{ℕ, _+_, _≤_, _<_}
 use lib.Dec.{eqb}
-use lib.ListN.{getD}
+use lib.ListN.{length, getD}
 use Rattle.basics.specs.Bits.{bit, odd}
 use Rattle.basics.specs.Lists.{filled}
 use Rattle.basics.proofs.Laws.{filled-ext, getD-filled}
@@ -15,9 +15,10 @@ use Rattle.protocol.specs.declared.State.{State}
 use Rattle.protocol.specs.declared.State.the-variants.{Running, Stopped, Decided}
 use Rattle.protocol.specs.declared.Truck.{Truck}
 use Rattle.protocol.specs.declared.Fleet.{Fleet}
-use Rattle.protocol.specs.Rules.{truck, isRunning, runs, vetoes, stops, turn, airOf, valuesHeard, plays, after}
+use Rattle.protocol.specs.Rules.{opened, truck, isRunning, runs, vetoes, stops, turn, airOf, valuesHeard, plays, after}
 use Rattle.protocol.specs.Fleets.{nextFleet}
 use Rattle.fleet.specs.Rounds.{roundOf, noRows}
+use Rattle.fleet.proofs.Laws.{filled-same}
 use Rattle.fleet.proofs.Turns.{row-of}
 
 -- two rounds that differ in nothing that is looked at
@@ -104,3 +105,18 @@ plain-next f w =
   where
     rows : List ℕ
     rows = filled (λ i. getD w (3 + i) 0) (f .n) noRows
+
+-- a round in which nobody runs
+pub idle-next : (f : Fleet) (w : List ℕ) → f .n ≤ length (f .trucks) → ((j : ℕ) → j < f .n → runs (truck (f .trucks) j) ≡ false)
+    → nextFleet f w ≡ record { n = f .n; done = f .done + 1; trucks = f .trucks }
+unfolding nextFleet after
+idle-next f w long h =
+    ap (λ (l : List Truck). record { n = f .n; done = f .done + 1; trucks = l })
+    (filled-same (opened 0) _ (f .n) (f .trucks) long (λ i l. go i (truck (f .trucks) i .state) (h i l)))
+  where
+    go : (i : ℕ) (s : State) → isRunning s ≡ false
+        → turn s (stopBit w i) (stops (f .done + 1) (truck (f .trucks) i)) (plays (airOf (f .n) (activeBit w) (f .done + 1) w (f .trucks)) (f .done + 1) w (f .trucks) i) (truck (f .trucks) i)
+        ≡ truck (f .trucks) i
+    go i Running e = absurd (true≢false e)
+    go i (Stopped r) e = refl
+    go i (Decided r) e = refl

@@ -57,6 +57,36 @@ emptied k Running false t played e h r = sym h
 emptied k (Stopped q) b t played e h r = absurd (false≢true (sym (ap isRunning e) ∙ r))
 emptied k (Decided q) b t played e h r = absurd (false≢true (sym (ap isRunning e) ∙ r))
 
+-- a round's stops and senders, by sets
+module _ (n k : ℕ) (w : List ℕ) (ts : List Truck) (running : ℕ) (known : Members running n (λ j. runs (truck ts j))) where
+  abbrev on : Air
+  on = airOf n (activeBit w) k w ts
+
+  abbrev going : ℕ
+  going = bitXor running (bitAnd running (getD w 0 0))
+
+  -- those that run after the round's stops
+  pub going-is : Members going n (on .running)
+  unfolding airOf
+  going-is = members-without known (getD w 0 0)
+
+  -- the senders of a proposal round
+  pub proposers : odd k ≡ true → Members (bitAnd going (getD w 1 0)) n (on .sends)
+  unfolding airOf
+  proposers o = members-ext (members-and going-is (getD w 1 0)) (on .sends) (λ j l. rw o)
+
+  -- the senders of a veto round
+  pub vetoers : (vetoing : ℕ) → odd k ≡ false → ((j : ℕ) → j < n → runs (truck ts j) ≡ true → bit vetoing j ≡ vetoes (truck ts j))
+      → Members (bitAnd going vetoing) n (on .sends)
+  unfolding airOf
+  vetoers vetoing o h =
+      members-ext (members-and going-is vetoing) (on .sends) (λ j l. rw o (go (runs (truck ts j)) (not (stopBit w j)) (bit vetoing j) (vetoes (truck ts j)) (h j l)))
+    where
+      go : (x y b c : Bool) → (x ≡ true → b ≡ c) → ((x && y) && b) ≡ ((x && y) && c)
+      go true true b c e = e refl
+      go true false b c e = refl
+      go false y b c e = refl
+
 -- the row of truck i
 pub row-of : (stop active mark : ℕ) (rows : List ℕ) (i : ℕ) → getD (roundOf stop active mark rows) (3 + i) 0 ≡ getD rows i 0
 row-of stop active mark rows i =
@@ -90,31 +120,6 @@ module _ (n k stop active mark : ℕ) (rows : List ℕ) (ts : List Truck) where
       go (Decided r) e = refl
 
   module _ (running : ℕ) (known : Members running n (λ j. runs (truck ts j))) where
-    abbrev going : ℕ
-    going = bitXor running (bitAnd running stop)
-
-    -- the round's stops
-    pub going-is : Members going n (air .running)
-    unfolding airOf
-    going-is = members-without known stop
-
-    -- the senders of a proposal round
-    pub proposers : odd k ≡ true → Members (bitAnd going active) n (air .sends)
-    unfolding airOf
-    proposers o = members-ext (members-and going-is active) (air .sends) (λ j l. rw o)
-
-    -- the senders of a veto round
-    pub vetoers : (vetoing : ℕ) → odd k ≡ false → ((j : ℕ) → j < n → runs (truck ts j) ≡ true → bit vetoing j ≡ vetoes (truck ts j))
-        → Members (bitAnd going vetoing) n (air .sends)
-    unfolding airOf
-    vetoers vetoing o h =
-        members-ext (members-and going-is vetoing) (air .sends) (λ j l. rw o (go (runs (truck ts j)) (not (stopBit w j)) (bit vetoing j) (vetoes (truck ts j)) (h j l)))
-      where
-        go : (x y b c : Bool) → (x ≡ true → b ≡ c) → ((x && y) && b) ≡ ((x && y) && c)
-        go true true b c e = e refl
-        go true false b c e = refl
-        go false y b c e = refl
-
     -- of those that run, who has p after the round, where nobody has p that doesn't run
     pub runners : (p : Truck → Bool) (set : ℕ) → Members set n (λ j. bit running j && p (rule j)) → (j : ℕ) → j < n → runs (rule j) ≡ true → bit set j ≡ p (rule j)
     runners p set m j l r = m .each j l ∙ ap (λ (b : Bool). b && p (rule j)) (known .each j l ∙ ran (runs (truck ts j)) refl)
@@ -213,7 +218,7 @@ module _ (n k stop active mark : ℕ) (rows : List ℕ) (ts : List Truck) where
         → Kept (record { fleet = played; running = bitXor running (bitAnd running stop); vetoing = vetoing })
     kept-proposal vetoing o m =
         record {
-          running = members-ext (going-is running known) (λ j. runs (truck (filled rule n ts) j)) (λ j l. proposal-runs o j ∙ ap runs (sym (truck-rule j l)));
+          running = members-ext (going-is n k w ts running known) (λ j. runs (truck (filled rule n ts) j)) (λ j l. proposal-runs o j ∙ ap runs (sym (truck-rule j l)));
           vetoing = λ j l h. runners running known vetoes vetoing m j l (sym (ap runs (truck-rule j l)) ∙ h) ∙ ap vetoes (sym (truck-rule j l));
         }
 

@@ -1,2 +1,4 @@
 pub mod Sets
 pub mod Rounds
+pub mod Grading
+pub mod Replays

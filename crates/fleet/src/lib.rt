@@ -1,6 +1,7 @@
 // Fleets of trucks: started, stepped, run through a recording, and graded.
 use protocol::Answer;
 use protocol::Fleet;
+use protocol::Grading;
 use refusals::Outcome;
 use refusals::Refusal;
 ghost use mathlib.Core.Path.{_≡_};
@@ -8,11 +9,13 @@ ghost use Prim.Native.Nat.{_≤_, _+_};
 ghost use lib.ListN.{length, getD};
 ghost use Rattle.refusals.specs.declared.Outcome.the-variants.{Accepted, Refused};
 ghost use Rattle.basics.specs.Lists.{filled};
-ghost use Rattle.protocol.specs.Fleets.{blank, started, stepCheck, nextFleet, stepped};
+ghost use Rattle.protocol.specs.Fleets.{blank, started, stepCheck, nextFleet, stepped, ran, graded};
 ghost use Rattle.fleet.specs.Rounds.{noRows};
 
+mod grading;
 mod hearing;
 mod record;
+mod replay;
 mod round;
 
 // A refusal of a call that has no record to hand back.
@@ -93,5 +96,38 @@ pub fn step(f: Fleet, words: &[u32]) -> Answer
             outcome: Outcome::Refused(refusal),
             fleet: f,
         },
+    }
+}
+
+// Running a recording: all its rounds.
+pub fn run(s: &[u8]) -> Answer
+    ensures { λ r. ⌜ r ≡ ran (now (s .entry)) ⌝ }
+{
+    let outcome = recording::check(s);
+    match outcome {
+        Outcome::Accepted => {
+            let end = replay::replay(s, false);
+            let fleet = end.roster.fleet;
+            Answer {
+                outcome: Outcome::Accepted,
+                fleet,
+            }
+        }
+        Outcome::Refused(refusal) => refused(refusal),
+    }
+}
+
+// Grading a recording.
+pub fn grade(s: &[u8]) -> Grading
+    ensures { λ r. ⌜ r ≡ graded (now (s .entry)) ⌝ }
+{
+    let outcome = recording::check(s);
+    match outcome {
+        Outcome::Accepted => {
+            let end = replay::replay(s, true);
+            let grades = end.grades;
+            Grading::Graded(grades)
+        }
+        Outcome::Refused(refusal) => Grading::Refused(refusal),
     }
 }

@@ -10,7 +10,7 @@ use Rattle.protocol.specs.declared.Fleet.{Fleet}
 use Rattle.protocol.specs.declared.Truck.{Truck}
 use Rattle.protocol.specs.Rules.{vetoes}
 use Rattle.truck.specs.Events.{turned}
-use Rattle.fleet.specs.Rounds.{Kept, proposalEvent}
+use Rattle.fleet.specs.Rounds.{Kept, proposalEvent, roundOf}
 use Rattle.fleet.proofs.Turns.{rule, rule-idle, proposers, proposal-turn, kept-proposal, next-is}
 use Rattle.fleet.proofs.Loops.{Going, going-starts, going-below, going-truck, going-more, going-fleet, going-held}
 use borrow.Author.Needs.{needs}
@@ -29,7 +29,7 @@ by-crusher-requires c κs =
     let s = c .before in
     let a = s .args in
     let f = a .r .fleet in
-    (s .pre .0 .most, proposers (f .n) (f .done + 1) (a .stop) (a .active) (a .mark) (a .rows .now) (f .trucks) (a .r .running) (s .pre .0 .kept .running) (s .pre .1) .below, s .pre .0 .small)
+    (s .pre .0 .most, proposers (f .n) (f .done + 1) (roundOf (a .stop) (a .active) (a .mark) (a .rows .now)) (f .trucks) (a .r .running) (s .pre .0 .kept .running) (s .pre .1) .below, s .pre .0 .small)
 
 add-round : tie.Need-add-round Inv-loop μ-loop
 add-round c = search needs
@@ -94,7 +94,7 @@ loop-again c =
     let h = c .before .before .before .before .before .before .before .before .lowest .ensures .1 in
     let sent = bitAnd (bitXor (a .r .running) (bitAnd (a .r .running) (a .stop))) (a .active) in
     let values = c .before .before .before .before .before .before .before .before .before .before .before .by-crusher .result in
-    let senders = proposers (f .n) k (a .stop) (a .active) (a .mark) (a .rows .now) (f .trucks) (a .r .running) known (s .pre .1) in
+    let senders = proposers (f .n) k (roundOf (a .stop) (a .active) (a .mark) (a .rows .now)) (f .trucks) (a .r .running) known (s .pre .1) in
     let same = going-truck (f .n) k (f .trucks) new (a .r .running) vetoes (known .below) g i h in
     going-more (f .n) k (f .trucks) new (a .r .running) vetoes (known .below) g i h (omega (arith, s .pre .0 .places, s .pre .0 .most)) (c .before .before .before .after .result) (c .before .before .vetoes .result)
     (c .before .joined .result) (c .without .result)

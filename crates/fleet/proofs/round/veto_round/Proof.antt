@@ -2,7 +2,7 @@
 use mathlib.Core.Path.{ap₂, sym, subst, _∙_}
 use Rattle.protocol.specs.declared.Fleet.{Fleet}
 use Rattle.truck.specs.Events.{turned}
-use Rattle.fleet.specs.Rounds.{Kept}
+use Rattle.fleet.specs.Rounds.{Kept, roundOf}
 use Rattle.fleet.proofs.Turns.{rule, rule-idle, vetoers, veto-turn, kept-veto, next-is}
 use Prim.Native.Nat.{_+_}
 use native.Mathlib.Omega.{arith}
@@ -81,7 +81,7 @@ loop-again c =
     let g = c .before .before .before .before .before .before .before .before .before .loop .inv in
     let i = c .before .before .before .before .before .before .before .lowest .result in
     let h = c .before .before .before .before .before .before .before .lowest .ensures .1 in
-    let senders = vetoers (f .n) k (a .stop) 0 (a .mark) (a .rows .now) (f .trucks) (a .r .running) known (a .r .vetoing) (s .pre .1) (s .pre .0 .kept .vetoing) in
+    let senders = vetoers (f .n) k (roundOf (a .stop) 0 (a .mark) (a .rows .now)) (f .trucks) (a .r .running) known (a .r .vetoing) (s .pre .1) (s .pre .0 .kept .vetoing) in
     going-more (f .n) k (f .trucks) new (a .r .running) runs (known .below) g i h (omega (arith, s .pre .0 .places, s .pre .0 .most)) (c .before .before .before .after .result) (c .before .before .runs .result)
     (c .before .joined .result) (c .without .result)
     (c .before .before .before .after .ensures

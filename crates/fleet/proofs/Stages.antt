@@ -1,0 +1,324 @@
+-- A run from its bytes, round by round.
+use mathlib.Core.Path.{_≡_, refl, ap, ap₂, sym, subst, subst₂, _∙_}
+use mathlib.Core.Bool.{Bool, true, false, cond, true≢false, false≢true}
+use mathlib.Core.List.{List, []}
+use Prim.Native.Nat.{ℕ, suc, _+_, _*_, _^_, _≤_, _<_, min}
+use native.Mathlib.Nat.{add-mul, mul-le-mul}
+use native.Mathlib.Numerals.{add-one}
+use native.Mathlib.Omega.{arith}
+use borrow.Author.Tests.{eqb-true}
+use lib.Bits.{bitAnd, bitXor}
+use lib.Dec.{eqb}
+use lib.ListN.{length, getD, take, drop, replicate}
+use lib.Seq.{take-at}
+use lib.Pow.{pow-pos}
+use Rattle.basics.specs.Bits.{bit, odd}
+use Rattle.basics.specs.Lists.{tab, filled}
+use Rattle.basics.proofs.Laws.{length-tab, length-filled}
+use Rattle.air.specs.Round.{activeBit}
+use Rattle.air.specs.Runs.{stateAt}
+use Rattle.air.specs.Air.{Air, complete, majorityComplete, zeroComplete, accurate}
+use Rattle.words.proofs.Words.{bit-zero}
+use Rattle.bitreader.specs.Bits.{bitsRead}
+use Rattle.refusals.specs.declared.Outcome.the-variants.{Accepted}
+use Rattle.recording.specs.Packed.{bitAt, rowAt, trucksOf, roundsOf, openingAt, openingsOf, roundAt}
+use Rattle.recording.specs.Checks.{checkOf}
+use Rattle.recording.proofs.Accepted.{GoodFrame, bytes-good}
+use Rattle.recording.proofs.RoundTrip.{openings-read}
+use Rattle.protocol.specs.declared.Truck.{Truck}
+use Rattle.protocol.specs.declared.Fleet.{Fleet}
+use Rattle.protocol.specs.declared.Grades.{Grades}
+use Rattle.protocol.specs.Rules.{truck, runs, airOf, after}
+use Rattle.protocol.specs.Runs.{trucksAt, airAt, gradesOf}
+use Rattle.protocol.specs.Fleets.{nextFleet, fleetAt}
+use Rattle.protocol.proofs.Whole.{at-suc, air-suc, throughout, estimates-open}
+use Rattle.fleet.specs.declared.round.Roster.{Roster}
+use Rattle.fleet.specs.declared.grading.Verdict.{Verdict}
+use Rattle.fleet.specs.declared.replay.Course.{Course}
+use Rattle.fleet.specs.Sets.{Members}
+use Rattle.fleet.specs.Rounds.{Kept, Ready, roundOf, Played, openFleet}
+use Rattle.fleet.specs.Grading.{verdictOf, Described, carriedAll}
+use Rattle.fleet.specs.Replays.{RowsRead, noGrades, fleetAfter, gradesAfter, counted, Reached, Moved, Finished}
+use Rattle.fleet.proofs.Members.{members-none, members-without}
+use Rattle.fleet.proofs.Records.{length-start}
+use Rattle.fleet.proofs.Turns.{going-is, proposers, vetoers, row-of}
+use Rattle.fleet.proofs.Same.{Same, same-next, idle-next}
+use Rattle.fleet.proofs.Verdicts.{verdict-starts, verdict-done, carried-all, break-none, break-next}
+use Rattle.fleet.proofs.Reading.{placeOf, word-here, place-small, place-next}
+
+-- the places of a run's record
+module _ (n : ℕ) (openings : List ℕ) (rounds : ℕ → List ℕ) (m : n ≤ 32) where
+  length-after : (active : ℕ → Bool) (k : ℕ) (w : List ℕ) (ts : List Truck) → length ts ≡ 32 → length (after n active k w ts) ≡ 32
+  unfolding after
+  length-after active k w ts e = length-filled _ n ts (omega arith) ∙ e
+
+  places : (k : ℕ) → length (trucksAt n openings rounds k) ≡ 32
+  places k =
+      throughout n openings rounds (λ k ts. length ts ≡ 32) k start (λ j l h. length-after (activeBit (rounds j)) (suc j) (rounds j) (trucksAt n openings rounds j) h) k (omega arith)
+    where
+      start : length (trucksAt n openings rounds 0) ≡ 32
+      start = length-start n openings rounds
+
+-- one round more of a run, as a record and as grades
+module _ (s : List ℕ) where
+  abbrev airs : ℕ → Air
+  airs k = airAt (trucksOf s) (openingsOf s) (roundAt s) k
+
+  pub after-one : (k : ℕ) → nextFleet (fleetAfter s k) (roundAt s k) ≡ fleetAfter s (k + 1)
+  unfolding nextFleet fleetAt
+  after-one k =
+      ap (λ (l : List Truck). record { n = trucksOf s; done = k + 1; trucks = l })
+      (ap (λ (j : ℕ). after (trucksOf s) (activeBit (roundAt s k)) j (roundAt s k) (trucksAt (trucksOf s) (openingsOf s) (roundAt s) k)) (add-one k)
+      ∙ sym (ap (trucksAt (trucksOf s) (openingsOf s) (roundAt s)) (add-one k) ∙ at-suc (trucksOf s) (openingsOf s) (roundAt s) k))
+
+  pub air-one : (k : ℕ) → airs (k + 1) ≡ airOf (trucksOf s) (activeBit (roundAt s k)) (k + 1) (roundAt s k) (trucksAt (trucksOf s) (openingsOf s) (roundAt s) k)
+  air-one k =
+      ap airs (add-one k) ∙ air-suc (trucksOf s) (openingsOf s) (roundAt s) k
+      ∙ ap (λ (j : ℕ). airOf (trucksOf s) (activeBit (roundAt s k)) j (roundAt s k) (trucksAt (trucksOf s) (openingsOf s) (roundAt s) k)) (sym (add-one k))
+
+  pub grades-one : (judging : Bool) (k : ℕ)
+      → gradesAfter s judging (k + 1) ≡ cond judging (carriedAll (gradesAfter s judging k) (verdictOf (airs (k + 1))) (k + 1)) (gradesAfter s judging k)
+  unfolding gradesAfter gradesOf carriedAll verdictOf
+  grades-one true k =
+      rw (add-one k, break-next complete airs k, break-next majorityComplete airs k, break-next zeroComplete airs k, break-next accurate airs k)
+  grades-one false k = refl
+
+-- ---- a run that has come to c
+module _ (s : List ℕ) (at : ℕ) (judging : Bool) (c : Course) (reached : Reached s at judging c) where
+  abbrev f : Fleet
+  f = c .roster .fleet
+
+  frame : GoodFrame s
+  frame = bytes-good s (reached .good) .frame
+
+  pub count-is : f .n ≡ trucksOf s
+  unfolding fleetAt
+  count-is = ap (λ (g : Fleet). g .n) (reached .fleet)
+
+  trucks-are : f .trucks ≡ trucksAt (trucksOf s) (openingsOf s) (roundAt s) (f .done)
+  unfolding fleetAt
+  trucks-are = ap (λ (g : Fleet). g .trucks) (reached .fleet)
+
+  pub few-trucks : f .n ≤ 32
+  few-trucks = rw count-is (frame .most)
+
+  module _ (less : f .done < roundsOf s) where
+    pub few-done : f .done < 400
+    few-done = omega (arith, frame .rounds)
+
+    pub place-low : at < 450000
+    place-low = rw (reached .place) (place-small s (f .done) (frame .most) few-done)
+
+    -- the roster is one that a round takes
+    pub ready : Ready (c .roster)
+    ready =
+        record {
+          most = few-trucks;
+          places = ap length trucks-are ∙ places (trucksOf s) (openingsOf s) (roundAt s) (frame .most) (f .done);
+          room = few-done;
+          small = λ j l.
+              let e = estimates-open (trucksOf s) (openingsOf s) (roundAt s) (frame .most) (f .done) j (omega (arith, count-is)) in
+              omega (arith, ap (λ (ts : List Truck). truck ts j .estimate) trucks-are, e .2, openings-read s .opening (e .0) (e .1));
+          kept = reached .kept;
+        }
+
+    abbrev w : List ℕ
+    w = roundAt s (f .done)
+
+    abbrev k : ℕ
+    k = f .done + 1
+
+    -- its next round on the radio
+    abbrev air : Air
+    air = airOf (f .n) (activeBit w) k w (f .trucks)
+
+    air-is : airs s k ≡ air
+    air-is = air-one s (f .done) ∙ ap₂ (λ (m : ℕ) (ts : List Truck). airOf m (activeBit w) k w ts) (sym count-is) (sym trucks-are)
+
+    next-is-after : nextFleet f w ≡ fleetAfter s k
+    next-is-after = ap (λ (g : Fleet). nextFleet g w) (reached .fleet) ∙ after-one s (f .done)
+
+    -- a word of it, as it was read
+    pub word-read : (i p : ℕ) → i < 3 + f .n → p ≡ at + i * f .n → rowAt (bitAt s) p (bitsRead (f .n)) ≡ getD w i 0
+    word-read i p l e =
+        ap (rowAt (bitAt s) p) (let z : min (f .n) 32 ≡ trucksOf s = omega (arith, few-trucks, count-is) in z)
+        ∙ word-here s (f .done) i p (omega (arith, count-is)) (e ∙ ap₂ (λ (x y : ℕ). x + i * y) (reached .place) count-is)
+
+    -- one round further
+    pub moved : (q : Roster) (grades : Grades) → q .fleet ≡ nextFleet f w → Kept q → grades ≡ cond judging (carriedAll (c .grades) (verdictOf air) k) (c .grades)
+        → Moved s at judging c (record { roster = q; grades = grades })
+    unfolding fleetAt
+    moved q grades e kept g =
+        let whole : q .fleet ≡ fleetAfter s k = e ∙ next-is-after in
+        let done : q .fleet .done ≡ k = ap (λ (h : Fleet). h .done) whole in
+        record {
+          one = done;
+          next = record {
+            good = reached .good;
+            fleet = whole ∙ ap (fleetAfter s) (sym done);
+            place = ap₂ (λ (x y : ℕ). x + (3 + y) * y) (reached .place) count-is ∙ place-next s (f .done) ∙ ap (placeOf s) (sym done);
+            kept = kept;
+            marks = g ∙ ap₂ (λ (h : Grades) (a : Air). cond judging (carriedAll h (verdictOf a) k) h) (reached .marks) (sym air-is)
+                ∙ sym (grades-one s judging (f .done)) ∙ ap (gradesAfter s judging) (sym done);
+          };
+        }
+
+    -- those that run after the stops
+    abbrev gone-on : ℕ → ℕ
+    gone-on stop = bitXor (c .roster .running) (bitAnd (c .roster .running) stop)
+
+    -- a round that was read as far as it matters: sent holds those that send if they run
+    module _ (sent stop active mark : ℕ) (rows : List ℕ) where
+      module _ (es : stop ≡ getD w 0 0) (em : mark ≡ getD w 2 0) (ea : odd k ≡ true → active ≡ getD w 1 0)
+          (er : RowsRead s (at + 3 * f .n) (f .n) (cond (eqb (bitAnd (gone-on stop) sent) 0) 0 (gone-on stop)) rows) (sends : Members (bitAnd (gone-on stop) sent) (f .n) (air .sends)) where
+        running-here : Members (gone-on stop) (f .n) (air .running)
+        running-here =
+            subst (λ (x : ℕ). Members (bitXor (c .roster .running) (bitAnd (c .roster .running) x)) (f .n) (air .running)) (sym es)
+            (going-is (f .n) k w (f .trucks) (c .roster .running) (reached .kept .running))
+
+        row-here : (i : ℕ) → i < f .n → air .running i ≡ true → (j : ℕ) → j < f .n → air .sends j ≡ true → getD rows i 0 ≡ getD w (3 + i) 0
+        row-here i l r j lj sj =
+            er i l (heard (eqb (bitAnd (gone-on stop) sent) 0) refl)
+            ∙ ap (rowAt (bitAt s) (at + 3 * f .n + i * f .n)) (let z : f .n ≡ min (f .n) 32 = omega (arith, few-trucks) in z)
+            ∙ word-read (3 + i) (at + 3 * f .n + i * f .n) (omega arith) (omega (arith, add-mul 3 i (f .n)))
+          where
+            heard : (b : Bool) → eqb (bitAnd (gone-on stop) sent) 0 ≡ b → bit (cond b 0 (gone-on stop)) i ≡ true
+            heard true e =
+                absurd (false≢true (sym (ap (λ (x : ℕ). bit x j) (eqb-true (bitAnd (gone-on stop) sent) 0 e) ∙ bit-zero j) ∙ sends .each j lj ∙ sj))
+            heard false e = running-here .each i l ∙ r
+
+        as-read : Same (f .n) k (f .trucks) (roundOf stop active mark rows) w
+        as-read =
+            record {
+              stop = es;
+              active = ea;
+              mark = em;
+              rows = λ i l r j lj sj. ap (λ (x : ℕ). bit x j) (row-of stop active mark rows i ∙ row-here i l r j lj sj);
+            }
+
+        described : Described air (gone-on stop) (bitAnd (gone-on stop) sent) mark rows
+        unfolding airOf
+        described =
+            record {
+              running = running-here;
+              sends = sends;
+              marked = λ i l r. ap (λ (x : ℕ). bit x i) (sym em);
+              lost = λ i l r j lj sj. ap (λ (x : ℕ). bit x j) (sym (row-here i l r j lj sj));
+            }
+
+        pub round-done : (q : Roster) (grades : Grades) → Played (c .roster) stop active mark rows q
+            → ((a : Air) → Described a (gone-on stop) (bitAnd (gone-on stop) sent) mark rows → grades ≡ cond judging (carriedAll (c .grades) (verdictOf a) k) (c .grades))
+            → Moved s at judging c (record { roster = q; grades = grades })
+        round-done q grades p g = moved q grades (p .fleet ∙ same-next f (roundOf stop active mark rows) w as-read) (p .kept) (g air described)
+
+    -- the rows that are asked for are rows of trucks below n
+    pub listeners-below : (stop sent among : ℕ) → among ≡ cond (eqb (bitAnd (gone-on stop) sent) 0) 0 (gone-on stop) → among < 2 ^ f .n
+    listeners-below stop sent among e = rw e (go (eqb (bitAnd (gone-on stop) sent) 0))
+      where
+        go : (b : Bool) → cond b 0 (gone-on stop) < 2 ^ f .n
+        go true = pow-pos (f .n)
+        go false = members-without (reached .kept .running) stop .below
+
+    module _ (stop mark : ℕ) (rows : List ℕ) (among : ℕ) (q : Roster) (grades : Grades)
+        (rs : stop ≡ rowAt (bitAt s) at (bitsRead (f .n))) (rm : mark ≡ rowAt (bitAt s) (at + 2 * f .n) (bitsRead (f .n)))
+        (rr : RowsRead s (at + 3 * f .n) (f .n) among rows) where
+      es : stop ≡ getD w 0 0
+      es = rs ∙ word-read 0 at (omega arith) (omega arith)
+
+      em : mark ≡ getD w 2 0
+      em = rm ∙ word-read 2 (at + 2 * f .n) (omega arith) refl
+
+      pub proposal-done : odd k ≡ true → (active : ℕ) → active ≡ rowAt (bitAt s) (at + f .n) (bitsRead (f .n))
+          → among ≡ cond (eqb (bitAnd (gone-on stop) active) 0) 0 (gone-on stop) → Played (c .roster) stop active mark rows q
+          → ((a : Air) → Described a (gone-on stop) (bitAnd (gone-on stop) active) mark rows
+          → grades ≡ cond judging (carriedAll (c .grades) (verdictOf a) k) (c .grades))
+          → Moved s at judging c (record { roster = q; grades = grades })
+      proposal-done o active ra e p g =
+          let ea : active ≡ getD w 1 0 = ra ∙ word-read 1 (at + f .n) (omega arith) (omega arith) in
+          round-done active stop active mark rows es em (λ z. ea) (rw e at rr)
+          (subst₂ (λ (x y : ℕ). Members (bitAnd (bitXor (c .roster .running) (bitAnd (c .roster .running) x)) y) (f .n) (air .sends)) (sym es) (sym ea)
+          (proposers (f .n) k w (f .trucks) (c .roster .running) (reached .kept .running) o)) q grades p g
+
+      pub veto-done : odd k ≡ false
+          → among ≡ cond (eqb (bitAnd (gone-on stop) (c .roster .vetoing)) 0) 0 (gone-on stop) → Played (c .roster) stop 0 mark rows q
+          → ((a : Air) → Described a (gone-on stop) (bitAnd (gone-on stop) (c .roster .vetoing)) mark rows
+          → grades ≡ cond judging (carriedAll (c .grades) (verdictOf a) k) (c .grades))
+          → Moved s at judging c (record { roster = q; grades = grades })
+      veto-done o e p g =
+          round-done (c .roster .vetoing) stop 0 mark rows es em (λ z. absurd (true≢false (sym z ∙ o))) (rw e at rr)
+          (subst (λ (x : ℕ). Members (bitAnd (bitXor (c .roster .running) (bitAnd (c .roster .running) x)) (c .roster .vetoing)) (f .n) (air .sends)) (sym es)
+          (vetoers (f .n) k w (f .trucks) (c .roster .running) (reached .kept .running) (c .roster .vetoing) o (reached .kept .vetoing))) q grades p g
+
+    -- a round in which nobody runs
+    module _ (none : c .roster .running ≡ 0) where
+      nobody : (j : ℕ) → j < f .n → runs (truck (f .trucks) j) ≡ false
+      nobody j l = sym (reached .kept .running .each j l) ∙ ap (λ (x : ℕ). bit x j) none ∙ bit-zero j
+
+      silent : Described air 0 0 0 []
+      unfolding airOf
+      silent =
+          record {
+            running = members-none (f .n) (air .running) (λ j l. rw (nobody j l));
+            sends = members-none (f .n) (air .sends) (λ j l. rw (nobody j l));
+            marked = λ i l r. absurd (false≢true (sym (rw (nobody i l)) ∙ r));
+            lost = λ i l r. absurd (false≢true (sym (rw (nobody i l)) ∙ r));
+          }
+
+      pub idle-done : Moved s at judging c (counted c)
+      idle-done =
+          moved (counted c .roster) (c .grades) (sym (idle-next f w (omega (arith, ready .places, few-trucks)) nobody)) (record { running = reached .kept .running; vetoing = reached .kept .vetoing })
+          (sym (same judging (ap (λ (v : Verdict). carriedAll (c .grades) v k) (sym (verdict-starts air 0 0 0 [] silent ∙ verdict-done air 0 0 0 [] silent 0 refl)) ∙ carried-all (c .grades) k)))
+        where
+          same : (b : Bool) {x y : Grades} → x ≡ y → cond b x y ≡ y
+          same true e = e
+          same false e = refl
+
+-- no round is left
+pub finished : (s : List ℕ) (at left : ℕ) (judging : Bool) (c : Course) → Reached s at judging c → c .roster .fleet .done + left ≡ roundsOf s → left ≡ 0 → Finished s judging c
+finished s at left judging c reached rest none =
+    let e : c .roster .fleet .done ≡ roundsOf s = omega arith in
+    record { fleet = reached .fleet ∙ ap (fleetAfter s) e; marks = reached .marks ∙ ap (gradesAfter s judging) e }
+
+-- the size of a round
+pub round-size : (n : ℕ) → n ≤ 32 → (3 + n) * n ≤ 35 * 32
+round-size n m = mul-le-mul (let z : 3 + n ≤ 35 = omega arith in z) m
+
+-- ---- before round 1
+first-openings : (s : List ℕ) → take (trucksOf s) (filled (openingAt s) (trucksOf s) (replicate 32 0)) ≡ openingsOf s
+unfolding filled openingsOf
+first-openings s = take-at (tab (openingAt s) (trucksOf s)) (drop (trucksOf s) (replicate 32 0)) (trucksOf s) (length-tab (openingAt s) (trucksOf s))
+
+first-fleet : (s : List ℕ) → openFleet (trucksOf s) (openingsOf s) ≡ fleetAfter s 0
+unfolding fleetAt trucksAt stateAt
+first-fleet s = refl
+
+first-grades : (s : List ℕ) (judging : Bool) → noGrades ≡ gradesAfter s judging 0
+unfolding gradesAfter gradesOf
+first-grades s true = rw (break-none complete (airs s), break-none majorityComplete (airs s), break-none zeroComplete (airs s), break-none accurate (airs s))
+first-grades s false = refl
+
+module _ (s : List ℕ) (n : ℕ) (openings : List ℕ) (good : checkOf s ≡ Accepted) (count : n ≡ trucksOf s) (os : openings ≡ filled (openingAt s) n (replicate 32 0)) where
+  pub start-few : n ≤ 32
+  start-few = rw count (bytes-good s good .frame .most)
+
+  are-openings : take n openings ≡ openingsOf s
+  are-openings = ap (take n) os ∙ ap (λ (m : ℕ). take m (filled (openingAt s) m (replicate 32 0))) count ∙ first-openings s
+
+  pub start-count : length (take n openings) ≡ n
+  unfolding openingsOf
+  start-count = ap length are-openings ∙ length-tab (openingAt s) (trucksOf s) ∙ sym count
+
+  pub start-long : length openings ≡ 32
+  start-long = ap length os ∙ length-filled (openingAt s) n (replicate 32 0) start-few
+
+  pub start-reached : (judging : Bool) (r : Roster) → r .fleet ≡ openFleet n (take n openings) → Kept r → Reached s (16 + 4 * n) judging (record { roster = r; grades = noGrades })
+  start-reached judging r e kept =
+      let whole : r .fleet ≡ fleetAfter s 0 = e ∙ ap₂ openFleet count are-openings ∙ first-fleet s in
+      let done : r .fleet .done ≡ 0 = ap (λ (f : Fleet). f .done) e in
+      record {
+        good = good;
+        fleet = whole ∙ ap (fleetAfter s) (sym done);
+        place = rw (done, count) (omega arith);
+        kept = kept;
+        marks = first-grades s judging ∙ ap (gradesAfter s judging) (sym done);
+      }

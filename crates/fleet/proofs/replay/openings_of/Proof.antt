@@ -1,0 +1,63 @@
+-- `openings_of` meets its contract.
+use mathlib.Core.Path.{_≡_, ap, sym, _∙_}
+use mathlib.Core.List.{List}
+use Prim.Native.Nat.{ℕ, _≤_, _-_}
+use native.Mathlib.Omega.{arith}
+use native.Mathlib.Numerals.{add-one}
+use lib.ListN.{set, replicate}
+use Rattle.basics.specs.Lists.{filled}
+use Rattle.basics.proofs.Laws.{filled-none, filled-more}
+use Rattle.recording.specs.Packed.{openingAt}
+use borrow.Author.Needs.{needs}
+use Rattle.fleet.proofs.replay.openings_of.Statement.{statement}
+use Rattle.fleet.proofs.replay.openings_of.Tie as tie
+
+abbrev Inv-loop : tie.InvT-loop
+Inv-loop s n openings₀ i₀ openings i = (i ≤ n) × (openings ≡ filled (openingAt s) i (replicate 32 0))
+
+abbrev μ-loop : tie.MeasureT-loop
+μ-loop s n openings₀ i₀ openings i = n - i
+
+loop-holds : tie.Need-loop-holds Inv-loop μ-loop
+loop-holds c = (search needs, sym (filled-none (openingAt (c .before .args .s .now)) (replicate 32 0)))
+
+cast-k : tie.Need-cast-k Inv-loop μ-loop
+cast-k c = search needs
+
+opening-requires : tie.Need-opening-requires Inv-loop μ-loop
+opening-requires c κs = search needs
+
+array-write-openings : tie.Need-array-write-openings Inv-loop μ-loop
+array-write-openings c = search needs
+
+add-i : tie.Need-add-i Inv-loop μ-loop
+add-i c = search needs
+
+loop-less : tie.Need-loop-less Inv-loop μ-loop
+loop-less c = search needs
+
+loop-again : tie.Need-loop-again Inv-loop μ-loop
+loop-again c =
+    let s = c .before .before .before .before .args .s .now in
+    let i = c .before .before .loop in
+    (search needs, ap (λ (l : List ℕ). set l (i .i) (c .opening .result)) (i .inv .1) ∙ rw (add-one (i .i)) (filled-more (openingAt s) (i .i) (replicate 32 0) (c .opening .result) (omega (arith, c .before .loop-test .taken, c .before .before .before .before .pre)) (c .opening .ensures)))
+
+returns : tie.Need-returns Inv-loop μ-loop
+returns c =
+    let i = c .before .loop in
+    i .inv .1 ∙ ap (λ (k : ℕ). filled (openingAt (c .before .before .before .args .s .now)) k (replicate 32 0)) (let e : i .i ≡ c .before .before .before .args .n = omega (arith, i .inv .0, c .loop-test .left) in e)
+
+pub openings-of-spec : {M : Type 1} → statement M
+openings-of-spec =
+    tie.close
+    (tie.spec
+    Inv-loop
+    μ-loop
+    loop-holds
+    cast-k
+    opening-requires
+    array-write-openings
+    add-i
+    loop-less
+    loop-again
+    returns)

@@ -1,0 +1,72 @@
+-- `rows_at` meets its contract.
+use native.Mathlib.Omega.{arith}
+use Rattle.words.proofs.Words.{removed-lt}
+use Rattle.fleet.proofs.Reading.{product, Rows, rows-start, rows-below, rows-more, rows-done}
+use borrow.Author.Needs.{needs}
+use Rattle.fleet.proofs.replay.rows_at.Statement.{statement}
+use Rattle.fleet.proofs.replay.rows_at.Tie as tie
+
+abbrev Inv-loop : tie.InvT-loop
+Inv-loop s at n among rows₀ left₀ rows left = Rows s at n among rows left
+
+abbrev μ-loop : tie.MeasureT-loop
+μ-loop s at n among rows₀ left₀ rows left = left
+
+loop-holds : tie.Need-loop-holds Inv-loop μ-loop
+loop-holds c = rows-start (c .before .args .s .now) (c .before .args .at) (c .before .args .n) (c .before .args .among)
+
+lowest-requires : tie.Need-lowest-requires Inv-loop μ-loop
+lowest-requires c κs = search needs
+
+mul-row-at : tie.Need-mul-row-at Inv-loop μ-loop
+mul-row-at c = omega (arith, product (c .lowest .result) (c .before .before .before .before .args .n) (c .lowest .ensures .0) (c .before .before .before .before .pre .0))
+
+add-row-at : tie.Need-add-row-at Inv-loop μ-loop
+add-row-at c = omega (arith, product (c .lowest .result) (c .before .before .before .before .args .n) (c .lowest .ensures .0) (c .before .before .before .before .pre .0), c .before .before .before .before .pre .1)
+
+row-at-requires : tie.Need-row-at-requires Inv-loop μ-loop
+row-at-requires c κs = search needs
+
+mul-rows : tie.Need-mul-rows Inv-loop μ-loop
+mul-rows c = search needs
+
+array-write-rows : tie.Need-array-write-rows Inv-loop μ-loop
+array-write-rows c = search needs
+
+without-requires : tie.Need-without-requires Inv-loop μ-loop
+without-requires c κs = search needs
+
+loop-less : tie.Need-loop-less Inv-loop μ-loop
+loop-less c = rw (c .without .ensures) (removed-lt _ _ (c .before .before .lowest .ensures .1))
+
+loop-again : tie.Need-loop-again Inv-loop μ-loop
+loop-again c =
+    let s = c .before .before .before .before .before .before in
+    let a = s .args in
+    let i = c .before .before .lowest in
+    let inv = c .before .before .before .before .loop .inv in
+    rows-more (a .s .now) (a .at) (a .n) (a .among) inv (s .pre .0) (i .result) (c .before .row-at .result)
+    (rows-below (a .s .now) (a .at) (a .n) (a .among) inv (s .pre .2) (i .result) (i .ensures .1)) (i .ensures .1) (c .before .row-at .ensures) (c .without .result) (c .without .ensures)
+
+returns : tie.Need-returns Inv-loop μ-loop
+returns c =
+    let a = c .before .before .before .args in
+    rows-done (a .s .now) (a .at) (a .n) (a .among) (c .before .loop .inv) (c .loop-test .left)
+
+pub rows-at-spec : {M : Type 1} → statement M
+rows-at-spec =
+    tie.close
+    (tie.spec
+    Inv-loop
+    μ-loop
+    loop-holds
+    lowest-requires
+    mul-row-at
+    add-row-at
+    row-at-requires
+    mul-rows
+    array-write-rows
+    without-requires
+    loop-less
+    loop-again
+    returns)

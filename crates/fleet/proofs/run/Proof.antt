@@ -1,0 +1,41 @@
+-- `run` meets its contract.
+use mathlib.Core.Path.{sym, _∙_}
+use Rattle.protocol.specs.Fleets.{ran}
+use borrow.Author.Needs.{needs}
+use Rattle.fleet.proofs.run.Statement.{statement}
+use Rattle.fleet.proofs.run.Tie as tie
+
+check-requires : tie.Need-check-requires
+check-requires c κs = search needs
+
+enum-told : tie.Need-enum-told
+enum-told c = search needs
+
+replay-requires : tie.Need-replay-requires
+replay-requires c κs = sym (c .before .before .check .ensures) ∙ c .enum-told .given .1
+
+enum-known-outcome : tie.Need-enum-known-outcome
+enum-known-outcome c = search needs
+
+refused-requires : tie.Need-refused-requires
+refused-requires c κs = search needs
+
+returns : tie.Need-returns
+unfolding ran
+returns c = rw (sym (c .before .before .before .before .check .ensures) ∙ c .before .before .enum-told .given .1, c .before .replay .ensures .fleet)
+
+returns-2 : tie.Need-returns-2
+unfolding ran
+returns-2 c = c .refused .ensures ∙ rw (sym (c .before .before .before .before .check .ensures) ∙ c .before .before .outcome .given .1)
+
+pub run-spec : {M : Type 1} → statement M
+run-spec =
+    tie.close
+    (tie.spec
+    check-requires
+    enum-told
+    replay-requires
+    enum-known-outcome
+    refused-requires
+    returns
+    returns-2)

@@ -6,16 +6,26 @@ use Prim.Native.Nat.{ℕ, zero, suc, _+_, _/_, _%_, _^_, _≤_, _<_}
 use native.Mathlib.Numerals.{add-one}
 use native.Mathlib.Nat.{pow-suc, div-lt-iff-lt-mul}
 use native.Mathlib.Omega.{arith}
-use borrow.Author.Tests.{lt-ltb, le-ltb, ltb-true, ltb-false, le-leb, lt-leb}
-use lib.Dec.{ltb}
+use borrow.Author.Tests.{lt-ltb, le-ltb, ltb-true, ltb-false, le-leb, lt-leb, leb-true}
+use lib.Dec.{ltb, leb}
 use lib.ListN.{length, getD, take, drop, set, length-append, take-append-drop}
 use lib.Seq.{take-suc, take-suc-set, take-all, drop-set-lt, drop-drop}
 use Rattle.protocol.specs.declared.Truck.{Truck}
 use Rattle.protocol.specs.Rules.{truck}
-use Rattle.listing.specs.Text.{text, decimalIn, decimal, stateText, truckLine, truckLines}
+use Rattle.listing.specs.Text.{text, decimalIn, decimal, stateText, truckLine, truckLines, listingOf, refusalText}
 use Rattle.refusals.specs.declared.Refusal.the-variants.{ShortBuffer}
+use Rattle.listing.specs.declared.Listed.{Listed}
 use Rattle.listing.specs.declared.Listed.the-variants.{Text, Refused}
-use Rattle.listing.specs.Listed.{left, textIn}
+use Rattle.listing.specs.Listed.{Left, left, textIn, listedFor, listed, refusalListed}
+use Rattle.refusals.specs.declared.Refusal.{Refusal}
+use Rattle.refusals.specs.declared.Outcome.{Outcome}
+use Rattle.refusals.specs.declared.Outcome.the-variants as outcome
+use Rattle.recording.specs.Packed.{trucksOf, roundsOf, openingsOf, roundAt}
+use Rattle.recording.specs.Checks.{checkOf}
+use Rattle.recording.proofs.Accepted.{bytes-good}
+use Rattle.protocol.specs.declared.Fleet.{Fleet}
+use Rattle.protocol.specs.declared.Answer.{Answer}
+use Rattle.protocol.specs.Fleets.{answer, blank, fleetAt, ran}
 use Rattle.listing.specs.Writing.{Put, openingText, spaced}
 
 -- one byte more of a text
@@ -161,3 +171,53 @@ not-lent d t h = rw (lt-leb (length t) (length d) h)
 
 pub put-count : {d t d′ : List ℕ} {r : ℕ} → Put d 0 t d′ r → r ≡ length (take r d′)
 put-count {t = t} p = (let e : _ ≡ length t = omega (arith, p .next) in e) ∙ ap length (sym (p .front))
+
+-- no run has more than 32 trucks
+pub run-small : (s : List ℕ) (a : Answer) → a ≡ ran s → a .fleet .n ≤ 32
+unfolding ran fleetAt blank
+run-small s a e = rw e (go (checkOf s) refl)
+  where
+    f : Fleet
+    f = fleetAt (trucksOf s) (openingsOf s) (roundAt s) (roundsOf s)
+
+    go : (o : Outcome) → checkOf s ≡ o → answer o f blank .fleet .n ≤ 32
+    go outcome.Accepted h = bytes-good s h .frame .most
+    go (outcome.Refused r) h = omega arith
+
+-- the two answers of a listing
+pub listed-refused : (s d : List ℕ) (a : Answer) (r : Refusal) → a ≡ ran s → a .outcome ≡ outcome.Refused r → left (Refused r) d ≡ listed s d
+unfolding listed
+listed-refused s d a r e h =
+    sym (ap (λ (b : Answer). listedFor (b .outcome) (b .fleet) d) (sym e) ∙ ap (λ (o : Outcome). listedFor o (a .fleet) d) h)
+
+pub listed-accepted : (s d : List ℕ) (a : Answer) → a ≡ ran s → a .outcome ≡ outcome.Accepted → textIn (listingOf (a .fleet)) d ≡ listed s d
+unfolding listed
+listed-accepted s d a e h =
+    sym (ap (λ (b : Answer). listedFor (b .outcome) (b .fleet) d) (sym e) ∙ ap (λ (o : Outcome). listedFor o (a .fleet) d) h)
+
+-- an answer's text lies within the buffer
+abbrev sizeOf : Listed → ℕ
+sizeOf (Text k) = k
+sizeOf (Refused r) = 0
+
+text-fits : (t d : List ℕ) → sizeOf (textIn t d .answer) ≤ length d
+unfolding textIn
+text-fits t d = go (leb (length t) (length d)) refl
+  where
+    go : (b : Bool) → leb (length t) (length d) ≡ b
+        → sizeOf (cond b (left (Text (length t)) (t ++ drop (length t) d)) (left (Refused ShortBuffer) d) .answer) ≤ length d
+    go true e = leb-true (length t) (length d) e
+    go false e = omega arith
+
+pub listed-fits : (s d d′ : List ℕ) (k : ℕ) → left (Text k) d′ ≡ listed s d → k ≤ length d
+unfolding listed
+listed-fits s d d′ k e =
+    rw (ap (λ (l : Left). sizeOf (l .answer)) e) (go (ran s .outcome))
+  where
+    go : (o : Outcome) → sizeOf (listedFor o (ran s .fleet) d .answer) ≤ length d
+    go outcome.Accepted = text-fits (listingOf (ran s .fleet)) d
+    go (outcome.Refused r) = omega arith
+
+pub refusal-fits : (r : Refusal) (d d′ : List ℕ) (k : ℕ) → left (Text k) d′ ≡ refusalListed r d → k ≤ length d
+unfolding refusalListed
+refusal-fits r d d′ k e = rw (ap (λ (l : Left). sizeOf (l .answer)) e) (text-fits (refusalText r) d)

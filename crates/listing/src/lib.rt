@@ -4,11 +4,12 @@ ghost use mathlib.Core.List.{_∷_, []};
 ghost use Prim.Native.Nat.{_+_, _*_, _<_, _≤_};
 ghost use lib.ListN.{length, take};
 ghost use Rattle.listing.specs.Text.{decimal, stateText, truckLine, truckLines, listingOf, refusalText};
-ghost use Rattle.listing.specs.Listed.{left, textIn, refusalListed};
+ghost use Rattle.listing.specs.Listed.{left, textIn, listed, refusalListed};
 ghost use Rattle.listing.specs.Writing.{Put, openingText, endedText, headerText, spaced};
 use protocol::Fleet;
 use protocol::State;
 use protocol::Truck;
+use refusals::Outcome;
 use refusals::Refusal;
 
 // A text of so many bytes in the lent buffer, or why there is none.
@@ -177,4 +178,21 @@ pub fn refusal_line(r: Refusal, buf: &mut [u8]) -> Listed
     let mut work = [0u8; 16];
     let k = put_refusal(&mut work, r);
     lend_text(&work[..k], buf)
+}
+
+// The listing of a recording's run.
+pub fn list(s: &[u8], buf: &mut [u8]) -> Listed
+    ensures { λ r. ⌜ left r (now (buf .exit)) ≡ listed (now (s .entry)) (now (buf .entry)) ⌝ }
+{
+    let a = fleet::run(s);
+    let outcome = a.outcome;
+    match outcome {
+        Outcome::Refused(r) => Listed::Refused(r),
+        Outcome::Accepted => {
+            let f = a.fleet;
+            let mut work = [0u8; 1466];
+            let k = put_listing(&mut work, f);
+            lend_text(&work[..k], buf)
+        }
+    }
 }

@@ -1,0 +1,16 @@
+# The program on recordings whose output document 01 settles: tests/cases/NAME.hex and NAME.out.
+bytes_of() { printf "$(tr -d ' \n' < "$1" | sed 's/../\\x&/g')"; }
+prints() { # EXPECTED FILE: the program's output on standard input
+    cmp -s "$1" <(target/bin/replay)
+}
+for case in tests/cases/*.hex; do
+    expect "case $case" prints "${case%.hex}.out" < <(bytes_of "$case")
+done
+# recordings longer than any valid one: the program stops reading at 56,019 bytes, and the header decides
+long() { { printf "$1"; head -c "$2" /dev/zero; } | target/bin/replay; }
+expect "56,019 bytes" test "$(long '\x81\x90' 56017)" = "refused 4"
+expect "60,000 bytes" test "$(long '\x81\x90' 59998)" = "refused 4"
+expect "60,000 bytes of 33 trucks" test "$(long '\x85\x90' 59998)" = "refused 2"
+expect "60,000 bytes of 401 rounds" test "$(long '\x81\x91' 59998)" = "refused 3"
+expect "the largest recording" test "$(long '\x81\x90' 56016 | head -n 1)" = "trucks 32 rounds 400"
+expect "closed input" test "$(target/bin/replay <&-)" = "refused 1"

@@ -27,11 +27,11 @@ use Rattle.record.specs.Layout.{sizeFor, packCheck, packFor, packedRecord, pack
 use Rattle.ffi.specs.Calls.{RecordLeft, recordLeft, recordAs, storeCall, startCall, stepCall}
 use Rattle.ffi.proofs.Narrow.{many-trucks, narrowed}
 
-refused-not : {A : Type 0} (r : Refusal) → Refused r ≡ Accepted → A
+pub refused-not : {A : Type 0} (r : Refusal) → Refused r ≡ Accepted → A
 refused-not r h = let z : _≡_ {A = ℕ} 0 1 = cc in absurd (omega arith)
 
 -- a record that refusal 7 lets pass has an n in range
-good-range : (f : Fleet) → not (goodFleet f) ≡ false → badTrucks (f .n) ≡ false
+pub good-range : (f : Fleet) → not (goodFleet f) ≡ false → badTrucks (f .n) ≡ false
 unfolding goodFleet
 good-range f h =
     let range = not (badTrucks (f .n)) in
@@ -87,7 +87,7 @@ start-stored n m openings d a x e h s = s ∙ ap (λ (a : Answer). storeCall a d
 
 -- ---- a step
 
-step-range : (f : Fleet) (w : List ℕ) → stepped f w .outcome ≡ Accepted → badTrucks (stepped f w .fleet .n) ≡ false
+pub step-range : (f : Fleet) (w : List ℕ) → stepped f w .outcome ≡ Accepted → badTrucks (stepped f w .fleet .n) ≡ false
 unfolding stepped stepCheck goodFleet nextFleet
 step-range f w h = go (stepCheck f w) refl h
   where

@@ -16,7 +16,7 @@ use Rattle.refusals.specs.declared.Outcome.{Outcome}
 use Rattle.refusals.specs.declared.Outcome.the-variants.{Accepted, Refused}
 use Rattle.recording.specs.Packed.{trucksOf, roundsOf, openingAt, openingsOf, roundAt}
 use Rattle.recording.specs.Checks.{refuse, badTrucks, checkOf, roundCheck}
-use Rattle.recording.proofs.Accepted.{trucks-in, in-trucks, refuse-false, openings-in, bytes-good}
+use Rattle.recording.proofs.Accepted.{trucks-in, refuse-false, openings-in, bytes-good}
 use Rattle.air.specs.Round.{activeBit}
 use Rattle.air.specs.Runs.{stateAt}
 use Rattle.protocol.specs.declared.Truck.{Truck}
@@ -31,7 +31,7 @@ use Rattle.protocol.proofs.Steps.{start-by}
 use Rattle.record.specs.Layout.{sizeFor, recordByte, packCheck, packedRecord, packedWhole, unpacked}
 use Rattle.record.proofs.RoundTrip.{Tidy, past-openings, places-opened, record-tidy, whole-tidy, undamaged, taken-whole}
 use Rattle.ffi.specs.Calls.{recordAs, storeCall, startCall, stepCall, runCall, bytesAfter}
-use Rattle.ffi.proofs.Records.{refused-not, good-range, start-range, step-range}
+use Rattle.ffi.proofs.Records.{refused-not, good-range, start-range, step-range, run-range}
 
 -- a round keeps the places n and above
 tidy-after : (n : ℕ) (active : ℕ → Bool) (k : ℕ) (w : List ℕ) (ts : List Truck) → n ≤ 32 → Tidy n ts → Tidy n (after n active k w ts)
@@ -157,21 +157,18 @@ run-tidy s most =
     (λ k l b. tidy-after (trucksOf s) (activeBit (roundAt s k)) (suc k) (roundAt s k) (trucksAt (trucksOf s) (openingsOf s) (roundAt s) k) most b)
     (roundsOf s) (omega arith)
 
--- what an accepted run says of its record
-run-is : (s : List ℕ) → ran s .outcome ≡ Accepted → (badTrucks (ran s .fleet .n) ≡ false) × Tidy (ran s .fleet .n) (ran s .fleet .trucks)
+run-clean : (s : List ℕ) → ran s .outcome ≡ Accepted → Tidy (ran s .fleet .n) (ran s .fleet .trucks)
 unfolding ran fleetAt
-run-is s h = go (checkOf s) refl h
+run-clean s h = go (checkOf s) refl h
   where
     f : Fleet
     f = fleetAt (trucksOf s) (openingsOf s) (roundAt s) (roundsOf s)
 
-    go : (o : Outcome) → checkOf s ≡ o → answer o f blankFleet .outcome ≡ Accepted → (badTrucks (answer o f blankFleet .fleet .n) ≡ false) × Tidy (answer o f blankFleet .fleet .n) (answer o f blankFleet .fleet .trucks)
-    go Accepted e h =
-        let g = bytes-good s e .frame in
-        (in-trucks (trucksOf s) (g .some) (g .most), run-tidy s (g .most))
+    go : (o : Outcome) → checkOf s ≡ o → answer o f blankFleet .outcome ≡ Accepted → Tidy (answer o f blankFleet .fleet .n) (answer o f blankFleet .fleet .trucks)
+    go Accepted e h = run-tidy s (bytes-good s e .frame .most)
     go (Refused r) e h = refused-not r h
 
 -- the bytes that an accepted run leaves are the record that it returns
 pub run-holds : (s d : List ℕ) → ran s .outcome ≡ Accepted → sizeFor 32 ≤ length d → unpacked (runCall s d .bytes) ≡ record { outcome = Accepted; fleet = ran s .fleet }
 unfolding runCall
-run-holds s d h room = stored (ran s) d h (run-is s h .0) room (run-is s h .1) .read
+run-holds s d h room = stored (ran s) d h (run-range s (ran s) refl h) room (run-clean s h) .read

@@ -1,9 +1,17 @@
 -- What an exported function leaves, one law for each return of the code.
-use mathlib.Core.Path.{_≡_, ap, sym, _∙_}
-use mathlib.Core.List.{List}
-use Prim.Native.Nat.{ℕ, min}
+use mathlib.Core.Path.{_≡_, refl, ap, sym, _∙_}
+use mathlib.Core.List.{List, [], _∷_}
+use Prim.Native.Nat.{ℕ, min, _≤_, _<_}
+use native.Mathlib.Omega.{arith}
+use lib.ListN.{length, drop, set}
+use borrow.Author.Tests.{lt-ltb, le-ltb}
 use Rattle.refusals.specs.Numbers.{numberOf}
 use Rattle.refusals.specs.declared.Refusal.{Refusal}
+use Rattle.refusals.specs.declared.Refusal.the-variants.{ShortBuffer}
+use Rattle.protocol.specs.declared.Grades.{Grades}
+use Rattle.protocol.specs.declared.Grading.{Grading}
+use Rattle.protocol.specs.declared.Grading.the-variants as grading
+use Rattle.protocol.specs.Fleets.{graded}
 use Rattle.roads.specs.declared.Opening.{Opening}
 use Rattle.roads.specs.declared.Opening.the-variants as opening
 use Rattle.roads.specs.Opening.{openingOf}
@@ -12,7 +20,10 @@ use Rattle.plain.specs.declared.ReadOutcome.the-variants as read
 use Rattle.plain.specs.declared.WriteOutcome.{WriteOutcome}
 use Rattle.plain.specs.declared.WriteOutcome.the-variants as write
 use Rattle.plain.specs.Forms.{AfterRead, afterRead, readPlain, AfterWrite, afterWrite, writePlain}
-use Rattle.ffi.specs.Calls.{openingLeft, openingAs, openingCall, readLeft, readAs, readCall, writeLeft, writeAs, writeCall}
+use Rattle.listing.specs.declared.Listed.{Listed}
+use Rattle.listing.specs.declared.Listed.the-variants as listing
+use Rattle.listing.specs.Listed.{Left, left, listed}
+use Rattle.ffi.specs.Calls.{listLeft, listAs, listCall, gradeLeft, gradeAs, gradeCall, openingLeft, openingAs, openingCall, readLeft, readAs, readCall, writeLeft, writeAs, writeCall}
 use Rattle.ffi.proofs.Narrow.{narrow-write}
 
 -- ---- the opening crusher
@@ -54,3 +65,48 @@ module _ (n R m S : ℕ) (openings words bytes : List ℕ) (written : ℕ) (few 
   pub write-refused : (r : Refusal) (k : ℕ) → o ≡ write.Refused r → k ≡ numberOf r → writeLeft k left₁ written ≡ writeCall n R openings words bytes written
   write-refused r k h e =
       ap (λ (x : ℕ). writeLeft x left₁ written) e ∙ ap (λ (x : WriteOutcome). writeAs x left₁ written) (sym h) ∙ write-as
+
+-- ---- a recording's listing
+
+module _ (bytes text : List ℕ) (written : ℕ) (o : Listed) (left₁ : List ℕ) (done : left o left₁ ≡ listed bytes text) where
+  list-as : listAs o left₁ written ≡ listCall bytes text written
+  unfolding listCall
+  list-as = ap (λ (a : Left). listAs (a .answer) (a .buffer) written) done
+
+  pub list-0 : (k : ℕ) → o ≡ listing.Text k → listLeft 0 left₁ k ≡ listCall bytes text written
+  list-0 k h = ap (λ (x : Listed). listAs x left₁ written) (sym h) ∙ list-as
+
+  pub list-refused : (r : Refusal) (k : ℕ) → o ≡ listing.Refused r → k ≡ numberOf r → listLeft k left₁ written ≡ listCall bytes text written
+  list-refused r k h e = ap (λ (x : ℕ). listLeft x left₁ written) e ∙ ap (λ (x : Listed). listAs x left₁ written) (sym h) ∙ list-as
+
+-- ---- a recording's grading
+
+four-put : (d : List ℕ) (a b c e : ℕ) → 4 ≤ length d → set (set (set (set d 0 a) 1 b) 2 c) 3 e ≡ a ∷ b ∷ c ∷ e ∷ drop 4 d
+four-put [] a b c e h = absurd (omega arith)
+four-put (x ∷ []) a b c e h = absurd (omega arith)
+four-put (x ∷ y ∷ []) a b c e h = absurd (omega arith)
+four-put (x ∷ y ∷ z ∷ []) a b c e h = absurd (omega arith)
+four-put (x ∷ y ∷ z ∷ w ∷ d) a b c e h = refl
+
+module _ (bytes grades : List ℕ) (g : Grading) (judged : g ≡ graded bytes) where
+  grade-as : gradeAs g grades ≡ gradeCall bytes grades
+  unfolding gradeCall
+  grade-as = ap (λ (x : Grading). gradeAs x grades) judged
+
+  pub grade-refused : (r : Refusal) (k : ℕ) → g ≡ grading.Refused r → k ≡ numberOf r → gradeLeft k grades ≡ gradeCall bytes grades
+  grade-refused r k h e = ap (λ (x : ℕ). gradeLeft x grades) e ∙ ap (λ (x : Grading). gradeAs x grades) (sym h) ∙ grade-as
+
+  pub grade-9 : (x : Grades) (k : ℕ) → g ≡ grading.Graded x → length grades < 4 → k ≡ numberOf ShortBuffer → gradeLeft k grades ≡ gradeCall bytes grades
+  grade-9 x k h l e =
+      let short : gradeAs (grading.Graded x) grades ≡ gradeLeft (numberOf ShortBuffer) grades = rw (lt-ltb (length grades) 4 l) in
+      ap (λ (y : ℕ). gradeLeft y grades) e ∙ sym short ∙ ap (λ (y : Grading). gradeAs y grades) (sym h) ∙ grade-as
+
+  pub grade-0 : (x : Grades) → g ≡ grading.Graded x → 4 ≤ length grades
+      → gradeLeft 0 (set (set (set (set grades 0 (x .complete)) 1 (x .majority)) 2 (x .zero)) 3 (x .accurate)) ≡ gradeCall bytes grades
+  grade-0 x h l =
+      let four = x .complete ∷ x .majority ∷ x .zero ∷ x .accurate ∷ drop 4 grades in
+      let room : gradeAs (grading.Graded x) grades ≡ gradeLeft 0 four = rw (le-ltb (length grades) 4 l) in
+      ap (λ (d : List ℕ). gradeLeft 0 d) (four-put grades (x .complete) (x .majority) (x .zero) (x .accurate) l)
+      ∙ sym room
+      ∙ ap (λ (y : Grading). gradeAs y grades) (sym h)
+      ∙ grade-as

@@ -1,3 +1,4 @@
 pub mod Narrow
 pub mod Answers
 pub mod Records
+pub mod Lists

@@ -14,24 +14,25 @@ use Rattle.refusals.specs.declared.Refusal.{Refusal}
 use Rattle.refusals.specs.declared.Refusal.the-variants.{TruckCount, Record, RoundsDone}
 use Rattle.refusals.specs.declared.Outcome.{Outcome}
 use Rattle.refusals.specs.declared.Outcome.the-variants.{Accepted, Refused}
-use Rattle.recording.specs.Checks.{refuse, badTrucks, roundCheck}
-use Rattle.recording.proofs.Accepted.{refuse-false}
+use Rattle.recording.specs.Packed.{trucksOf, roundsOf, openingsOf, roundAt}
+use Rattle.recording.specs.Checks.{checkOf, refuse, badTrucks, roundCheck}
+use Rattle.recording.proofs.Accepted.{refuse-false, in-trucks, bytes-good}
 use Rattle.protocol.specs.declared.Fleet.{Fleet}
 use Rattle.protocol.specs.declared.Answer.{Answer}
 use Rattle.protocol.specs.Rules.{truck}
 use Rattle.protocol.specs.Runs.{openedTrucks}
-use Rattle.protocol.specs.Fleets.{answer, blank, startCheck, started, stepCheck, stepped, nextFleet, goodTruck, goodFleet}
+use Rattle.protocol.specs.Fleets.{answer, blank, startCheck, started, stepCheck, stepped, nextFleet, goodTruck, goodFleet, fleetAt, ran}
 use Rattle.protocol.proofs.Steps.{start-by}
 use Rattle.record.proofs.RoundTrip.{undamaged, taken-whole}
 use Rattle.record.specs.Layout.{sizeFor, packCheck, packFor, packedRecord, packedWhole, unpacked}
-use Rattle.ffi.specs.Calls.{RecordLeft, recordLeft, recordAs, storeCall, startCall, stepCall}
+use Rattle.ffi.specs.Calls.{RecordLeft, recordLeft, recordAs, storeCall, runCall, startCall, stepCall}
 use Rattle.ffi.proofs.Narrow.{many-trucks, narrowed}
 
-refused-not : {A : Type 0} (r : Refusal) → Refused r ≡ Accepted → A
+pub refused-not : {A : Type 0} (r : Refusal) → Refused r ≡ Accepted → A
 refused-not r h = let z : _≡_ {A = ℕ} 0 1 = cc in absurd (omega arith)
 
 -- a record that refusal 7 lets pass has an n in range
-good-range : (f : Fleet) → not (goodFleet f) ≡ false → badTrucks (f .n) ≡ false
+pub good-range : (f : Fleet) → not (goodFleet f) ≡ false → badTrucks (f .n) ≡ false
 unfolding goodFleet
 good-range f h =
     let range = not (badTrucks (f .n)) in
@@ -87,7 +88,7 @@ start-stored n m openings d a x e h s = s ∙ ap (λ (a : Answer). storeCall a d
 
 -- ---- a step
 
-step-range : (f : Fleet) (w : List ℕ) → stepped f w .outcome ≡ Accepted → badTrucks (stepped f w .fleet .n) ≡ false
+pub step-range : (f : Fleet) (w : List ℕ) → stepped f w .outcome ≡ Accepted → badTrucks (stepped f w .fleet .n) ≡ false
 unfolding stepped stepCheck goodFleet nextFleet
 step-range f w h = go (stepCheck f w) refl h
   where
@@ -123,3 +124,20 @@ module _ (d w : List ℕ) (u : Answer) (read : u ≡ unpacked d) where
         ∙ both (packCheck (a .fleet .n) (length d)) (a .fleet .n) (a .fleet) d
         ∙ ap (λ (o : Outcome). recordAs o (a .fleet .n) (a .fleet) d) (step-room h ∙ sym h)
         ∙ step-as
+
+-- ---- a run
+
+pub run-range : (s : List ℕ) (a : Answer) → a ≡ ran s → a .outcome ≡ Accepted → badTrucks (a .fleet .n) ≡ false
+unfolding ran fleetAt
+run-range s a e h = rw e (go (checkOf s) refl (rw e at h))
+  where
+    f : Fleet
+    f = fleetAt (trucksOf s) (openingsOf s) (roundAt s) (roundsOf s)
+
+    go : (o : Outcome) → checkOf s ≡ o → answer o f blank .outcome ≡ Accepted → badTrucks (answer o f blank .fleet .n) ≡ false
+    go Accepted e h = let g = bytes-good s e .frame in in-trucks (trucksOf s) (g .some) (g .most)
+    go (Refused r) e h = refused-not r h
+
+pub run-stored : (s d : List ℕ) (a : Answer) (x : RecordLeft) → a ≡ ran s → x ≡ storeCall a d → x ≡ runCall s d
+unfolding runCall
+run-stored s d a x e h = h ∙ ap (λ (a : Answer). storeCall a d) e

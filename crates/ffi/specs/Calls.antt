@@ -2,7 +2,7 @@
 -- nothing is refused; a refusal changes nothing that was lent.
 use Prim.Native.Nat.{ℕ}
 use mathlib.Core.Bool.{cond}
-use mathlib.Core.List.{List, _∷_}
+use mathlib.Core.List.{List, [], _∷_}
 use lib.Dec.{ltb}
 use lib.ListN.{length, drop}
 use Rattle.basics.specs.Lists.{filled}
@@ -161,3 +161,8 @@ stepCall d words =
     let u = unpacked d in
     let a = stepped (u .fleet) words in
     recordAs (andThen (u .outcome) (a .outcome)) (a .fleet .n) (a .fleet) d
+
+-- the bytes after a list of steps, each on what the step before it left
+unfoldable pub bytesAfter : List ℕ → List (List ℕ) → List ℕ
+bytesAfter d [] = d
+bytesAfter d (w ∷ ws) = bytesAfter (stepCall d w .bytes) ws

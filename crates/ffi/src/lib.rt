@@ -6,10 +6,11 @@ ghost use Prim.Native.Nat.{min};
 ghost use Rattle.refusals.specs.Numbers.{numberOf, outcomeNumber};
 ghost use Rattle.refusals.specs.declared.Outcome.the-variants.{Accepted};
 ghost use Rattle.recording.specs.Checks.{badTrucks};
-ghost use Rattle.ffi.specs.Calls.{openingLeft, openingCall, readLeft, readCall, writeLeft, writeCall, recordLeft, storeCall, startCall, stepCall};
+ghost use Rattle.ffi.specs.Calls.{openingLeft, openingCall, readLeft, readCall, writeLeft, writeCall, recordLeft, storeCall, runCall, startCall, stepCall, gradeLeft, gradeCall};
 use plain::ReadOutcome;
 use plain::WriteOutcome;
 use protocol::Answer;
+use protocol::Grading;
 use refusals::Outcome;
 use refusals::Refusal;
 use roads::Opening;
@@ -120,6 +121,36 @@ fn store(a: Answer, d: &mut [u8]) -> u32
     match o {
         Outcome::Refused(r) => number(r),
         Outcome::Accepted => outcome_number(record::pack_whole(f, d)),
+    }
+}
+
+// Runs a recording to its states.
+#[no_mangle]
+pub extern "C" fn rajvokshul_run(bytes: &[u8], fleet: &mut [u8]) -> u32
+    ensures { λ r. ⌜ recordLeft r (now (fleet .exit)) ≡ runCall (now (bytes .entry)) (now (fleet .entry)) ⌝ }
+{
+    let a = fleet::run(bytes);
+    store(a, fleet)
+}
+
+// Grades a recording's marks.
+#[no_mangle]
+pub extern "C" fn rajvokshul_grade(bytes: &[u8], grades: &mut [u16]) -> u32
+    ensures { λ r. ⌜ gradeLeft r (now (grades .exit)) ≡ gradeCall (now (bytes .entry)) (now (grades .entry)) ⌝ }
+{
+    let g = fleet::grade(bytes);
+    match g {
+        Grading::Refused(r) => number(r),
+        Grading::Graded(k) => {
+            if grades.len() < 4 {
+                return number(Refusal::ShortBuffer);
+            }
+            grades[0] = k.complete;
+            grades[1] = k.majority;
+            grades[2] = k.zero;
+            grades[3] = k.accurate;
+            0
+        }
     }
 }
 

@@ -6,11 +6,11 @@ use Prim.Native.Nat.{ℕ, zero, suc, _+_, _*_, _/_, _%_, _≤_, _<_}
 use native.Mathlib.Decide.{decLt}
 use native.Mathlib.Omega.{arith}
 use lib.Dec.{eqb, ltb}
-use lib.ListN.{length, getD}
+use lib.ListN.{length, getD, List·getD-eq-default}
 use lib.Seq.{ext-getD}
 use borrow.Author.Tests.{le-ltb, ltb-false}
-use Rattle.basics.specs.Lists.{filled, someBelow}
-use Rattle.basics.proofs.Laws.{length-filled, getD-filled, getD-filled-past, someBelow-none, none-someBelow}
+use Rattle.basics.specs.Lists.{tab, filled, someBelow}
+use Rattle.basics.proofs.Laws.{length-tab, getD-tab, length-filled, getD-filled, getD-filled-past, someBelow-none, none-someBelow}
 use Rattle.refusals.specs.declared.Outcome.{Outcome}
 use Rattle.refusals.specs.declared.Outcome.the-variants.{Accepted}
 use Rattle.recording.proofs.Accepted.{trucks-in}
@@ -224,6 +224,49 @@ module _ (d : List ℕ) (i : ℕ) (t : Truck) (holds : (j : ℕ) → j < 7 → p
       rw (holds 2 (omega arith), holds 3 (omega arith), holds 4 (omega arith), round-there)
       (simp (mark-there (t .mark) .1, heard-there (t .heard) .1, state-there (t .state) .1, state-there (t .state) .2))
 
+-- 32 places, of which those from n on are as a start makes them
+pub record Tidy (n : ℕ) (ts : List Truck) : Type 0 where
+  pub places : length ts ≡ 32
+  pub rest : (i : ℕ) → n ≤ i → truck ts i ≡ opened 0
+
+-- a start's places past the openings
+pub past-openings : (openings : List ℕ) (i : ℕ) → length openings ≤ i → truck (openedTrucks openings) i ≡ opened 0
+unfolding openedTrucks
+past-openings openings i h = go (decLt i 32)
+  where
+    g : ℕ → Truck
+    g k = opened (getD openings k 0)
+
+    go : Dec (i < 32) → truck (tab g 32) i ≡ opened 0
+    go (yes l) = getD-tab g 32 i (opened 0) l ∙ ap opened (List·getD-eq-default openings 0 h)
+    go (no l) = List·getD-eq-default (tab g 32) (opened 0) (let h : length (tab g 32) ≤ i = omega (arith, length-tab g 32) in h)
+
+pub places-opened : (openings : List ℕ) → length (openedTrucks openings) ≡ 32
+unfolding openedTrucks
+places-opened openings = length-tab (λ k. opened (getD openings k 0)) 32
+
+tidy-read : (d : List ℕ) → getD d 0 0 ≤ 32 → Tidy (recordOf d .n) (recordOf d .trucks)
+unfolding recordOf
+tidy-read d h =
+    record {
+      places = length-filled (truckAt d) (getD d 0 0) (openedTrucks []) (omega (arith, places-opened [])) ∙ places-opened [];
+      rest = λ i l. getD-filled-past (truckAt d) (getD d 0 0) (openedTrucks []) i (opened 0) l ∙ past-openings [] i (omega arith);
+    }
+
+tidy-same : (f g : Fleet) → Tidy (f .n) (f .trucks) → Tidy (g .n) (g .trucks) → Same f g → g ≡ f
+tidy-same f g tf tg s =
+    let e : g .trucks ≡ f .trucks = ext-getD (opened 0) (g .trucks) (f .trucks) (tg .places ∙ sym (tf .places)) (λ i l. at i (decLt i (f .n))) in
+    let n : g .n ≡ f .n = s .n in
+    let d : g .done ≡ f .done = s .done in
+    whole n d e
+  where
+    at : (i : ℕ) → Dec (i < f .n) → truck (g .trucks) i ≡ truck (f .trucks) i
+    at i (yes l) = s .trucks i l
+    at i (no l) = tg .rest i (omega (arith, s .n)) ∙ sym (tf .rest i (omega arith))
+
+    whole : g .n ≡ f .n → g .done ≡ f .done → g .trucks ≡ f .trucks → g ≡ f
+    whole p q r = λ i. record { n = p i; done = q i; trucks = r i }
+
 -- the first m places, n of which hold trucks, in a buffer with room for all
 module _ (f : Fleet) (d : List ℕ) (m : ℕ) (range : badTrucks (f .n) ≡ false) (room : sizeFor 32 ≤ length d) (low : f .n ≤ m) (high : m ≤ 32) where
   abbrev laid : List ℕ
@@ -265,21 +308,41 @@ module _ (f : Fleet) (d : List ℕ) (m : ℕ) (range : badTrucks (f .n) ≡ fals
       rw (le-ltb (length laid) (sizeFor 32) (omega (arith, length-filled (recordByte f) (sizeFor m) d (omega arith))), head-laid .0, range)
       (none-someBelow (damagedAt laid) (f .n) (λ i l. place-there laid i (truck (f .trucks) i) (place-laid i (omega arith))))
 
-  read-laid : (unpacked laid .outcome ≡ Accepted) × Same f (unpacked laid .fleet)
+  read-laid : unpacked laid ≡ record { outcome = Accepted; fleet = recordOf laid }
   unfolding unpacked
-  read-laid = rw undamaged-laid (refl, same-laid)
+  read-laid = rw undamaged-laid
 
--- a record brought up to date in a buffer is read out of it, and so is one that is put there whole
-pub record-back : (f : Fleet) (d : List ℕ) → packCheck (f .n) (length d) ≡ Accepted
-    → (unpacked (packedRecord f d) .outcome ≡ Accepted) × Same f (unpacked (packedRecord f d) .fleet)
-unfolding packedRecord
-record-back f d h =
-    let g = accepted-is (f .n) (length d) h in
-    rw h (read-laid f d (f .n) (g .0) (g .2) (omega arith) (g .1))
+  same-back : (unpacked laid .outcome ≡ Accepted) × Same f (unpacked laid .fleet)
+  same-back = rw read-laid (refl, same-laid)
 
-pub whole-back : (f : Fleet) (d : List ℕ) → packCheck (f .n) (length d) ≡ Accepted
-    → (unpacked (packedWhole f d) .outcome ≡ Accepted) × Same f (unpacked (packedWhole f d) .fleet)
-unfolding packedWhole
-whole-back f d h =
-    let g = accepted-is (f .n) (length d) h in
-    rw h (read-laid f d 32 (g .0) (g .2) (g .1) (omega arith))
+  tidy-back : Tidy (f .n) (f .trucks) → unpacked laid ≡ record { outcome = Accepted; fleet = f }
+  tidy-back t =
+      let few : getD laid 0 0 ≤ 32 = omega (arith, head-laid .0) in
+      read-laid ∙ ap (λ (g : Fleet). record { outcome = Accepted; fleet = g }) (tidy-same f (recordOf laid) t (tidy-read laid few) same-laid)
+
+module _ (f : Fleet) (d : List ℕ) (room : packCheck (f .n) (length d) ≡ Accepted) where
+  -- a record brought up to date in a buffer is read out of it, and so is one that is put there whole
+  pub record-back : (unpacked (packedRecord f d) .outcome ≡ Accepted) × Same f (unpacked (packedRecord f d) .fleet)
+  unfolding packedRecord
+  record-back =
+      let g = accepted-is (f .n) (length d) room in
+      rw room (same-back f d (f .n) (g .0) (g .2) (omega arith) (g .1))
+
+  pub whole-back : (unpacked (packedWhole f d) .outcome ≡ Accepted) × Same f (unpacked (packedWhole f d) .fleet)
+  unfolding packedWhole
+  whole-back =
+      let g = accepted-is (f .n) (length d) room in
+      rw room (same-back f d 32 (g .0) (g .2) (g .1) (omega arith))
+
+  -- and where its places n and above are as a start makes them, every place of it
+  pub record-tidy : Tidy (f .n) (f .trucks) → unpacked (packedRecord f d) ≡ record { outcome = Accepted; fleet = f }
+  unfolding packedRecord
+  record-tidy t =
+      let g = accepted-is (f .n) (length d) room in
+      rw room (tidy-back f d (f .n) (g .0) (g .2) (omega arith) (g .1) t)
+
+  pub whole-tidy : Tidy (f .n) (f .trucks) → unpacked (packedWhole f d) ≡ record { outcome = Accepted; fleet = f }
+  unfolding packedWhole
+  whole-tidy t =
+      let g = accepted-is (f .n) (length d) room in
+      rw room (tidy-back f d 32 (g .0) (g .2) (g .1) (omega arith) t)

@@ -1,7 +1,7 @@
 -- Binary digits, and the two numbers that a run of bits makes: `numAt` with the first bit worth most, `rowAt` with the first bit worth 1.
 use mathlib.Core.Path.{_≡_, refl, ap, ap₂, sym, _∙_}
 use Prim.Native.Nat.{ℕ, zero, suc, _+_, _*_, _-_, _/_, _%_, _^_, _≤_, _<_}
-use native.Mathlib.Nat.{mod-lt, mod-eq-of-lt, mul-le-mul-right, pow-suc, div-one, div-div-eq-div-mul, add-zero, mul-comm, add-comm}
+use native.Mathlib.Nat.{mod-lt, mod-eq-of-lt, mul-le-mul-right, pow-suc, div-div-eq-div-mul, add-zero, mul-comm, add-comm}
 use native.Mathlib.Decide.{decLt}
 use native.Mathlib.Omega.{arith}
 use lib.Dec.{lit<}

@@ -2,7 +2,6 @@
 use Prim.Native.Nat.{ℕ, zero, suc, _+_, _*_, _-_, _/_, _%_, _^_, min}
 use mathlib.Core.List.{List}
 use lib.ListN.{getD}
-use denote.Ref.{now}
 use Rattle.basics.specs.Bits.{digit}
 use Rattle.bitreader.specs.declared.Reader.{Reader}
 

@@ -1,7 +1,7 @@
 // Numbers of up to 32 bits at any place of a slice of bytes, by a reader and on plain parameters.
 ghost use mathlib.Core.Path.{_≡_};
 ghost use Prim.Native.Nat.{_+_, _*_, _-_, _<_, _≤_, _^_, _/_, _%_};
-ghost use lib.ListN.{length, getD};
+ghost use lib.ListN.{getD};
 ghost use Rattle.bitreader.specs.Bits.{bitAt, numAt, rowAt, bitsRead, placeAfter, mirrored, movedBy};
 
 fn wide(b: u8) -> u64

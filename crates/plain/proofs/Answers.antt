@@ -1,12 +1,12 @@
 -- What reading and writing answer, one law for each return of the code.
 use mathlib.Core.Path.{_≡_, refl, ap, ap₂, sym, _∙_}
 use mathlib.Core.Bool.{Bool, true, false, _||_}
-use mathlib.Core.List.{List, _++_}
-use Prim.Native.Nat.{ℕ, _+_, _*_, _-_, _≤_, _<_}
+use mathlib.Core.List.{List}
+use Prim.Native.Nat.{ℕ, _+_, _*_, _≤_, _<_}
 use native.Mathlib.Omega.{arith}
 use borrow.Author.Tests.{ltb-false, lt-ltb, le-ltb}
 use lib.Dec.{ltb}
-use lib.ListN.{length, drop}
+use lib.ListN.{length}
 use Rattle.refusals.specs.declared.Refusal.{Refusal}
 use Rattle.refusals.specs.declared.Refusal.the-variants.{ShortBuffer}
 use Rattle.refusals.specs.declared.Outcome.{Outcome}
@@ -14,10 +14,10 @@ use Rattle.refusals.specs.declared.Outcome.the-variants.{Accepted, Refused}
 use Rattle.basics.specs.Lists.{filled}
 use Rattle.recording.specs.Packed.{trucksOf, roundsOf, openingAt, wordAt, bytesFor, pack, packed}
 use Rattle.recording.specs.Checks.{refuse, andThen, checkOf, plainCheck}
-use Rattle.recording.proofs.Accepted.{GoodBytes, bytes-good}
+use Rattle.recording.proofs.Accepted.{bytes-good}
 use Rattle.plain.specs.declared.ReadOutcome.the-variants.{Plain, Refused as NotRead}
 use Rattle.plain.specs.declared.WriteOutcome.the-variants.{Bytes, Refused as NotWritten}
-use Rattle.plain.specs.Forms.{AfterRead, afterRead, shortBuffers, readCheck, readAs, readPlain, AfterWrite, afterWrite, writeCheck, writeAs, writePlain}
+use Rattle.plain.specs.Forms.{afterRead, shortBuffers, readCheck, readAs, readPlain, afterWrite, writeCheck, writeAs, writePlain}
 use Rattle.plain.specs.Steps.{packedByte}
 
 or-first : (a b : Bool) → (a || b) ≡ false → a ≡ false

@@ -1,21 +1,20 @@
 -- The fields of accepted openings and words are the bits of the packed form, one after the other.
-use mathlib.Core.Path.{_≡_, refl, ap, ap₂, sym, _∙_}
-use mathlib.Core.Bool.{Bool, true, false, cond}
+use mathlib.Core.Path.{_≡_, ap, ap₂, sym, _∙_}
+use mathlib.Core.Bool.{Bool, cond}
 use mathlib.Core.List.{List}
-use Prim.Native.Nat.{ℕ, zero, suc, _+_, _*_, _-_, _/_, _%_, _^_, _≤_, _<_, min}
+use Prim.Native.Nat.{ℕ, suc, _+_, _*_, _-_, _/_, _%_, _≤_, _<_, min}
 use native.Mathlib.Decide.{decLt}
 use native.Mathlib.Nat.{mul-le-mul-right}
 use native.Mathlib.Omega.{arith}
 use borrow.Author.Tests.{lt-ltb, le-ltb}
 use lib.Arith.{digits-div, digits-mod}
-use lib.Dec.{ltb}
 use lib.ListN.{length, getD}
 use Rattle.basics.specs.Bits.{digit}
 use Rattle.bitreader.specs.Bits.{mirrored}
 use Rattle.bitreader.proofs.Digits.{numAt-is, numAt-add, num-mirrored}
 use Rattle.recording.specs.Packed.{numAt, packBit, openingBit, roundBit, bitsFor, bytesFor}
 use Rattle.recording.proofs.Accepted.{GoodPlain}
-use Rattle.recording.proofs.Packing.{packBit-lt, bit-trucks, bit-rounds, bit-openings, bit-words, bit-end, bits-flat, bytes-hold, word-ends}
+use Rattle.recording.proofs.Packing.{packBit-lt, bit-trucks, bit-rounds, bit-openings, bit-words, bit-end, bits-flat, word-ends}
 use Rattle.recording.proofs.Searches.{numAt-zero}
 use Rattle.plain.specs.Steps.{fieldWidth, fieldValue}
 

@@ -1,19 +1,18 @@
 -- The outcomes of the checks of plain form, one law for each return of the code.
-use mathlib.Core.Path.{_≡_, refl, ap, ap₂, sym, _∙_}
+use mathlib.Core.Path.{_≡_, refl, sym, _∙_}
 use mathlib.Core.Bool.{Bool, true, false, not}
 use mathlib.Core.List.{List}
-use Prim.Native.Nat.{ℕ, zero, suc, _+_, _*_, _-_, _^_, _≤_, _<_}
+use Prim.Native.Nat.{ℕ, suc, _+_, _*_, _≤_, _<_}
 use native.Mathlib.Nat.{mul-le-mul-right}
 use native.Mathlib.Omega.{arith}
 use borrow.Author.Tests.{lt-ltb, le-ltb, eqb-true, not-false}
-use lib.Dec.{eqb, ltb}
+use lib.Dec.{eqb}
 use lib.ListN.{length, getD}
-use Rattle.refusals.specs.declared.Refusal.{Refusal}
-use Rattle.refusals.specs.declared.Refusal.the-variants.{TruckCount, RoundCount, OwnLoss, Record, PlainRound, ShortBuffer}
+use Rattle.refusals.specs.declared.Refusal.the-variants.{TruckCount, RoundCount, OwnLoss, Record, PlainRound}
 use Rattle.refusals.specs.declared.Outcome.{Outcome}
 use Rattle.refusals.specs.declared.Outcome.the-variants.{Accepted, Refused}
 use Rattle.basics.specs.Lists.{someBelow}
-use Rattle.recording.specs.Checks.{refuse, badTrucks, badRounds, badOpenings, badWords, ownLoss, highBit, roundsCheck, roundCheck, plainCheck}
+use Rattle.recording.specs.Checks.{refuse, badTrucks, badRounds, badOpenings, badWords, ownLoss, highBit, roundsCheck, plainCheck}
 
 -- ---- 8 and 6
 rounds-by : (n R : ℕ) (words : List ℕ) (a b : Bool) → badWords n R words ≡ a → ownLoss (λ w. getD words w 0) n R ≡ b

@@ -1,10 +1,10 @@
 -- Reading and writing undo each other, with their buffers: both stated of the definitions that the contracts of `read` and `write` cite.
 use mathlib.Core.Path.{_≡_, refl, ap, ap₂, sym, _∙_}
-use mathlib.Core.Bool.{Bool, true, false, _||_}
+use mathlib.Core.Bool.{Bool, false, _||_}
 use mathlib.Core.List.{List, _++_}
 use Prim.Native.Nat.{ℕ, _+_, _*_, _≤_, _<_}
 use native.Mathlib.Omega.{arith}
-use borrow.Author.Tests.{le-ltb, ltb-false}
+use borrow.Author.Tests.{le-ltb}
 use lib.Dec.{ltb}
 use lib.ListN.{length, getD, take, drop}
 use lib.Seq.{take-at}
@@ -14,11 +14,11 @@ use Rattle.refusals.specs.declared.Outcome.the-variants.{Accepted, Refused}
 use Rattle.refusals.specs.Numbers.{outcomeNumber}
 use Rattle.basics.specs.Lists.{filled}
 use Rattle.basics.proofs.Laws.{length-tab}
-use Rattle.recording.specs.Packed.{trucksOf, roundsOf, openingAt, openingsOf, wordAt, wordsOf, roundWords, bytesFor, packBit, packed}
+use Rattle.recording.specs.Packed.{trucksOf, roundsOf, openingAt, openingsOf, wordAt, wordsOf, bytesFor, packBit, packed}
 use Rattle.recording.specs.Checks.{refuse, andThen, checkOf, plainCheck}
-use Rattle.recording.proofs.Accepted.{refuse-false, refuse-rest, refuse-on, then-first, then-second, plain-good, bytes-good}
+use Rattle.recording.proofs.Accepted.{refuse-on, then-first, plain-good, bytes-good}
 use Rattle.recording.proofs.Packing.{length-pack}
-use Rattle.recording.proofs.RoundTrip.{read-back, write-back, openings-read}
+use Rattle.recording.proofs.RoundTrip.{read-back, write-back}
 use Rattle.plain.specs.declared.ReadOutcome.the-variants.{Plain}
 use Rattle.plain.specs.declared.WriteOutcome.the-variants.{Bytes}
 use Rattle.plain.specs.Forms.{afterRead, readNumber, shortBuffers, readCheck, readAs, readPlain, afterWrite, writeNumber, writeCheck, writeAs, writePlain}

@@ -1,12 +1,11 @@
 // Recordings in plain form: a byte for each opening and 3 + n words of 32 bits for each round.
 ghost use mathlib.Core.Path.{_≡_};
-ghost use mathlib.Core.List.{_++_};
 ghost use Prim.Native.Nat.{_+_, _*_, _-_, _<_, _≤_, _^_, _/_, _%_};
-ghost use lib.ListN.{length, getD, drop};
+ghost use lib.ListN.{length, getD};
 ghost use Rattle.refusals.specs.declared.Outcome.the-variants.{Accepted};
 ghost use Rattle.basics.specs.Bits.{bit};
 ghost use Rattle.basics.specs.Lists.{first, filled};
-ghost use Rattle.recording.specs.Packed.{trucksOf, roundsOf, openingAt, wordAt, packed, bytesFor};
+ghost use Rattle.recording.specs.Packed.{trucksOf, openingAt, wordAt, bytesFor};
 ghost use Rattle.recording.specs.Checks.{highBit, badOpenings, badWords, ownLoss, roundsCheck, roundCheck, plainCheck};
 ghost use Rattle.plain.specs.Forms.{afterRead, readPlain, afterWrite, writePlain};
 ghost use Rattle.plain.specs.Steps.{over, byteOf, packedByte, fieldWidth, fieldValue};

@@ -2,7 +2,7 @@
 use mathlib.Core.Path.{_≡_, refl, ap, sym, _∙_}
 use mathlib.Core.Bool.{Bool, true, false, not, _||_}
 use mathlib.Core.List.{List}
-use Prim.Native.Nat.{ℕ, zero, suc, _+_, _*_, _-_, _/_, _%_, _^_, _≤_, _<_}
+use Prim.Native.Nat.{ℕ, _+_, _*_, _-_, _^_, _≤_, _<_}
 use native.Mathlib.Omega.{arith}
 use borrow.Author.Tests.{ltb-false, leb-false, eqb-true, eqb-false, le-ltb, lt-leb, eq-eqb, ne-eqb, not-false}
 use lib.Dec.{ltb, leb, eqb}
@@ -13,7 +13,7 @@ use Rattle.refusals.specs.declared.Outcome.{Outcome}
 use Rattle.refusals.specs.declared.Outcome.the-variants.{Accepted, Refused}
 use Rattle.basics.specs.Lists.{someBelow}
 use Rattle.basics.proofs.Laws.{someBelow-none, none-someBelow}
-use Rattle.recording.specs.Packed.{bitAt, trucksOf, roundsOf, wordAt, bitsFor, bytesFor, roundWords}
+use Rattle.recording.specs.Packed.{bitAt, trucksOf, roundsOf, wordAt, bitsFor, bytesFor}
 use Rattle.recording.specs.Checks.{refuse, andThen, tooShort, badTrucks, badRounds, badLength, endBit, ownBit, ownLoss, badOpenings, badWords, highBit, frameCheck, ownCheck, checkOf, roundsCheck, plainCheck}
 use Rattle.bitreader.proofs.Digits.{bitAt-lt}
 

@@ -1,24 +1,22 @@
 -- Reading what was written, and writing what was read.
-use mathlib.Core.Path.{_≡_, refl, ap, ap₂, sym, _∙_}
-use mathlib.Core.Bool.{Bool, true, false}
-use mathlib.Core.List.{List, [], _∷_, _++_}
+use mathlib.Core.Path.{_≡_, ap, ap₂, sym, _∙_}
+use mathlib.Core.Bool.{false}
+use mathlib.Core.List.{List}
 use Prim.Native.Nat.{ℕ, zero, suc, _+_, _*_, _-_, _/_, _%_, _^_, _≤_, _<_}
 use native.Mathlib.Nat.{mul-le-mul-right, div-lt-iff-lt-mul, div-add-mod', mod-lt}
 use native.Mathlib.Decide.{decLt}
 use native.Mathlib.Omega.{arith}
 use lib.Arith.{digits-div, digits-mod}
-use lib.Dec.{lit<, ltb}
-use lib.ListN.{length, getD, take, drop, length-append, length-drop, List·getD-append}
-use lib.Seq.{ext-getD, getD-append-add, getD-take, getD-drop, length-take-le}
+use lib.ListN.{length, getD}
 use Rattle.refusals.specs.declared.Outcome.the-variants.{Accepted}
 use Rattle.basics.specs.Bits.{digit, bit}
 use Rattle.basics.specs.Lists.{tab}
 use Rattle.basics.proofs.Laws.{length-tab, getD-tab, tab-ext, tab-getD}
-use Rattle.recording.specs.Packed.{bitAt, numAt, rowAt, trucksOf, roundsOf, openingAt, openingsOf, wordAt, wordsOf, roundAt, bitsFor, bytesFor, pack, packBit, packed, openingBit, roundBit, joined}
-use Rattle.recording.specs.Checks.{ownBit, checkOf, roundsCheck, roundCheck, plainCheck}
+use Rattle.recording.specs.Packed.{bitAt, numAt, rowAt, trucksOf, roundsOf, openingAt, openingsOf, wordAt, wordsOf, bitsFor, bytesFor, packBit, packed, openingBit, roundBit}
+use Rattle.recording.specs.Checks.{ownBit, checkOf, plainCheck}
 use Rattle.bitreader.proofs.Digits.{bitAt-lt, numAt-is, numAt-lt, numAt-digit, rowAt-is, rowAt-lt, rowAt-digit}
-use Rattle.recording.proofs.Accepted.{GoodOpenings, GoodRounds, GoodPlain, GoodFrame, GoodBytes, plain-good, good-plain, bytes-good, good-bytes, rounds-good, good-rounds}
-use Rattle.recording.proofs.Packing.{length-pack, pack-ext, bitAt-pack, pack-bitAt, pack-byte, bits-flat, bytes-hold, word-ends, bit-trucks, bit-rounds, bit-openings, bit-words, bit-end, packBit-lt}
+use Rattle.recording.proofs.Accepted.{GoodOpenings, GoodRounds, GoodPlain, GoodFrame, GoodBytes, plain-good, good-plain, bytes-good, good-bytes, rounds-good}
+use Rattle.recording.proofs.Packing.{length-pack, pack-ext, bitAt-pack, pack-bitAt, bits-flat, bytes-hold, word-ends, bit-trucks, bit-rounds, bit-openings, bit-words, bit-end, packBit-lt}
 
 -- ---- own loss bits by round and truck
 pub own-at : (f : ℕ → ℕ) (n r i : ℕ) → i < n → ownBit f n (r * n + i) ≡ bit (f (r * (3 + n) + (3 + i))) i

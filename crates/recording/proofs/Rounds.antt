@@ -1,10 +1,9 @@
 -- The rounds of a recording one by one, and a recording made of rounds.
 use mathlib.Core.Path.{_≡_, refl, ap, ap₂, sym, _∙_}
-use mathlib.Core.Bool.{Bool, true, false}
+use mathlib.Core.Bool.{false}
 use mathlib.Core.List.{List, [], _∷_, _++_}
-use Prim.Native.Nat.{ℕ, zero, suc, _+_, _*_, _-_, _/_, _%_, _^_, _≤_, _<_}
-use native.Mathlib.Nat.{mul-le-mul-right, div-lt-iff-lt-mul, div-add-mod', mod-lt}
-use native.Mathlib.Decide.{decLt}
+use Prim.Native.Nat.{ℕ, zero, suc, _+_, _*_, _/_, _%_, _^_, _≤_, _<_, min}
+use native.Mathlib.Nat.{min-eq-left, mul-le-mul-right, div-lt-iff-lt-mul, div-add-mod', mod-lt}
 use native.Mathlib.Omega.{arith}
 use lib.ListN.{length, getD, take, drop, length-append, length-drop, List·getD-append}
 use lib.Seq.{ext-getD, getD-append-add, getD-take, getD-drop, length-take-le}
@@ -12,10 +11,10 @@ use Rattle.refusals.specs.declared.Outcome.the-variants.{Accepted}
 use Rattle.basics.specs.Bits.{bit}
 use Rattle.basics.specs.Lists.{tab}
 use Rattle.basics.proofs.Laws.{length-tab, getD-tab}
-use Rattle.recording.specs.Packed.{trucksOf, roundsOf, wordAt, wordsOf, roundAt, bitsFor, bytesFor, packed, joined}
-use Rattle.recording.specs.Checks.{ownBit, badOpenings, checkOf, roundsCheck, roundCheck, plainCheck}
-use Rattle.recording.proofs.Accepted.{GoodOpenings, GoodRounds, GoodPlain, GoodFrame, GoodBytes, good-plain, bytes-good, rounds-good, good-rounds, openings-in}
-use Rattle.recording.proofs.RoundTrip.{own-at, own-split, own-ext, word-lt, word-read, trucks-back, rounds-back, words-back}
+use Rattle.recording.specs.Packed.{bitAt, rowAt, trucksOf, roundsOf, wordAt, wordsOf, roundAt, bitsFor, bytesFor, packed, joined}
+use Rattle.recording.specs.Checks.{ownBit, badOpenings, checkOf, roundCheck, plainCheck}
+use Rattle.recording.proofs.Accepted.{GoodRounds, GoodPlain, good-plain, bytes-good, rounds-good, good-rounds, openings-in}
+use Rattle.recording.proofs.RoundTrip.{own-at, own-split, word-lt, word-read, trucks-back, rounds-back, words-back}
 
 -- the largest recording
 pub largest : bytesFor 32 400 ≡ 56018
@@ -103,6 +102,20 @@ module _ (s : List ℕ) where
             ∙ sym (own-at (wordAt s) n k i u)
             ∙ bytes-good s h .own (k * n + i) (word-of n (roundsOf s) k i l u);
       })
+
+-- ---- words by their places
+-- what is read at the place of word w is word w
+pub word-there : (s : List ℕ) (n w at v : ℕ) → n ≡ trucksOf s → n ≤ 32 → at ≡ 16 + 4 * n + w * n → v ≡ rowAt (bitAt s) at (min n 32) → v ≡ wordAt s w
+unfolding wordAt
+word-there s n w at v e h p r =
+    r
+    ∙ ap₂ (λ (q k : ℕ). rowAt (bitAt s) q k) p (min-eq-left h)
+    ∙ ap (λ (k : ℕ). rowAt (bitAt s) (16 + 4 * k + w * k) k) e
+
+-- round k begins where a recording of k rounds ends
+pub round-there : (s : List ℕ) (n k w at v : ℕ) → n ≡ trucksOf s → n ≤ 32 → at ≡ bitsFor n k + w * n → v ≡ rowAt (bitAt s) at (min n 32) → v ≡ wordAt s (k * (3 + n) + w)
+unfolding bitsFor
+round-there s n k w at v e h p r = word-there s n (k * (3 + n) + w) at v e h (p ∙ omega arith) r
 
 -- ---- rounds one after the other
 pub length-joined : (m : ℕ) (rs : List (List ℕ)) → ((k : ℕ) → k < length rs → length (getD rs k []) ≡ m) → length (joined rs) ≡ length rs * m

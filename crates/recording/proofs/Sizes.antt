@@ -1,9 +1,8 @@
 -- Sizes of a recording as numbers of the code: they fit.
-use mathlib.Core.Path.{_≡_}
-use Prim.Native.Nat.{ℕ, suc, _+_, _*_, _<_, _≤_, _^_}
+use Prim.Native.Nat.{ℕ, _+_, _*_, _<_, _≤_, _^_}
 use native.Mathlib.Nat.{mul-le-mul}
 use native.Mathlib.Omega.{arith}
-use Rattle.recording.specs.Packed.{bitsFor, bytesFor}
+use Rattle.recording.specs.Packed.{bitsFor}
 
 pub square-small : (n : ℕ) → n < 256 → n * n ≤ 65025
 square-small n h = mul-le-mul (let o : n ≤ 255 = omega arith in o) (let o : n ≤ 255 = omega arith in o)

@@ -6,7 +6,7 @@ ghost use lib.Dec.{eqb};
 ghost use lib.ListN.{length};
 ghost use Rattle.basics.specs.Lists.{first, someBelow};
 ghost use Rattle.recording.specs.Packed.{bitAt, trucksOf, roundsOf, openingAt, bitsFor, bytesFor, wordAt};
-ghost use Rattle.recording.specs.Checks.{badTrucks, endBit, ownLoss, frameCheck, ownCheck, checkOf};
+ghost use Rattle.recording.specs.Checks.{badTrucks, ownLoss, frameCheck, checkOf};
 use refusals::Outcome;
 use refusals::Refusal;
 

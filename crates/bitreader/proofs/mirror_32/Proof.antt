@@ -1,4 +1,3 @@
-use native.Mathlib.Omega.{arith}
 use borrow.Author.Needs.{needs}
 use Rattle.bitreader.proofs.Digits.{mirrored-joined}
 use Rattle.bitreader.proofs.mirror_32.Statement.{statement}

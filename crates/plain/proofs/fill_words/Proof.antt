@@ -5,7 +5,8 @@ use borrow.Author.Needs.{needs}
 use Rattle.basics.specs.Lists.{filled}
 use Rattle.basics.proofs.Laws.{filled-none}
 use Rattle.recording.specs.Packed.{wordAt}
-use Rattle.plain.proofs.Fills.{fill-length, fill-step, word-there, place-fits}
+use Rattle.recording.proofs.Rounds.{word-there}
+use Rattle.plain.proofs.Fills.{fill-length, fill-step, place-fits}
 use Rattle.plain.proofs.fill_words.Statement.{statement}
 use Rattle.plain.proofs.fill_words.Tie as tie
 

@@ -6,7 +6,7 @@ use native.Mathlib.Omega.{arith}
 use borrow.Author.Needs.{needs}
 use lib.ListN.{length, getD}
 use Rattle.basics.specs.Bits.{bit}
-use Rattle.basics.specs.Lists.{first, someBelow}
+use Rattle.basics.specs.Lists.{someBelow}
 use Rattle.basics.proofs.Laws.{none-someBelow}
 use Rattle.recording.specs.Checks.{ownBit, ownLoss}
 use Rattle.recording.proofs.RoundTrip.{own-at}

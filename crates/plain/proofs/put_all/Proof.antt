@@ -1,4 +1,4 @@
-use mathlib.Core.Path.{_≡_, refl, ap, sym, _∙_}
+use mathlib.Core.Path.{_≡_, ap, sym, _∙_}
 use mathlib.Core.List.{List}
 use Prim.Native.Nat.{ℕ, _≤_, _<_, _+_, _*_, _-_, _%_}
 use native.Mathlib.Omega.{arith}
@@ -8,7 +8,7 @@ use Rattle.basics.specs.Lists.{filled}
 use Rattle.recording.specs.Packed.{numAt, packBit, bitsFor, bytesFor}
 use Rattle.recording.proofs.Accepted.{GoodPlain, plain-good}
 use Rattle.recording.proofs.Packing.{packBit-lt, bits-flat, bytes-hold}
-use Rattle.plain.specs.Steps.{packedByte, fieldWidth, fieldValue}
+use Rattle.plain.specs.Steps.{packedByte}
 use Rattle.plain.proofs.Fields.{fieldPlace, first-place, next-place, header-number, field-number, last-place, field-room, end-number, width-most, last-byte, last-room}
 use Rattle.plain.proofs.Putting.{Put, put-none, put-at, put-anew, put-length, put-asks, put-more, filled-again}
 use Rattle.plain.proofs.put_all.Statement.{statement}

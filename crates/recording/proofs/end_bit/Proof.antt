@@ -1,4 +1,4 @@
-use Prim.Native.Nat.{_*_, _-_, _+_}
+use Prim.Native.Nat.{_*_, _-_}
 use native.Mathlib.Nat.{min-eq-left}
 use native.Mathlib.Omega.{arith}
 use mathlib.Core.Path.{ap, _∙_}

@@ -5,7 +5,7 @@ use Prim.Native.Nat.{ℕ, _≤_, _<_, _+_, _*_, _-_}
 use native.Mathlib.Omega.{arith}
 use borrow.Author.Needs.{needs}
 use lib.Dec.{eqb}
-use Rattle.basics.specs.Lists.{first, someBelow}
+use Rattle.basics.specs.Lists.{someBelow}
 use Rattle.basics.proofs.Laws.{none-someBelow}
 use Rattle.recording.specs.Packed.{bitAt, wordAt}
 use Rattle.recording.specs.Checks.{ownBit, ownLoss}

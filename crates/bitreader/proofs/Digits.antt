@@ -163,13 +163,12 @@ byte-more s b i v x h e g =
     ∙ sym (numAt-add (bitAt s) (8 * b) (8 * i) 8)
     ∙ ap (numAt (bitAt s) (8 * b)) (let o : 8 * i + 8 ≡ 8 * (i + 1) = omega arith in o)
 
--- k bits from any place, out of the bytes in which they stand
-pub gathered : (s : List ℕ) (at k : ℕ)
-    → numAt (bitAt s) (8 * (at / 8)) (8 * ((at % 8 + k + 7) / 8)) / 2 ^ (8 * ((at % 8 + k + 7) / 8) - at % 8 - k) % 2 ^ k ≡ numAt (bitAt s) at k
-gathered s at k =
-    let all : ℕ = 8 * ((at % 8 + k + 7) / 8) in
-    let past : ℕ = all - at % 8 - k in
-    ap (λ (n : ℕ). numAt (bitAt s) (8 * (at / 8)) n / 2 ^ past % 2 ^ k) (let e : all ≡ at % 8 + k + past = omega arith in e)
+-- k bits from any place, out of m bytes in which they stand
+pub gathered : (s : List ℕ) (at k m : ℕ) → at % 8 + k ≤ 8 * m
+    → numAt (bitAt s) (8 * (at / 8)) (8 * m) / 2 ^ (8 * m - at % 8 - k) % 2 ^ k ≡ numAt (bitAt s) at k
+gathered s at k m h =
+    let past : ℕ = 8 * m - at % 8 - k in
+    ap (λ (n : ℕ). numAt (bitAt s) (8 * (at / 8)) n / 2 ^ past % 2 ^ k) (let e : 8 * m ≡ at % 8 + k + past = omega arith in e)
     ∙ numAt-part (bitAt s) (bitAt-lt s) (8 * (at / 8)) (at % 8) k past
     ∙ ap (λ (p : ℕ). numAt (bitAt s) p k) (omega arith)
 

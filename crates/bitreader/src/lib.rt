@@ -64,8 +64,14 @@ pub fn bits_at(s: &[u8], at: usize, k: usize) -> u32
 {
     let w = bits_read(k);
     let skipped = at % 8;
+    let b = at / 8;
+    // Five bytes hold any 32 bits. A fixed number of them is faster to gather, where they are there.
+    if b + 5 <= s.len() {
+        let v = bytes_at(s, b, 5);
+        return low_bits(v >> (40 - skipped - w), w) as u32;
+    }
     let m = (skipped + w + 7) / 8;
-    let v = bytes_at(s, at / 8, m);
+    let v = bytes_at(s, b, m);
     low_bits(v >> (8 * m - skipped - w), w) as u32
 }
 

@@ -58,7 +58,7 @@ module _ (a : Answer) (d : List ℕ) where
   store-0 range h o l k p q e =
       ap₂ (λ (x : ℕ) (y : List ℕ). recordLeft x y) (e ∙ ap outcomeNumber p) q
       ∙ both (packCheck (a .fleet .n) (length d)) 32 (a .fleet) d
-      ∙ rw (range h, h)
+      ∙ rw (range h, h) refl
 
 -- ---- a start
 

@@ -6,7 +6,8 @@ ghost use Prim.Native.Nat.{min};
 ghost use Rattle.refusals.specs.Numbers.{numberOf, outcomeNumber};
 ghost use Rattle.refusals.specs.declared.Outcome.the-variants.{Accepted};
 ghost use Rattle.recording.specs.Checks.{badTrucks};
-ghost use Rattle.ffi.specs.Calls.{openingLeft, openingCall, readLeft, readCall, writeLeft, writeCall, recordLeft, storeCall, runCall, startCall, stepCall, gradeLeft, gradeCall};
+ghost use Rattle.ffi.specs.Calls.{openingLeft, openingCall, readLeft, readCall, writeLeft, writeCall, recordLeft, storeCall, runCall, startCall, stepCall, listLeft, listCall, gradeLeft, gradeCall};
+use listing::Listed;
 use plain::ReadOutcome;
 use plain::WriteOutcome;
 use protocol::Answer;
@@ -131,6 +132,21 @@ pub extern "C" fn rajvokshul_run(bytes: &[u8], fleet: &mut [u8]) -> u32
 {
     let a = fleet::run(bytes);
     store(a, fleet)
+}
+
+// Runs a recording to its listing.
+#[no_mangle]
+pub extern "C" fn rajvokshul_list(bytes: &[u8], text: &mut [u8], written: &mut usize) -> u32
+    ensures { λ r. ⌜ listLeft r (now (text .exit)) (now (written .exit)) ≡ listCall (now (bytes .entry)) (now (text .entry)) (now (written .entry)) ⌝ }
+{
+    let l = listing::list(bytes, text);
+    match l {
+        Listed::Text(k) => {
+            *written = k;
+            0
+        }
+        Listed::Refused(r) => number(r),
+    }
 }
 
 // Grades a recording's marks.

@@ -1,0 +1,65 @@
+/*
+ * Runs a recording to its listing, follows the same rounds as a live fleet, and picks an opening crusher.
+ *
+ *   rt staticlib ffi
+ *   cc -std=c99 -Wall -Wextra -Ic c/example.c target/staticlib/libffi.a -o example
+ */
+#include <stdio.h>
+
+#include "rajvokshul.h"
+
+/* Two trucks that open with crushers 3 and 5, four rounds, both active in rounds 1 and 3. */
+static const uint8_t recording[] = {0x08, 0x04, 0x35, 0x30, 0x00, 0x03, 0x00, 0x00};
+
+static int refused(const char *what, uint32_t number) {
+    if (number != RAJVOKSHUL_ACCEPTED) {
+        printf("%s: refused %u\n", what, (unsigned)number);
+    }
+    return number != RAJVOKSHUL_ACCEPTED;
+}
+
+static void print_fleet(const uint8_t *record) {
+    static const char *const states[] = {"running", "stopped", "decided"};
+    printf("after round %u:", record[1] + 256u * record[2]);
+    for (unsigned i = 0; i < record[0]; i++) {
+        const uint8_t *truck = record + 3 + 7 * i;
+        printf(" truck %u %s at %u", i, states[truck[4]], truck[1]);
+    }
+    printf("\n");
+}
+
+int main(void) {
+    uint8_t text[RAJVOKSHUL_MAX_TEXT];
+    size_t written = 0;
+    if (refused("list", rajvokshul_list(recording, sizeof recording, text, sizeof text, &written))) {
+        return 1;
+    }
+    fwrite(text, 1, written, stdout);
+
+    static uint32_t words[RAJVOKSHUL_MAX_WORDS];
+    uint8_t openings[RAJVOKSHUL_MAX_TRUCKS];
+    uint32_t trucks = 0, rounds = 0;
+    if (refused("read", rajvokshul_read(recording, sizeof recording, openings, sizeof openings, words,
+                                        RAJVOKSHUL_MAX_WORDS, &trucks, &rounds))) {
+        return 1;
+    }
+    uint8_t record[RAJVOKSHUL_RECORD_SIZE];
+    if (refused("start", rajvokshul_start(trucks, openings, trucks, record, sizeof record))) {
+        return 1;
+    }
+    for (uint32_t k = 0; k < rounds; k++) {
+        if (refused("step", rajvokshul_step(record, sizeof record, words + k * (3 + trucks), 3 + trucks))) {
+            return 1;
+        }
+        print_fleet(record);
+    }
+
+    /* The first road is idle, so the second one is taken. */
+    const uint16_t lengths[] = {500, 900}, metres[] = {0, 300}, seconds[] = {40, 60};
+    uint8_t crusher = 0;
+    if (refused("opening", rajvokshul_opening(lengths, 2, metres, 2, seconds, 2, &crusher))) {
+        return 1;
+    }
+    printf("opening %u\n", crusher);
+    return 0;
+}

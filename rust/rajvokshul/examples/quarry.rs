@@ -1,0 +1,28 @@
+//! Two trucks pick their openings, follow a recorded morning as a live fleet, and agree.
+
+use rajvokshul::{grade, list, opening, read, Fleet, Refusal, State};
+
+fn main() -> Result<(), Refusal> {
+    // Roads to crushers 0 and 1: length, metres and seconds of the last run. The first road is idle.
+    println!("opening {}", opening(&[500, 900], &[0, 300], &[40, 60])?);
+
+    // Two trucks that open with crushers 3 and 5, four rounds, both active in rounds 1 and 3.
+    let recording = [0x08, 0x04, 0x35, 0x30, 0x00, 0x03, 0x00, 0x00];
+    print!("{}", list(&recording)?);
+    println!("{:?}", grade(&recording)?);
+
+    let plain = read(&recording)?;
+    let mut fleet = Fleet::start(plain.openings.len() as u32, &plain.openings)?;
+    for k in 1..=plain.rounds as usize {
+        fleet.step(plain.round(k).unwrap())?;
+        let decided = (0..plain.openings.len())
+            .filter(|&i| matches!(fleet.truck(i).unwrap().state, State::Decided(_)))
+            .count();
+        println!("round {k}: {decided} decided");
+    }
+    assert_eq!(fleet, Fleet::run(&recording)?);
+
+    // A recording cut short is refused, and says why.
+    println!("{}", list(&recording[..7]).unwrap_err());
+    Ok(())
+}

@@ -1,0 +1,82 @@
+//! Why an input is refused.
+
+use std::fmt;
+
+/// Why an input is refused. The number is that of the scope paper.
+#[derive(Clone, Copy, Debug, PartialEq, Eq, Hash)]
+pub enum Refusal {
+    /// A recording of fewer than 2 bytes.
+    ShortRecording = 1,
+    /// The number of trucks is 0 or above 32.
+    TruckCount = 2,
+    /// More than 400 rounds.
+    RoundCount = 3,
+    /// The byte length differs from the one that the two counts fix.
+    RecordingLength = 4,
+    /// A leftover end bit is 1.
+    EndBit = 5,
+    /// A truck's own loss bit is 1.
+    OwnLoss = 6,
+    /// A fleet record outside the limits, an opening above 15, or openings of another number than the trucks.
+    Record = 7,
+    /// Plain rounds of the wrong number of words, or a bit of a truck that isn't there.
+    PlainRound = 8,
+    /// A lent buffer is too short.
+    ShortBuffer = 9,
+    /// No roads, more than 16, or lists of unequal length.
+    RoadLists = 10,
+    /// Seconds above 3,600.
+    Seconds = 11,
+    /// Metres above 0 in 0 seconds.
+    NoTime = 12,
+    /// Every road idle.
+    AllIdle = 13,
+    /// A step with 400 rounds already done.
+    RoundsDone = 14,
+}
+
+impl Refusal {
+    const ALL: [Refusal; 14] = [
+        Refusal::ShortRecording,
+        Refusal::TruckCount,
+        Refusal::RoundCount,
+        Refusal::RecordingLength,
+        Refusal::EndBit,
+        Refusal::OwnLoss,
+        Refusal::Record,
+        Refusal::PlainRound,
+        Refusal::ShortBuffer,
+        Refusal::RoadLists,
+        Refusal::Seconds,
+        Refusal::NoTime,
+        Refusal::AllIdle,
+        Refusal::RoundsDone,
+    ];
+
+    /// The scope paper's number, 1 to 14.
+    pub fn number(self) -> u8 {
+        self as u8
+    }
+
+    /// The refusal of a number.
+    pub fn from_number(number: u8) -> Option<Refusal> {
+        Refusal::ALL.into_iter().find(|r| r.number() == number)
+    }
+
+    /// What a call of the library answered: 0 is no refusal, and no other number than 1 to 14 is answered.
+    pub(crate) fn check(answer: u32) -> Result<(), Refusal> {
+        if answer == 0 {
+            return Ok(());
+        }
+        let refusal = u8::try_from(answer).ok().and_then(Refusal::from_number);
+        Err(refusal.expect("an answer from 0 to 14"))
+    }
+}
+
+impl fmt::Display for Refusal {
+    fn fmt(&self, f: &mut fmt::Formatter<'_>) -> fmt::Result {
+        write!(f, "refused {}", self.number())
+    }
+}
+
+impl std::error::Error for Refusal {}

@@ -1,0 +1,30 @@
+//! The opening crusher.
+
+use crate::{ffi, Refusal};
+
+/// The crusher that a truck opens with: that of the road with the least exact travel time, the lowest number on a tie.
+///
+/// The lists have an entry for each road: its length in metres, the metres of the last run on it, and the seconds of that
+/// run (0 to 3,600). A road whose last run covered 0 metres is idle and passed over. Refusals: 10, 11, 12, 13.
+///
+/// ```
+/// // Both take 180 seconds.
+/// assert_eq!(rajvokshul::opening(&[1200, 900], &[600, 300], &[90, 60]), Ok(0));
+/// ```
+pub fn opening(lengths: &[u16], metres: &[u16], seconds: &[u16]) -> Result<u8, Refusal> {
+    let mut crusher = 0;
+    // SAFETY: the lists are valid for their lengths, and the crusher is a local.
+    let answer = unsafe {
+        ffi::rajvokshul_opening(
+            lengths.as_ptr(),
+            lengths.len(),
+            metres.as_ptr(),
+            metres.len(),
+            seconds.as_ptr(),
+            seconds.len(),
+            &mut crusher,
+        )
+    };
+    Refusal::check(answer)?;
+    Ok(crusher)
+}

@@ -1,0 +1,168 @@
+//! The scope paper's worked cases through the exported functions. What is expected is the paper's.
+
+use rajvokshul::*;
+
+const C1: [u8; 8] = [0x08, 0x04, 0x35, 0x30, 0x00, 0x03, 0x00, 0x00];
+const C2: [u8; 6] = [0x08, 0x02, 0x35, 0x31, 0x80, 0x00];
+const C3: [u8; 6] = [0x08, 0x02, 0x35, 0x3d, 0x80, 0x00];
+
+fn with_zeros(first: [u8; 2], zeros: usize) -> Vec<u8> {
+    let mut bytes = first.to_vec();
+    bytes.resize(2 + zeros, 0);
+    bytes
+}
+
+fn states(recording: &[u8]) -> Vec<(u8, State)> {
+    let fleet = Fleet::run(recording).unwrap();
+    let trucks = (0..usize::from(fleet.trucks())).map(|i| fleet.truck(i).unwrap());
+    trucks.map(|t| (t.estimate, t.state)).collect()
+}
+
+/// A refused recording answers its number everywhere.
+fn refused(recording: &[u8], refusal: Refusal) {
+    assert_eq!(list(recording), Err(refusal));
+    assert_eq!(Fleet::run(recording), Err(refusal));
+    assert_eq!(grade(recording), Err(refusal));
+    assert_eq!(read(recording), Err(refusal));
+}
+
+#[test]
+fn c1_decides_in_round_4() {
+    assert_eq!(
+        list(&C1).unwrap(),
+        "trucks 2 rounds 4\n0 opened 3 decided 3 round 4\n1 opened 5 decided 3 round 4\n"
+    );
+    let plain = read(&C1).unwrap();
+    assert_eq!((plain.rounds, &plain.openings[..]), (4, &[3, 5][..]));
+    assert_eq!(write(2, 4, &plain.openings, &plain.words).unwrap(), C1);
+
+    let mut fleet = Fleet::start(2, &plain.openings).unwrap();
+    fleet.step(plain.round(1).unwrap()).unwrap();
+    for i in 0..2 {
+        let t = fleet.truck(i).unwrap();
+        assert_eq!(
+            (t.estimate, t.mark, t.heard, t.state),
+            (3, false, Heard::Several, State::Running)
+        );
+    }
+    for k in 2..=4 {
+        fleet.step(plain.round(k).unwrap()).unwrap();
+    }
+    assert_eq!(fleet, Fleet::run(&C1).unwrap());
+    assert_eq!((fleet.trucks(), fleet.rounds_done()), (2, 4));
+    assert_eq!(fleet.truck(2), None);
+}
+
+#[test]
+fn c2_half_is_no_majority() {
+    assert_eq!(states(&C2), [(3, State::Decided(2)), (5, State::Decided(2))]);
+    assert_eq!(grade(&C2), Ok(Grades { complete: 1, majority: 1, zero: 0, accurate: 0 }));
+}
+
+#[test]
+fn c3_marked_trucks_keep_and_veto() {
+    assert_eq!(states(&C3), [(3, State::Running), (5, State::Running)]);
+}
+
+#[test]
+fn c4_and_c5_one_truck_and_no_rounds() {
+    assert_eq!(states(&[0x04, 0x02, 0x74, 0x00]), [(7, State::Decided(2))]);
+    assert_eq!(states(&[0x04, 0x02, 0x70, 0x00]), [(7, State::Running)]);
+    assert_eq!(states(&[0x08, 0x00, 0x35]), [(3, State::Running), (5, State::Running)]);
+}
+
+#[test]
+fn c6_and_c7_limits() {
+    assert_eq!(Fleet::run(&with_zeros([0x80, 0x00], 16)).unwrap().trucks(), 32);
+    refused(&with_zeros([0x84, 0x00], 17), Refusal::TruckCount);
+    assert_eq!(Fleet::run(&with_zeros([0x05, 0x90], 201)).unwrap().rounds_done(), 400);
+    refused(&with_zeros([0x05, 0x91], 201), Refusal::RoundCount);
+}
+
+#[test]
+fn c8_to_c10_damaged_recordings() {
+    refused(&[], Refusal::ShortRecording);
+    refused(&C1[..7], Refusal::RecordingLength);
+    refused(&[0x08, 0x02, 0x35, 0x31, 0x80, 0x01], Refusal::EndBit);
+    refused(&[0x08, 0x02, 0x35, 0x33, 0x80, 0x00], Refusal::OwnLoss);
+}
+
+#[test]
+fn c11_and_c12_roads() {
+    assert_eq!(opening(&[1200, 900], &[600, 300], &[90, 60]), Ok(0));
+    assert_eq!(opening(&[500, 900], &[0, 300], &[40, 60]), Ok(1));
+    assert_eq!(opening(&[500], &[0], &[40]), Err(Refusal::AllIdle));
+    assert_eq!(opening(&[500], &[1], &[0]), Err(Refusal::NoTime));
+    assert_eq!(opening(&[500], &[1], &[3601]), Err(Refusal::Seconds));
+    assert_eq!(opening(&[], &[], &[]), Err(Refusal::RoadLists));
+}
+
+#[test]
+fn c13_two_of_three_messages_are_a_majority() {
+    // All three are active in round 1, and truck 0 misses truck 2.
+    let recording = write(3, 1, &[1, 1, 1], &[0, 0b111, 0, 0b100, 0, 0]).unwrap();
+    assert_eq!(grade(&recording), Ok(Grades { complete: 1, majority: 0, zero: 0, accurate: 0 }));
+}
+
+#[test]
+fn short_buffers_are_refused_and_unchanged() {
+    let mut text = [0xee; 8];
+    assert_eq!(list_into(&C1, &mut text), Err(Refusal::ShortBuffer));
+    assert_eq!(text, [0xee; 8]);
+    let (mut openings, mut words) = ([0xee; 2], [7; 19]);
+    assert_eq!(read_into(&C1, &mut openings, &mut words), Err(Refusal::ShortBuffer));
+    assert_eq!((openings, words), ([0xee; 2], [7; 19]));
+    let mut bytes = [0xee; 7];
+    assert_eq!(write_into(2, 4, &[3, 5], &[0; 20], &mut bytes), Err(Refusal::ShortBuffer));
+    assert_eq!(bytes, [0xee; 7]);
+}
+
+#[test]
+fn longer_buffers_keep_the_rest() {
+    let (mut openings, mut words) = ([0xee; 3], [7; 21]);
+    assert_eq!(read_into(&C1, &mut openings, &mut words), Ok((2, 4)));
+    assert_eq!((openings[2], words[20]), (0xee, 7));
+    let mut bytes = [0xee; 9];
+    assert_eq!(write_into(2, 4, &openings[..2], &words[..20], &mut bytes), Ok(8));
+    assert_eq!((&bytes[..8], bytes[8]), (&C1[..], 0xee));
+}
+
+#[test]
+fn counts_that_fit_no_record() {
+    // 258 is 2 and 65,540 is 4 in the library's own types.
+    assert_eq!(Fleet::start(258, &[3, 5]), Err(Refusal::TruckCount));
+    assert_eq!(write(258, 4, &[3, 5], &[0; 20]), Err(Refusal::TruckCount));
+    assert_eq!(write(2, 65_540, &[3, 5], &[0; 20]), Err(Refusal::RoundCount));
+    assert_eq!(write(0, 65_540, &[3, 5], &[0; 20]), Err(Refusal::TruckCount));
+}
+
+#[test]
+fn refused_steps_leave_the_record() {
+    let mut fleet = Fleet::start(2, &[3, 5]).unwrap();
+    let before = fleet.clone();
+    assert_eq!(fleet.step(&[0; 4]), Err(Refusal::PlainRound));
+    assert_eq!(fleet.step(&[0, 0b100, 0, 0, 0]), Err(Refusal::PlainRound));
+    assert_eq!(fleet.step(&[0, 0, 0, 0b01, 0]), Err(Refusal::OwnLoss));
+    assert_eq!(fleet, before);
+    for _ in 0..400 {
+        fleet.step(&[0; 5]).unwrap();
+    }
+    assert_eq!(fleet.step(&[0; 4]), Err(Refusal::RoundsDone));
+    assert_eq!(fleet.rounds_done(), 400);
+}
+
+#[test]
+fn bytes_that_are_no_record() {
+    let mut bytes = *Fleet::start(2, &[3, 5]).unwrap().as_bytes();
+    // Places of trucks that aren't there are neither judged nor changed.
+    bytes[17..].fill(0xee);
+    let mut fleet = Fleet::from_bytes(bytes);
+    fleet.step(&[0; 5]).unwrap();
+    assert_eq!(fleet.as_bytes()[17..], bytes[17..]);
+    // A state that no truck has.
+    bytes[7] = 3;
+    let mut fleet = Fleet::from_bytes(bytes);
+    assert_eq!(fleet.truck(0), None);
+    assert_eq!(fleet.step(&[0; 5]), Err(Refusal::Record));
+    assert_eq!(fleet.as_bytes(), &bytes);
+}

@@ -1,4 +1,6 @@
-# The Rust tests: the independent reading of document 01 tested by itself.
+# From outside the proofs: the archive for other languages, the Rust tests (the independent reading of document 01, its comparison with the library, the safe crate), and the examples.
+build() { rt staticlib ffi > /dev/null 2>&1; }
+expect "rt staticlib ffi" build
 log=$(mktemp)
 (cd rust && cargo test --offline --release) > "$log" 2>&1
 status=$?
@@ -9,3 +11,23 @@ done < <(sed -nE 's/^test result: .* ([0-9]+) passed; ([0-9]+) failed;.*/\1 \2/p
 expect "cargo test's exit status" test "$status" -eq 0
 [ "$status" -eq 0 ] || grep -E '^error|FAILED|panicked' "$log" | head -n 20
 rm -f "$log"
+
+# The examples print case C1's listing, and the opening of case C12.
+shows_c1() { # OUTPUT
+    grep -qx 'opening 1' "$1" && grep -A 2 -x 'trucks 2 rounds 4' "$1" | cmp -s - tests/cases/c01.out
+}
+out=$(mktemp -d)
+(cd rust && cargo run --offline --release -q -p rajvokshul --example quarry) > "$out/rust" 2>&1
+expect "the Rust example" shows_c1 "$out/rust"
+cc -std=c99 -Wall -Wextra -Werror -Ic c/example.c target/staticlib/libffi.a -o "$out/example" && "$out/example" > "$out/c"
+expect "the C example" shows_c1 "$out/c"
+
+# Memory: the program and the archive under valgrind.
+clean() { valgrind -q --error-exitcode=9 "$@" > /dev/null 2>&1; }
+expect "the C example under valgrind" clean "$out/example"
+for case in c01 c02 c07-400 c10 empty; do
+    expect "the program under valgrind on $case" clean target/bin/replay < <(bytes_of "tests/cases/$case.hex")
+done
+compare=$(ls -t rust/target/release/deps/compare-* 2> /dev/null | grep -v '\.d$' | head -n 1)
+expect "the comparison under valgrind" clean "$compare" --test-threads=1 small_set
+rm -rf "$out"

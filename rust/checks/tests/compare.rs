@@ -355,3 +355,19 @@ fn case_13() {
     assert_eq!(checks::grade(&bytes[..written], &mut grades), 0);
     assert_eq!(grades, [1, 0, 0, 0]);
 }
+
+/// A few inputs of each kind, for a run under a memory checker.
+#[test]
+fn small_set() {
+    let mut rng = Rng::new(14);
+    for k in 0..120 {
+        whole(&gen::recording(&mut rng, if k % 40 == 0 { SMALL } else { TINY }));
+        whole(&gen::damaged(&mut rng, TINY, 1 + (k % 6) as u8).bytes);
+        let f = gen::record(&mut rng);
+        let words = a_round(&mut rng, usize::from(f.n), usize::from(f.done) + 1);
+        step_both(&f, &words);
+    }
+    for header in [[0x81, 0x90], [0x82, 0x10], [0x00, 0x00], [0xFF, 0xFF]] {
+        whole(&header);
+    }
+}

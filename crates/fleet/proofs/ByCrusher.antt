@@ -6,12 +6,12 @@ use Prim.Native.Nat.{ℕ, zero, suc, _^_, _≤_, _<_}
 use native.Mathlib.Decide.{decLt}
 use native.Mathlib.Omega.{arith}
 use borrow.Author.Tests.{eq-eqb, ne-eqb, eqb-true, eqb-false, lt-ltb, not-true}
-use lib.Bits.{bitXor, and-le-l, xor-lt}
+use lib.Bits.{bitXor, and-le-l, xor-lt, bitAnd, and-zero-l}
 use lib.Dec.{eqb}
 use lib.ListN.{getD}
 use Rattle.basics.specs.Bits.{bit}
 use Rattle.basics.specs.Lists.{who, first}
-use Rattle.basics.proofs.Laws.{and-left, and-right, first-le, first-before, first-at}
+use Rattle.basics.proofs.Laws.{and-left, and-right, first-le, first-before, first-at, first-all}
 use Rattle.air.specs.Air.{heard}
 use Rattle.words.proofs.Words.{bit-and, bit-xor, bit-zero, some-bit, oneOf}
 use Rattle.protocol.specs.declared.Heard.{Heard}
@@ -30,6 +30,12 @@ values-hit values heard e c l h = rw (h, lt-ltb c 16 l)
 pub values-none : (values : List ℕ) (heard e : ℕ) → first (wasHeard values heard) 16 ≡ 16 → valuesOf values heard e ≡ record { heard = Nothing; least = e }
 unfolding valuesOf
 values-none values heard e h = rw h
+
+-- nobody was heard
+pub values-silent : (values : List ℕ) (heard e : ℕ) → heard ≡ 0 → valuesOf values heard e ≡ record { heard = Nothing; least = e }
+values-silent values heard e z =
+    values-none values heard e (first-all (wasHeard values heard) 16
+    (λ c l. ap not (eq-eqb (sentHere values heard c) 0 (ap (λ (w : ℕ). bitAnd w (getD values c 0)) z ∙ and-zero-l (getD values c 0)))))
 
 least-le : (e : ℕ) (vs : List ℕ) (u : ℕ) → List·Memᴰ u vs → leastOr e vs ≤ u
 unfolding leastOr

@@ -2,8 +2,8 @@
 use mathlib.Core.Path.{_≡_, refl, ap, ap₂, sym, subst, subst₂, _∙_}
 use mathlib.Core.Bool.{Bool, true, false, cond, true≢false, false≢true}
 use mathlib.Core.List.{List, []}
-use Prim.Native.Nat.{ℕ, suc, _+_, _*_, _^_, _≤_, _<_, min}
-use native.Mathlib.Nat.{add-mul, mul-le-mul}
+use Prim.Native.Nat.{ℕ, zero, suc, _+_, _*_, _^_, _≤_, _<_, min}
+use native.Mathlib.Nat.{add-zero, add-mul, mul-le-mul}
 use native.Mathlib.Numerals.{add-one}
 use native.Mathlib.Omega.{arith}
 use borrow.Author.Tests.{eqb-true}
@@ -264,9 +264,9 @@ module _ (s : List ℕ) (at : ℕ) (judging : Bool) (c : Course) (reached : Reac
             lost = λ i l r. absurd (false≢true (sym (rw (nobody i l)) ∙ r));
           }
 
-      pub idle-done : Moved s at judging c (counted c)
+      idle-done : Moved s at judging c (counted c 1)
       idle-done =
-          moved (counted c .roster) (c .grades) (sym (idle-next f w (omega (arith, ready .places, few-trucks)) nobody)) (record { running = reached .kept .running; vetoing = reached .kept .vetoing })
+          moved (counted c 1 .roster) (c .grades) (sym (idle-next f w (omega (arith, ready .places, few-trucks)) nobody)) (record { running = reached .kept .running; vetoing = reached .kept .vetoing })
           (sym (same judging (ap (λ (v : Verdict). carriedAll (c .grades) v k) (sym (verdict-starts air 0 0 0 [] silent ∙ verdict-done air 0 0 0 [] silent 0 refl)) ∙ carried-all (c .grades) k)))
         where
           same : (b : Bool) {x y : Grades} → x ≡ y → cond b x y ≡ y
@@ -278,6 +278,21 @@ pub finished : (s : List ℕ) (at left : ℕ) (judging : Bool) (c : Course) → 
 finished s at left judging c reached rest none =
     let e : c .roster .fleet .done ≡ roundsOf s = omega arith in
     record { fleet = reached .fleet ∙ ap (fleetAfter s) e; marks = reached .marks ∙ ap (gradesAfter s judging) e }
+
+-- nobody runs in those that are left
+pub idle-rest : (left : ℕ) (s : List ℕ) (at : ℕ) (judging : Bool) (c : Course) → Reached s at judging c → c .roster .running ≡ 0 → c .roster .fleet .done + left ≡ roundsOf s
+    → Finished s judging (counted c left)
+idle-rest zero s at judging c reached none rest =
+    subst (λ (k : ℕ). Finished s judging (record {
+      roster = record { fleet = record { n = c .roster .fleet .n; done = k; trucks = c .roster .fleet .trucks }; running = c .roster .running; vetoing = c .roster .vetoing };
+      grades = c .grades;
+    })) (sym (add-zero (c .roster .fleet .done))) (finished s at 0 judging c reached rest refl)
+idle-rest (suc left) s at judging c reached none rest =
+    subst (λ (k : ℕ). Finished s judging (record {
+      roster = record { fleet = record { n = c .roster .fleet .n; done = k; trucks = c .roster .fleet .trucks }; running = c .roster .running; vetoing = c .roster .vetoing };
+      grades = c .grades;
+    })) (let e : c .roster .fleet .done + 1 + left ≡ c .roster .fleet .done + suc left = omega arith in e)
+    (idle-rest left s _ judging (counted c 1) (idle-done s at judging c reached (omega arith) none .next) none (omega arith))
 
 -- the size of a round
 pub round-size : (n : ℕ) → n ≤ 32 → (3 + n) * n ≤ 35 * 32

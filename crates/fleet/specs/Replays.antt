@@ -30,12 +30,12 @@ fleetAfter s k = fleetAt (trucksOf s) (openingsOf s) (roundAt s) k
 unfoldable pub gradesAfter : List ℕ → Bool → ℕ → Grades
 gradesAfter s judging k = cond judging (gradesOf (trucksOf s) (openingsOf s) (roundAt s) k) noGrades
 
--- a round in which nobody runs
-abbrev pub counted : Course → Course
-counted c =
+-- some rounds in which nobody runs
+abbrev pub counted : Course → ℕ → Course
+counted c m =
     record {
       roster = record {
-        fleet = record { n = c .roster .fleet .n; done = c .roster .fleet .done + 1; trucks = c .roster .fleet .trucks };
+        fleet = record { n = c .roster .fleet .n; done = c .roster .fleet .done + m; trucks = c .roster .fleet .trucks };
         running = c .roster .running;
         vetoing = c .roster .vetoing;
       };

@@ -76,6 +76,12 @@ fn count(heard: u32, here: u32) -> Heard
 pub(crate) fn values_of(values: &[u32; 16], heard: u32, estimate: u8) -> Values
     ensures { λ r. ⌜ r ≡ valuesOf (now (values .entry)) heard estimate ⌝ }
 {
+    if heard == 0 {
+        return Values {
+            heard: Heard::Nothing,
+            least: estimate,
+        };
+    }
     let mut c = 0;
     while c < 16 {
         let here = heard & values[c];

@@ -52,12 +52,12 @@ fn rows_at(s: &[u8], at: usize, n: usize, among: u32) -> [u32; 32]
     rows
 }
 
-// A round in which nobody runs: only the count rises.
-fn count_round(c: Course) -> Course
-    requires { ⌜ c .roster .fleet .done < 400 ⌝ }
-    ensures { λ r. ⌜ r ≡ counted c ⌝ }
+// The rounds left, where nobody runs any more: only the count rises.
+fn pass_over(c: Course, left: u16) -> Course
+    requires { ⌜ c .roster .fleet .done + left ≤ 400 ⌝ }
+    ensures { λ r. ⌜ r ≡ counted c left ⌝ }
 {
-    let done = c.roster.fleet.done + 1;
+    let done = c.roster.fleet.done + left;
     let mut next = c;
     next.roster.fleet.done = done;
     next
@@ -89,20 +89,16 @@ fn propose(s: &[u8], at: usize, judging: bool, c: Course) -> Course
     requires { ⌜ Reached (now s) at judging c × (c .roster .fleet .done < roundsOf (now s)) × (odd (c .roster .fleet .done) ≡ false) ⌝ }
     ensures { λ q. ⌜ Moved (now (s .entry)) at judging c q ⌝ }
 {
-    let r = c.roster;
-    let running = r.running;
-    if running == 0 {
-        return count_round(c);
-    }
-    let n = r.fleet.n as usize;
-    let k = r.fleet.done + 1;
+    let running = c.roster.running;
+    let n = c.roster.fleet.n as usize;
+    let k = c.roster.fleet.done + 1;
     let stop = bitreader::row_at(s, at, n);
     let active = bitreader::row_at(s, at + n, n);
     let mark = bitreader::row_at(s, at + 2 * n, n);
     let going = running ^ (running & stop);
     let rows = rows_at(s, at + 3 * n, n, listeners(going, going & active));
     let grades = grades_after(judging, c.grades, k, running, active, stop, mark, &rows);
-    let roster = proposal_round(r, stop, active, mark, &rows);
+    let roster = proposal_round(c.roster, stop, active, mark, &rows);
     Course { roster, grades }
 }
 
@@ -111,19 +107,16 @@ fn veto(s: &[u8], at: usize, judging: bool, c: Course) -> Course
     requires { ⌜ Reached (now s) at judging c × (c .roster .fleet .done < roundsOf (now s)) × (odd (c .roster .fleet .done) ≡ true) ⌝ }
     ensures { λ q. ⌜ Moved (now (s .entry)) at judging c q ⌝ }
 {
-    let r = c.roster;
-    let running = r.running;
-    if running == 0 {
-        return count_round(c);
-    }
-    let n = r.fleet.n as usize;
-    let k = r.fleet.done + 1;
+    let running = c.roster.running;
+    let vetoing = c.roster.vetoing;
+    let n = c.roster.fleet.n as usize;
+    let k = c.roster.fleet.done + 1;
     let stop = bitreader::row_at(s, at, n);
     let mark = bitreader::row_at(s, at + 2 * n, n);
     let going = running ^ (running & stop);
-    let rows = rows_at(s, at + 3 * n, n, listeners(going, going & r.vetoing));
-    let grades = grades_after(judging, c.grades, k, running, r.vetoing, stop, mark, &rows);
-    let roster = veto_round(r, stop, mark, &rows);
+    let rows = rows_at(s, at + 3 * n, n, listeners(going, going & vetoing));
+    let grades = grades_after(judging, c.grades, k, running, vetoing, stop, mark, &rows);
+    let roster = veto_round(c.roster, stop, mark, &rows);
     Course { roster, grades }
 }
 
@@ -134,6 +127,9 @@ fn proposals(s: &[u8], at: usize, left: u16, judging: bool, c: Course) -> Course
 {
     if left == 0 {
         return c;
+    }
+    if c.roster.running == 0 {
+        return pass_over(c, left);
     }
     let n = c.roster.fleet.n as usize;
     let q = propose(s, at, judging, c);
@@ -147,6 +143,9 @@ fn vetoes(s: &[u8], at: usize, left: u16, judging: bool, c: Course) -> Course
 {
     if left == 0 {
         return c;
+    }
+    if c.roster.running == 0 {
+        return pass_over(c, left);
     }
     let n = c.roster.fleet.n as usize;
     let q = veto(s, at, judging, c);

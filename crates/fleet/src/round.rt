@@ -92,8 +92,8 @@ pub(crate) fn proposal_round(
     let running = r.running;
     let going = running ^ (running & stop);
     let senders = going & active;
+    let values = by_crusher(r.fleet, senders);
     let mut fleet = r.fleet;
-    let values = by_crusher(fleet, senders);
     let round = fleet.done + 1;
     fleet.done = round;
     let mut vetoing = 0;

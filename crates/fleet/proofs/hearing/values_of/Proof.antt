@@ -1,6 +1,4 @@
 -- `values_of` meets its contract.
-use Rattle.fleet.specs.Sets.{wasHeard}
-use Rattle.fleet.proofs.ByCrusher.{values-hit, values-none}
 use mathlib.Core.Path.{_≡_, ap, sym, _∙_}
 use mathlib.Core.Bool.{not}
 use Prim.Native.Nat.{_≤_, _-_}
@@ -9,7 +7,9 @@ use native.Mathlib.Numerals.{add-one}
 use borrow.Author.Tests.{ne-eqb, eq-eqb}
 use Rattle.basics.specs.Lists.{first}
 use Rattle.basics.proofs.Laws.{first-none, first-on}
+use Rattle.fleet.specs.Sets.{wasHeard}
 use Rattle.fleet.proofs.Laws.{first-found}
+use Rattle.fleet.proofs.ByCrusher.{values-hit, values-none, values-silent}
 use borrow.Author.Needs.{needs}
 use Rattle.fleet.proofs.hearing.values_of.Statement.{statement}
 use Rattle.fleet.proofs.hearing.values_of.Tie as tie
@@ -20,8 +20,11 @@ Inv-loop values heard estimate c₀ c = (c ≤ 16) × (first (wasHeard values he
 abbrev μ-loop : tie.MeasureT-loop
 μ-loop values heard estimate c₀ c = 16 - c
 
+returns : tie.Need-returns Inv-loop μ-loop
+returns c = let a = c .before .args in sym (values-silent (a .values .now) (a .heard) (a .estimate) (c .if1 .taken))
+
 loop-holds : tie.Need-loop-holds Inv-loop μ-loop
-loop-holds c = (search needs, first-none (wasHeard (c .args .values .now) (c .args .heard)))
+loop-holds c = (search needs, first-none (wasHeard (c .before .args .values .now) (c .before .args .heard)))
 
 mul-here : tie.Need-mul-here Inv-loop μ-loop
 mul-here c = search needs
@@ -32,16 +35,16 @@ element-copy-out-here c = search needs
 count-requires : tie.Need-count-requires Inv-loop μ-loop
 count-requires c κs = search needs
 
-cast-t12 : tie.Need-cast-t12 Inv-loop μ-loop
-cast-t12 c = search needs
+cast-t14 : tie.Need-cast-t14 Inv-loop μ-loop
+cast-t14 c = search needs
 
-returns : tie.Need-returns Inv-loop μ-loop
-returns c =
-    let a = c .before .before .before .before .before .args in
+returns-2 : tie.Need-returns-2 Inv-loop μ-loop
+returns-2 c =
+    let a = c .before .before .before .before .before .before .args in
     let i = c .before .before .before .before .loop in
     rw (c .count .ensures)
     (sym (values-hit (a .values .now) (a .heard) (a .estimate) (i .c) (c .before .before .before .loop-test .taken)
-    (first-found (wasHeard (a .values .now) (a .heard)) 16 (i .c) (c .before .before .before .loop-test .taken) (i .inv .1) (ap not (ne-eqb _ 0 (c .before .if1 .taken))))))
+    (first-found (wasHeard (a .values .now) (a .heard)) 16 (i .c) (c .before .before .before .loop-test .taken) (i .inv .1) (ap not (ne-eqb _ 0 (c .before .if2 .taken))))))
 
 add-c : tie.Need-add-c Inv-loop μ-loop
 add-c c = search needs
@@ -51,13 +54,13 @@ loop-less c = search needs
 
 loop-again : tie.Need-loop-again Inv-loop μ-loop
 loop-again c =
-    let a = c .before .before .before .before .args in
+    let a = c .before .before .before .before .before .args in
     let i = c .before .before .before .loop in
-    (search needs, ap (first (wasHeard (a .values .now) (a .heard))) (add-one (i .c)) ∙ first-on (wasHeard (a .values .now) (a .heard)) (i .c) (i .inv .1) (ap not (eq-eqb _ 0 (c .if1 .left))) ∙ sym (add-one (i .c)))
+    (search needs, ap (first (wasHeard (a .values .now) (a .heard))) (add-one (i .c)) ∙ first-on (wasHeard (a .values .now) (a .heard)) (i .c) (i .inv .1) (ap not (eq-eqb _ 0 (c .if2 .left))) ∙ sym (add-one (i .c)))
 
-returns-2 : tie.Need-returns-2 Inv-loop μ-loop
-returns-2 c =
-    let a = c .before .before .args in
+returns-3 : tie.Need-returns-3 Inv-loop μ-loop
+returns-3 c =
+    let a = c .before .before .before .args in
     let i = c .before .loop in
     let e : i .c ≡ 16 = omega (arith, i .inv .0, c .loop-test .left) in
     sym (values-none (a .values .now) (a .heard) (a .estimate) (ap (first (wasHeard (a .values .now) (a .heard))) (sym e) ∙ i .inv .1 ∙ e))
@@ -68,13 +71,14 @@ values-of-spec =
     (tie.spec
     Inv-loop
     μ-loop
+    returns
     loop-holds
     mul-here
     element-copy-out-here
     count-requires
-    cast-t12
-    returns
+    cast-t14
+    returns-2
     add-c
     loop-less
     loop-again
-    returns-2)
+    returns-3)

@@ -18,15 +18,15 @@ use Rattle.fleet.proofs.round.proposal_round.Statement.{statement}
 use Rattle.fleet.proofs.round.proposal_round.Tie as tie
 
 abbrev Inv-loop : tie.InvT-loop
-Inv-loop stop active mark rows running going senders fleet₀ values round vetoing₀ left₀ fleet vetoing left =
+Inv-loop stop active mark rows running going senders values fleet₀ round vetoing₀ left₀ fleet vetoing left =
     Going (fleet₀ .n) round (fleet₀ .trucks) (rule (fleet₀ .n) round stop active mark rows (fleet₀ .trucks)) running vetoes fleet vetoing left
 
 abbrev μ-loop : tie.MeasureT-loop
-μ-loop stop active mark rows running going senders fleet₀ values round vetoing₀ left₀ fleet vetoing left = left
+μ-loop stop active mark rows running going senders values fleet₀ round vetoing₀ left₀ fleet vetoing left = left
 
 by-crusher-requires : tie.Need-by-crusher-requires Inv-loop μ-loop
 by-crusher-requires c κs =
-    let s = c .before in
+    let s = c in
     let a = s .args in
     let f = a .r .fleet in
     (s .pre .0 .most, proposers (f .n) (f .done + 1) (roundOf (a .stop) (a .active) (a .mark) (a .rows .now)) (f .trucks) (a .r .running) (s .pre .0 .kept .running) (s .pre .1) .below, s .pre .0 .small)
@@ -93,7 +93,7 @@ loop-again c =
     let i = c .before .before .before .before .before .before .before .before .lowest .result in
     let h = c .before .before .before .before .before .before .before .before .lowest .ensures .1 in
     let sent = bitAnd (bitXor (a .r .running) (bitAnd (a .r .running) (a .stop))) (a .active) in
-    let values = c .before .before .before .before .before .before .before .before .before .before .before .by-crusher .result in
+    let values = c .before .before .before .before .before .before .before .before .before .before .before .before .by-crusher .result in
     let senders = proposers (f .n) k (roundOf (a .stop) (a .active) (a .mark) (a .rows .now)) (f .trucks) (a .r .running) known (s .pre .1) in
     let same = going-truck (f .n) k (f .trucks) new (a .r .running) vetoes (known .below) g i h in
     going-more (f .n) k (f .trucks) new (a .r .running) vetoes (known .below) g i h (omega (arith, s .pre .0 .places, s .pre .0 .most)) (c .before .before .before .after .result) (c .before .before .vetoes .result)
@@ -101,7 +101,7 @@ loop-again c =
     (c .before .before .before .after .ensures
     ∙ ap₂ (turned k) (c .before .before .before .before .proposal-event .ensures ∙ ap (λ (t : Truck). proposalEvent (a .stop) (a .mark) sent (getD (a .rows .now) i 0) i values (t .estimate)) same) same
     ∙ proposal-turn (f .n) k (a .stop) (a .active) (a .mark) (a .rows .now) (f .trucks) i sent (going-below (f .n) k (f .trucks) new (a .r .running) vetoes (known .below) g i h) senders
-    values (s .pre .1) (c .before .before .before .before .before .before .before .before .before .before .before .by-crusher .ensures) (s .pre .0 .small))
+    values (s .pre .1) (c .before .before .before .before .before .before .before .before .before .before .before .before .by-crusher .ensures) (s .pre .0 .small))
     (c .before .before .vetoes .ensures) (c .before .joined .ensures) (c .without .ensures)
 
 returns : tie.Need-returns Inv-loop μ-loop

@@ -1,14 +1,15 @@
 -- Laws of a record as bytes: one for each place of the code that they serve.
-use mathlib.Core.Path.{_≡_, refl, ap, sym, _∙_}
+use mathlib.Core.Path.{_≡_, refl, ap, ap₂, sym, _∙_}
 use mathlib.Core.Bool.{Bool, true, false, _&&_, _||_}
-use mathlib.Core.List.{List, []}
-use Prim.Native.Nat.{ℕ, _+_, _*_, _-_, _/_, _%_, _≤_, _<_}
-use native.Mathlib.Numerals.{add-one}
+use mathlib.Core.List.{List, [], _∷_}
+use Prim.Native.Nat.{ℕ, zero, suc, _+_, _*_, _-_, _/_, _%_, _≤_, _<_}
+use native.Mathlib.Nat.{add-zero}
+use native.Mathlib.Numerals.{add-one, towards-suc}
 use native.Mathlib.Decide.{decLt}
 use native.Mathlib.Omega.{arith}
 use lib.Dec.{eqb, ltb}
 use lib.ListN.{length, getD, set}
-use lib.Seq.{ext-getD}
+use lib.Seq.{ext-getD, sets}
 use mir.Val.{boolByte}
 use borrow.Author.Tests.{lt-ltb, le-ltb, ltb-false}
 use Rattle.basics.specs.Lists.{filled, someBelow}
@@ -27,25 +28,18 @@ use Rattle.protocol.specs.declared.Answer.{Answer}
 use Rattle.protocol.specs.Rules.{truck, opened}
 use Rattle.protocol.specs.Runs.{openedTrucks}
 use Rattle.protocol.specs.Fleets.{blank}
-use Rattle.record.specs.Layout.{markByte, roundOf, truckBytes, recordByte, sizeFor, packCheck, packFor, packedRecord, packedWhole, heardOf, stateOf, pairOf, placeByte, placeRound, truckAt, damagedAt, damaged, recordOf, noRecord, unpacked}
+use Rattle.record.specs.Layout.{markByte, heardByte, stateByte, roundOf, truckBytes, recordByte, sizeFor, packCheck, packFor, packedRecord, packedWhole, heardOf, stateOf, pairOf, placeByte, placeRound, truckAt, damagedAt, damaged, recordOf, noRecord, unpacked}
 
--- ---- the bytes of a truck that are computed
+-- ---- the bytes of a truck
 
-pub byte-mark : (t : Truck) (j : ℕ) → j ≡ 2 → boolByte (t .mark) ≡ getD (truckBytes t) j 0
-byte-mark t j e = go (t .mark) ∙ ap (λ (k : ℕ). getD (truckBytes t) k 0) (sym e)
+pub truck-put : (d : List ℕ) (at : ℕ) (t : Truck) (h s r : ℕ) → h ≡ heardByte (t .heard) → s ≡ stateByte (t .state) → r ≡ roundOf (t .state)
+    → set (set (set (set (set (set (set d at (t .opening)) (at + 1) (t .estimate)) (at + 2) (boolByte (t .mark))) (at + 3) h) (at + 4) s) (at + 5) (r % 256)) (at + 6) (r / 256)
+    ≡ sets d at (truckBytes t)
+truck-put d at t h s r eh es er = simp (mark-byte (t .mark), eh, es, er, towards-suc)
   where
-    go : (b : Bool) → boolByte b ≡ markByte b
-    go true = refl
-    go false = refl
-
-pub byte-low : (t : Truck) (j k : ℕ) → j ≡ 5 → k ≡ roundOf (t .state) → k % 256 ≡ getD (truckBytes t) j 0
-byte-low t j k e h = ap (λ (x : ℕ). x % 256) h ∙ ap (λ (x : ℕ). getD (truckBytes t) x 0) (sym e)
-
-pub byte-high : (t : Truck) (j k : ℕ) → j ≡ 6 → k ≡ roundOf (t .state) → k / 256 ≡ getD (truckBytes t) j 0
-byte-high t j k e h = ap (λ (x : ℕ). x / 256) h ∙ ap (λ (x : ℕ). getD (truckBytes t) x 0) (sym e)
-
-pub last-byte : (j : ℕ) → j < 7 → (j ≡ 0 → ⊥) → (j ≡ 1 → ⊥) → (j ≡ 2 → ⊥) → (j ≡ 3 → ⊥) → (j ≡ 4 → ⊥) → (j ≡ 5 → ⊥) → j ≡ 6
-last-byte j h a b c d e f = omega arith
+    mark-byte : (b : Bool) → boolByte b ≡ markByte b
+    mark-byte true = refl
+    mark-byte false = refl
 
 -- ---- a loop that fills a list from the front
 
@@ -70,6 +64,18 @@ filled-over z g d k m h l =
         ∙ getD-filled-past g k d i z (omega arith)
         ∙ sym (getD-filled-past g m d i z (omega arith))
 
+-- a run of stores that goes on with it
+pub fill-sets {ℓ} : {A : Type ℓ} (z : A) (g : ℕ → A) (d vs l : List A) (i : ℕ) → l ≡ filled g i d → i + length vs ≤ length d → ((j : ℕ) → j < length vs → getD vs j z ≡ g (i + j))
+    → sets l i vs ≡ filled g (i + length vs) d
+fill-sets z g d [] l i e h same = e ∙ ap (λ (k : ℕ). filled g k d) (sym (add-zero i))
+fill-sets z g d (v ∷ vs) l i e h same =
+    let first : v ≡ g i = same 0 (omega arith) ∙ ap g (add-zero i) in
+    fill-sets z g d vs (set l i v) (suc i)
+    (ap (λ (k : List _). set k i v) e ∙ filled-more g i d v (omega arith) first)
+    (omega arith)
+    (λ j l. same (suc j) (omega arith) ∙ ap g (omega arith))
+    ∙ ap (λ (k : ℕ). filled g k d) (let s : suc i + length vs ≡ i + suc (length vs) = omega arith in s)
+
 -- ---- the bytes of a record
 
 pub place-byte : (f : Fleet) (q : ℕ) → getD (truckBytes (truck (f .trucks) (q / 7))) (q % 7) 0 ≡ recordByte f (3 + q)
@@ -78,36 +84,53 @@ place-byte f q =
     let e : 3 + q - 3 ≡ q = omega arith in
     rw (le-ltb (3 + q) 3 (omega arith), e)
 
--- the buffer d with a record's head in it
-abbrev pub headed : Fleet → List ℕ → List ℕ
-headed f d = set (set (set d 0 (f .n)) 1 (f .done % 256)) 2 (f .done / 256)
+-- byte j of place i
+pub byte-of-place : (f : Fleet) (i j : ℕ) → j < 7 → getD (truckBytes (truck (f .trucks) i)) j 0 ≡ recordByte f (sizeFor i + j)
+byte-of-place f i j h =
+    let q : (7 * i + j) / 7 ≡ i = omega arith in
+    let r : (7 * i + j) % 7 ≡ j = omega arith in
+    let e : 3 + (7 * i + j) ≡ sizeFor i + j = omega arith in
+    sym (ap₂ (λ (a b : ℕ). getD (truckBytes (truck (f .trucks) a)) b 0) q r) ∙ place-byte f (7 * i + j) ∙ ap (recordByte f) e
 
--- a loop that puts the places: what the buffer l holds after q bytes of them
+-- a record's head
+abbrev headBytes : Fleet → List ℕ
+headBytes f = f .n ∷ f .done % 256 ∷ f .done / 256 ∷ []
+
+-- the buffer d with it
+abbrev pub headed : Fleet → List ℕ → List ℕ
+headed f d = sets d 0 (headBytes f)
+
+-- a loop that puts the places: what the buffer l holds after i of them
 module _ (f : Fleet) (d : List ℕ) (room : sizeFor 32 ≤ length d) where
   head-filled : headed f d ≡ filled (recordByte f) 3 d
   unfolding recordByte
-  head-filled =
-      let one : set d 0 (f .n) ≡ filled (recordByte f) 1 d = fill-step (recordByte f) d d 0 (sym (filled-none (recordByte f) d)) (f .n) (omega arith) refl in
-      let two : set (set d 0 (f .n)) 1 (f .done % 256) ≡ filled (recordByte f) 2 d = fill-step (recordByte f) d (set d 0 (f .n)) 1 one (f .done % 256) (omega arith) refl in
-      fill-step (recordByte f) d (set (set d 0 (f .n)) 1 (f .done % 256)) 2 two (f .done / 256) (omega arith) refl
+  head-filled = fill-sets 0 (recordByte f) d (headBytes f) d 0 (sym (filled-none (recordByte f) d)) (omega arith) same
+    where
+      same : (j : ℕ) → j < 3 → getD (headBytes f) j 0 ≡ recordByte f (0 + j)
+      same zero h = refl
+      same (suc zero) h = refl
+      same (suc (suc zero)) h = refl
+      same (suc (suc (suc j))) h = absurd (omega arith)
 
-  over-head : (q : ℕ) → q ≤ 7 * 32 → filled (recordByte f) (3 + q) (headed f d) ≡ filled (recordByte f) (3 + q) d
-  over-head q h = rw head-filled (filled-over 0 (recordByte f) d 3 (3 + q) (omega arith) (omega arith))
+  over-head : (i : ℕ) → i ≤ 32 → filled (recordByte f) (sizeFor i) (headed f d) ≡ filled (recordByte f) (sizeFor i) d
+  over-head i h = rw head-filled (filled-over 0 (recordByte f) d 3 (sizeFor i) (omega arith) (omega arith))
 
-  pub put-holds : headed f d ≡ filled (recordByte f) (3 + 0) (headed f d)
+  pub put-holds : headed f d ≡ filled (recordByte f) (sizeFor 0) (headed f d)
   put-holds = head-filled ∙ sym (over-head 0 (omega arith))
 
-  module _ (l : List ℕ) (q : ℕ) (few : q ≤ 7 * 32) (now : l ≡ filled (recordByte f) (3 + q) (headed f d)) where
-    pub put-now : l ≡ filled (recordByte f) (3 + q) d
-    put-now = now ∙ over-head q few
+  module _ (l : List ℕ) (i : ℕ) (few : i ≤ 32) (now : l ≡ filled (recordByte f) (sizeFor i) (headed f d)) where
+    pub put-now : l ≡ filled (recordByte f) (sizeFor i) d
+    put-now = now ∙ over-head i few
 
     pub put-length : length l ≡ length d
-    put-length = fill-length (recordByte f) d l (3 + q) put-now (omega arith)
+    put-length = fill-length (recordByte f) d l (sizeFor i) put-now (omega arith)
 
-    pub put-step : (v : ℕ) → q < 7 * 32 → v ≡ getD (truckBytes (truck (f .trucks) (q / 7))) (q % 7) 0 → set l (3 + q) v ≡ filled (recordByte f) (3 + (q + 1)) (headed f d)
-    put-step v h e =
-        fill-step (recordByte f) d l (3 + q) put-now v (omega arith) (e ∙ place-byte f q)
-        ∙ sym (over-head (q + 1) (omega arith) ∙ ap (λ (k : ℕ). filled (recordByte f) k d) (let s : 3 + (q + 1) ≡ 3 + q + 1 = omega arith in s))
+    pub put-step : (k : List ℕ) → i < 32 → k ≡ sets l (sizeFor i) (truckBytes (truck (f .trucks) i)) → k ≡ filled (recordByte f) (sizeFor (i + 1)) (headed f d)
+    put-step k h e =
+        e
+        ∙ fill-sets 0 (recordByte f) d (truckBytes (truck (f .trucks) i)) l (sizeFor i) put-now (omega arith) (λ j h. byte-of-place f i j h)
+        ∙ ap (λ (k : ℕ). filled (recordByte f) k d) (let s : sizeFor i + 7 ≡ sizeFor (i + 1) = omega arith in s)
+        ∙ sym (over-head (i + 1) (omega arith))
 
 -- ---- what putting a record answers
 

@@ -24,7 +24,7 @@ use Rattle.protocol.specs.declared.Fleet.{Fleet}
 use Rattle.protocol.specs.Rules.{truck, opened}
 use Rattle.protocol.specs.Runs.{openedTrucks}
 use Rattle.record.specs.Layout.{sizeFor, markByte, heardByte, stateByte, roundOf, truckBytes, recordByte, packCheck, packFor, packedRecord, packedWhole, heardOf, stateOf, pairOf, placeByte, placeRound, truckAt, damagedAt, damaged, recordOf, noRecord, unpacked}
-use Rattle.record.proofs.Laws.{place-byte, accepted-is, check-0}
+use Rattle.record.proofs.Laws.{place-byte, byte-of-place, accepted-is, check-0}
 
 -- ---- a test with an `or` that fails
 
@@ -282,14 +282,7 @@ module _ (f : Fleet) (d : List ℕ) (m : ℕ) (range : badTrucks (f .n) ≡ fals
 
   place-laid : (i : ℕ) → i < m → (j : ℕ) → j < 7 → placeByte laid i j ≡ getD (truckBytes (truck (f .trucks) i)) j 0
   unfolding placeByte
-  place-laid i h j l =
-      let e : sizeFor i + j ≡ 3 + (7 * i + j) = omega arith in
-      let q : (7 * i + j) / 7 ≡ i = omega arith in
-      let r : (7 * i + j) % 7 ≡ j = omega arith in
-      byte-laid (sizeFor i + j) (omega arith)
-      ∙ ap (recordByte f) e
-      ∙ sym (place-byte f (7 * i + j))
-      ∙ ap₂ (λ (a b : ℕ). getD (truckBytes (truck (f .trucks) a)) b 0) q r
+  place-laid i h j l = byte-laid (sizeFor i + j) (omega arith) ∙ sym (byte-of-place f i j l)
 
   same-laid : Same f (recordOf laid)
   unfolding recordOf

@@ -3,6 +3,7 @@ ghost use mathlib.Core.Path.{_≡_};
 ghost use mathlib.Core.List.{[]};
 ghost use Prim.Native.Nat.{_+_, _*_, _≤_, _<_};
 ghost use lib.ListN.{length, getD};
+ghost use lib.Seq.{sets};
 ghost use Rattle.basics.specs.Lists.{someBelow, filled};
 ghost use Rattle.protocol.specs.Runs.{openedTrucks};
 ghost use Rattle.protocol.specs.Fleets.{blank};
@@ -45,22 +46,21 @@ fn round_of(s: State) -> u16
     }
 }
 
-// Byte j of a truck's seven.
-fn truck_byte(t: Truck, j: usize) -> u8
-    requires { ⌜ j < 7 ⌝ }
-    ensures { λ r. ⌜ r ≡ getD (truckBytes t) j 0 ⌝ }
+// Puts the seven bytes of a truck from place `at` of a buffer on.
+fn put_truck(d: &mut [u8], at: usize, t: Truck)
+    requires { ⌜ at + 7 ≤ length (now d) ⌝ }
+    ensures { λ r. ⌜ now (d .exit) ≡ sets (now (d .entry)) at (truckBytes t) ⌝ }
 {
-    let h = t.heard;
-    let s = t.state;
-    match j {
-        0 => t.opening,
-        1 => t.estimate,
-        2 => t.mark as u8,
-        3 => heard_byte(h),
-        4 => state_byte(s),
-        5 => (round_of(s) % 256) as u8,
-        _ => (round_of(s) / 256) as u8,
-    }
+    let heard = t.heard;
+    let state = t.state;
+    let round = round_of(state);
+    d[at] = t.opening;
+    d[at + 1] = t.estimate;
+    d[at + 2] = t.mark as u8;
+    d[at + 3] = heard_byte(heard);
+    d[at + 4] = state_byte(state);
+    d[at + 5] = (round % 256) as u8;
+    d[at + 6] = (round / 256) as u8;
 }
 
 // Puts the head and the first m places of a record into a buffer that has room for all.
@@ -71,12 +71,11 @@ fn put(f: Fleet, m: usize, d: &mut [u8])
     d[0] = f.n;
     d[1] = (f.done % 256) as u8;
     d[2] = (f.done / 256) as u8;
-    let end = 7 * m;
-    let mut q = 0;
-    while q < end {
-        let t = f.trucks[q / 7];
-        d[3 + q] = truck_byte(t, q % 7);
-        q += 1;
+    let mut i = 0;
+    while i < m {
+        let t = f.trucks[i];
+        put_truck(d, 3 + 7 * i, t);
+        i += 1;
     }
 }
 

@@ -8,20 +8,8 @@ use Rattle.ffi.proofs.rajvokshul_grade.Tie as tie
 returns : tie.Need-returns
 returns c = search grade-9
 
-slice-write-grades-2 : tie.Need-slice-write-grades-2
-slice-write-grades-2 c = simp length-set (omega arith)
-
-slice-write-grades-3 : tie.Need-slice-write-grades-3
-slice-write-grades-3 c = simp length-set (omega arith)
-
-slice-write-grades-4 : tie.Need-slice-write-grades-4
-slice-write-grades-4 c = simp length-set (omega arith)
-
 returns-2 : tie.Need-returns-2
 returns-2 c = search grade-refused
-
-same-length : tie.Need-same-length
-same-length c = simp length-set
 
 returns-3 : tie.Need-returns-3
 returns-3 c = search grade-0
@@ -37,9 +25,9 @@ rajvokshul-grade-spec =
     (λ c κs. search needs)
     returns
     (λ c. search needs)
-    slice-write-grades-2
-    slice-write-grades-3
-    slice-write-grades-4
+    (λ c. simp length-set (omega arith))
+    (λ c. simp length-set (omega arith))
+    (λ c. simp length-set (omega arith))
     returns-2
-    same-length
+    (λ c. simp length-set)
     returns-3)

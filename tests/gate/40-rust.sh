@@ -4,10 +4,13 @@ expect "rt staticlib ffi" build
 log=$(mktemp)
 (cd rust && cargo test --offline --release) > "$log" 2>&1
 status=$?
+ran=0
 while read -r ok bad; do
+    ran=$((ran + ok))
     passed=$((passed + ok))
     failed=$((failed + bad))
 done < <(sed -nE 's/^test result: .* ([0-9]+) passed; ([0-9]+) failed;.*/\1 \2/p' "$log")
+expect "Rust tests were run" test "$ran" -gt 0
 expect "cargo test's exit status" test "$status" -eq 0
 [ "$status" -eq 0 ] || grep -E '^error|FAILED|panicked' "$log" | head -n 20
 rm -f "$log"

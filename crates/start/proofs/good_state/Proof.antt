@@ -1,7 +1,7 @@
 -- `good_state` meets its contract.
 use borrow.Author.Needs.{needs}
-use Rattle.fleet.proofs.record.good_state.Statement.{statement}
-use Rattle.fleet.proofs.record.good_state.Tie as tie
+use Rattle.start.proofs.good_state.Statement.{statement}
+use Rattle.start.proofs.good_state.Tie as tie
 
 enum-told : tie.Need-enum-told
 enum-told c = search needs

@@ -1,8 +1,8 @@
 -- `good_truck` meets its contract.
 use Rattle.protocol.specs.Fleets.{goodTruck}
 use borrow.Author.Needs.{needs}
-use Rattle.fleet.proofs.record.good_truck.Statement.{statement}
-use Rattle.fleet.proofs.record.good_truck.Tie as tie
+use Rattle.start.proofs.good_truck.Statement.{statement}
+use Rattle.start.proofs.good_truck.Tie as tie
 
 is-odd-requires : tie.Need-is-odd-requires
 is-odd-requires c κs = search needs

@@ -1,10 +1,10 @@
 -- `good_fleet` meets its contract.
 use mathlib.Core.Path.{sym, _∙_}
 use Rattle.recording.proofs.Accepted.{trucks-in}
-use Rattle.fleet.proofs.Records.{bad-count, bad-done, good-count}
+use Rattle.start.proofs.Records.{bad-count, bad-done, good-count}
 use borrow.Author.Needs.{needs}
-use Rattle.fleet.proofs.record.good_fleet.Statement.{statement}
-use Rattle.fleet.proofs.record.good_fleet.Tie as tie
+use Rattle.start.proofs.good_fleet.Statement.{statement}
+use Rattle.start.proofs.good_fleet.Tie as tie
 
 bad-trucks-requires : tie.Need-bad-trucks-requires
 bad-trucks-requires c κs = search needs

@@ -3,8 +3,8 @@ use mathlib.Core.Path.{sym, _∙_}
 use Rattle.protocol.specs.Fleets.{started, startCheck}
 use Rattle.recording.proofs.Accepted.{trucks-in, openings-in}
 use borrow.Author.Needs.{needs}
-use Rattle.fleet.proofs.start.Statement.{statement}
-use Rattle.fleet.proofs.start.Tie as tie
+use Rattle.start.proofs.start.Statement.{statement}
+use Rattle.start.proofs.start.Tie as tie
 
 bad-trucks-requires : tie.Need-bad-trucks-requires
 bad-trucks-requires c κs = search needs

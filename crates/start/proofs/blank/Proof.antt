@@ -3,8 +3,8 @@ use Rattle.basics.specs.Lists.{tab, tabFrom}
 use Rattle.protocol.specs.Runs.{openedTrucks}
 use Rattle.protocol.specs.Fleets.{blank}
 use borrow.Author.Needs.{needs}
-use Rattle.fleet.proofs.record.blank.Statement.{statement}
-use Rattle.fleet.proofs.record.blank.Tie as tie
+use Rattle.start.proofs.blank.Statement.{statement}
+use Rattle.start.proofs.blank.Tie as tie
 
 opened-requires : tie.Need-opened-requires
 opened-requires c κs = search needs

@@ -1,7 +1,7 @@
 -- `refused` meets its contract.
 use borrow.Author.Needs.{needs}
-use Rattle.fleet.proofs.refused.Statement.{statement}
-use Rattle.fleet.proofs.refused.Tie as tie
+use Rattle.start.proofs.refused.Statement.{statement}
+use Rattle.start.proofs.refused.Tie as tie
 
 blank-requires : tie.Need-blank-requires
 blank-requires c κs = search needs

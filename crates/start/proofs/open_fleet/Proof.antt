@@ -1,13 +1,13 @@
 -- `open_fleet` meets its contract.
-use Rattle.fleet.proofs.Records.{opening, open-starts, open-more, open-done}
+use Rattle.start.proofs.Records.{opening, open-starts, open-more, open-done}
 use mathlib.Core.Path.{_≡_}
 use Prim.Native.Nat.{_≤_, _-_}
 use native.Mathlib.Omega.{arith}
 use lib.ListN.{length}
 use Rattle.protocol.specs.Rules.{opened}
 use borrow.Author.Needs.{needs}
-use Rattle.fleet.proofs.record.open_fleet.Statement.{statement}
-use Rattle.fleet.proofs.record.open_fleet.Tie as tie
+use Rattle.start.proofs.open_fleet.Statement.{statement}
+use Rattle.start.proofs.open_fleet.Tie as tie
 
 abbrev Inv-loop : tie.InvT-loop
 Inv-loop n openings f₀ i₀ f i = (i ≤ length openings) × (f ≡ opening n openings i)

@@ -9,8 +9,8 @@ use Rattle.basics.proofs.Laws.{allBelow-none, allBelow-suc}
 use Rattle.protocol.specs.Rules.{truck}
 use Rattle.protocol.specs.Fleets.{goodTruck}
 use borrow.Author.Needs.{needs}
-use Rattle.fleet.proofs.record.good_trucks.Statement.{statement}
-use Rattle.fleet.proofs.record.good_trucks.Tie as tie
+use Rattle.start.proofs.good_trucks.Statement.{statement}
+use Rattle.start.proofs.good_trucks.Tie as tie
 
 abbrev Inv-loop : tie.InvT-loop
 Inv-loop f n done ok₀ i₀ ok i = (i ≤ n) × (ok ≡ allBelow (λ i. goodTruck done (truck (f .trucks) i)) i)

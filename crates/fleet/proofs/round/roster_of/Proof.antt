@@ -7,8 +7,8 @@ use Rattle.protocol.specs.Rules.{truck, runs, vetoes}
 use Rattle.fleet.specs.Sets.{Members}
 use Rattle.fleet.proofs.Members.{members-none, members-next}
 use borrow.Author.Needs.{needs}
-use Rattle.fleet.proofs.record.roster.Statement.{statement}
-use Rattle.fleet.proofs.record.roster.Tie as tie
+use Rattle.fleet.proofs.round.roster_of.Statement.{statement}
+use Rattle.fleet.proofs.round.roster_of.Tie as tie
 
 abbrev Inv-loop : tie.InvT-loop
 Inv-loop f n running₀ vetoing₀ i₀ running vetoing i =
@@ -68,8 +68,8 @@ returns c =
       },
     )
 
-pub roster-spec : {M : Type 1} → statement M
-roster-spec =
+pub roster-of-spec : {M : Type 1} → statement M
+roster-of-spec =
     tie.close
     (tie.spec
     Inv-loop

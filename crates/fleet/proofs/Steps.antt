@@ -4,8 +4,8 @@ use mathlib.Core.Bool.{Bool, true, not, _&&_}
 use mathlib.Core.List.{List}
 use Prim.Native.Nat.{ℕ, _+_, _≤_, _<_}
 use native.Mathlib.Omega.{arith}
-use lib.Dec.{eqb, leb}
 use borrow.Author.Tests.{leb-true, eqb-false, not-true, not-false}
+use lib.Dec.{eqb, leb}
 use lib.ListN.{length}
 use Rattle.basics.specs.Lists.{allBelow}
 use Rattle.basics.proofs.Laws.{and-left, and-right, allBelow-at}

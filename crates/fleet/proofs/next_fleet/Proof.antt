@@ -1,16 +1,16 @@
 -- `next_fleet` meets its contract.
 use mathlib.Core.List.{List}
-use lib.ListN.{getD}
+use mathlib.Core.Path.{_≡_, ap₂, sym, subst, _∙_}
 use Prim.Native.Nat.{ℕ, _<_, _≤_}
+use native.Mathlib.Omega.{arith}
+use borrow.Author.Needs.{needs}
+use lib.ListN.{getD}
 use lib.ListN.{length, length-map}
 use Rattle.fleet.specs.Rounds.{estimates, roundOf}
 use Rattle.protocol.specs.Fleets.{nextFleet}
-use mathlib.Core.Path.{_≡_, ap₂, sym, subst, _∙_}
-use native.Mathlib.Omega.{arith}
 use Rattle.protocol.specs.declared.Fleet.{Fleet}
 use Rattle.fleet.proofs.Steps.{step-good}
 use Rattle.fleet.proofs.Same.{plain-next}
-use borrow.Author.Needs.{needs}
 use Rattle.fleet.proofs.next_fleet.Statement.{statement}
 use Rattle.fleet.proofs.next_fleet.Tie as tie
 
@@ -22,9 +22,6 @@ shared-slice-read-active c = omega (arith, step-good (c .before .before .before 
 
 shared-slice-read-mark : tie.Need-shared-slice-read-mark
 shared-slice-read-mark c = omega (arith, step-good (c .before .before .before .before .args .f) (c .before .before .before .before .args .words .now) (c .before .before .before .before .pre) .count)
-
-cast-rows-of : tie.Need-cast-rows-of
-cast-rows-of c = search needs
 
 rows-of-requires : tie.Need-rows-of-requires
 rows-of-requires c κs = let g = step-good (c .before .before .before .before .before .args .f) (c .before .before .before .before .before .args .words .now) (c .before .before .before .before .before .pre) in (g .most, g .count)
@@ -63,7 +60,7 @@ next-fleet-spec =
     shared-slice-read-stop
     shared-slice-read-active
     shared-slice-read-mark
-    cast-rows-of
+    (λ c. search needs)
     rows-of-requires
     roster-of-requires
     play-requires

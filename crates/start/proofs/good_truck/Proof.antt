@@ -1,20 +1,8 @@
 -- `good_truck` meets its contract.
-use Rattle.protocol.specs.Fleets.{goodTruck}
 use borrow.Author.Needs.{needs}
+use Rattle.protocol.specs.Fleets.{goodTruck}
 use Rattle.start.proofs.good_truck.Statement.{statement}
 use Rattle.start.proofs.good_truck.Tie as tie
-
-is-odd-requires : tie.Need-is-odd-requires
-is-odd-requires c κs = search needs
-
-runs-requires : tie.Need-runs-requires
-runs-requires c κs = search needs
-
-is-empty-requires : tie.Need-is-empty-requires
-is-empty-requires c κs = search needs
-
-good-state-requires : tie.Need-good-state-requires
-good-state-requires c κs = search needs
 
 returns : tie.Need-returns
 unfolding goodTruck
@@ -23,4 +11,4 @@ returns c = rw (c .good-state .ensures, c .before .before .before .is-empty .ens
 pub good-truck-spec : {M : Type 1} → statement M
 good-truck-spec =
     tie.close
-    (tie.spec is-odd-requires runs-requires is-empty-requires good-state-requires returns)
+    (tie.spec (λ c κs. search needs) (λ c κs. search needs) (λ c κs. search needs) (λ c κs. search needs) returns)

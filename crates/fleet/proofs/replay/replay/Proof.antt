@@ -2,19 +2,13 @@
 use mathlib.Core.Path.{ap, sym, subst, _∙_}
 use Prim.Native.Nat.{_≤_}
 use native.Mathlib.Omega.{arith}
+use borrow.Author.Needs.{needs}
 use Rattle.protocol.specs.declared.Fleet.{Fleet}
 use Rattle.basics.specs.Bits.{odd}
 use Rattle.recording.proofs.Accepted.{bytes-good}
 use Rattle.fleet.proofs.Stages.{start-few, start-takes, start-long, start-opens, start-reached}
-use borrow.Author.Needs.{needs}
 use Rattle.fleet.proofs.replay.replay.Statement.{statement}
 use Rattle.fleet.proofs.replay.replay.Tie as tie
-
-truck-count-requires : tie.Need-truck-count-requires
-truck-count-requires c κs = search needs
-
-cast-n : tie.Need-cast-n
-cast-n c = search needs
 
 openings-of-requires : tie.Need-openings-of-requires
 openings-of-requires c κs = omega (arith, c .truck-count .ensures, bytes-good (c .before .before .args .s .now) (c .before .before .pre) .frame .most)
@@ -25,21 +19,9 @@ array-share-prefix-openings c = omega (arith, start-few (c .before .before .befo
 slice-aggregate-start : tie.Need-slice-aggregate-start
 slice-aggregate-start c = start-takes (c .before .before .before .before .args .s .now) (c .before .before .truck-count .result) (c .before .openings-of .result) (c .before .before .before .before .pre) (c .before .before .truck-count .ensures) (c .before .openings-of .ensures)
 
-start-requires : tie.Need-start-requires
-start-requires c κs = search needs
-
 roster-of-requires : tie.Need-roster-of-requires
 roster-of-requires c κs =
     subst (λ (f : Fleet). f .n ≤ 32) (sym (start-opens (c .before .before .before .before .before .before .args .s .now) (c .before .before .before .before .truck-count .result) (c .before .before .before .openings-of .result) (c .before .before .before .before .before .before .pre) (c .before .before .before .before .truck-count .ensures) (c .before .before .before .openings-of .ensures) (c .before .start .result) (c .before .start .ensures))) (start-few (c .before .before .before .before .before .before .args .s .now) (c .before .before .before .before .truck-count .result) (c .before .before .before .openings-of .result) (c .before .before .before .before .before .before .pre) (c .before .before .before .before .truck-count .ensures) (c .before .before .before .openings-of .ensures))
-
-mul-proposals : tie.Need-mul-proposals
-mul-proposals c = search needs
-
-add-proposals : tie.Need-add-proposals
-add-proposals c = search needs
-
-round-count-requires : tie.Need-round-count-requires
-round-count-requires c κs = search needs
 
 proposals-requires : tie.Need-proposals-requires
 proposals-requires c κs =
@@ -50,22 +32,19 @@ proposals-requires c κs =
       ap odd d,
     )
 
-returns : tie.Need-returns
-returns c = search needs
-
 pub replay-spec : {M : Type 1} → statement M
 replay-spec =
     tie.close
     (tie.spec
-    truck-count-requires
-    cast-n
+    (λ c κs. search needs)
+    (λ c. search needs)
     openings-of-requires
     array-share-prefix-openings
     slice-aggregate-start
-    start-requires
+    (λ c κs. search needs)
     roster-of-requires
-    mul-proposals
-    add-proposals
-    round-count-requires
+    (λ c. search needs)
+    (λ c. search needs)
+    (λ c κs. search needs)
     proposals-requires
-    returns)
+    (λ c. search needs))

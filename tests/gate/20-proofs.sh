@@ -16,7 +16,7 @@ fi
 rm -f "$log"
 
 # An edit shows something only where a fact no longer holds. A name out of scope, or a proof file that no longer fits the code, shows nothing.
-fact='the two types|expected type|but this has type|does not follow|does not close|no proof of|it is not proved|differ|is not proved'
+fact='the two types|expected type|but this has type|does not follow|does not close|no proof of|it is not proved|differ|is not proved|found no proof|give a proof of that as the last argument'
 form='not in scope|has no `Need-|[Pp]arse|cannot be named|no module is declared|was not admitted|unsupported|does not cover|cannot find'
 expect "there are must-fail edits" test -n "$(ls crates/*/must-fail/*.edit 2> /dev/null)"
 for edit in crates/*/must-fail/*.edit; do

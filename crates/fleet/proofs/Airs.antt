@@ -11,7 +11,7 @@ use lib.Dec.{eqb, ltb}
 use lib.ListN.{length}
 use Rattle.basics.specs.Bits.{bit}
 use Rattle.basics.specs.Lists.{who}
-use Rattle.air.specs.Air.{Air, hears, heard}
+use Rattle.air.specs.Air.{Air, hears}
 use Rattle.air.proofs.Laws.{who-ext, count-some}
 use Rattle.words.proofs.Words.{bit-or, bit-power, ones-count, some-bit}
 use Rattle.fleet.specs.Sets.{Members, heardSet}

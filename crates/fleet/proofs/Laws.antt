@@ -1,14 +1,14 @@
 -- Laws of searches, and of sets of trucks that grow or shrink by one.
 use mathlib.Core.Path.{_≡_, ap, _∙_}
 use mathlib.Core.List.{List}
-use lib.ListN.{length, getD}
-use lib.Seq.{ext-getD}
-use native.Mathlib.Numerals.{add-one}
-use native.Mathlib.Decide.{decLt}
 use mathlib.Core.Bool.{Bool, true, false, not}
 use Prim.Native.Nat.{ℕ, _+_, _%_, _≤_, _<_}
+use native.Mathlib.Numerals.{add-one}
+use native.Mathlib.Decide.{decLt}
 use native.Mathlib.Omega.{arith}
 use borrow.Author.Tests.{eq-eqb, ne-eqb}
+use lib.ListN.{length, getD}
+use lib.Seq.{ext-getD}
 use Rattle.basics.specs.Bits.{odd}
 use Rattle.basics.specs.Lists.{first, filled}
 use Rattle.basics.proofs.Laws.{odd-suc, first-before, first-unique, length-filled, getD-filled, getD-filled-past}

@@ -4,7 +4,7 @@ pub mod ByCrusher
 pub mod Airs
 pub mod Turns
 pub mod Loops
-pub mod Records
+pub mod Steps
 pub mod Same
 pub mod Verdicts
 pub mod Reading

@@ -1,21 +1,26 @@
 -- The loops of a round: the trucks of a set are taken one by one.
-use mathlib.Core.Path.{_≡_, refl, ap, sym, _∙_}
+use mathlib.Core.Path.{_≡_, refl, ap, ap₂, sym, subst, _∙_}
 use mathlib.Core.Bool.{Bool, true, false, cond, _&&_}
 use mathlib.Core.List.{List}
-use Prim.Native.Nat.{ℕ, _^_, _≤_, _<_}
+use Prim.Native.Nat.{ℕ, _+_, _^_, _≤_, _<_}
 use native.Mathlib.Omega.{arith}
 use native.Mathlib.Decide.{ℕ-discrete}
 use borrow.Author.Tests.{eq-eqb, ne-eqb}
-use lib.Bits.{bitOr, bitXor}
+use lib.Bits.{bitAnd, bitOr, bitXor}
 use lib.Dec.{eqb}
 use lib.ListN.{length, getD, set, replicate, getD-replicate, length-set}
 use lib.Seq.{getD-set-same, getD-set-other}
-use Rattle.basics.specs.Bits.{bit}
+use Rattle.basics.specs.Bits.{bit, odd}
 use Rattle.basics.specs.Lists.{filled}
 use Rattle.basics.proofs.Laws.{and-left}
 use Rattle.protocol.specs.declared.Truck.{Truck}
 use Rattle.protocol.specs.declared.Fleet.{Fleet}
-use Rattle.protocol.specs.Rules.{opened, truck}
+use Rattle.protocol.specs.Rules.{opened, truck, runs, vetoes}
+use Rattle.truck.specs.declared.Event.{Event}
+use Rattle.truck.specs.Events.{turned}
+use Rattle.fleet.specs.declared.round.Roster.{Roster}
+use Rattle.fleet.specs.Rounds.{estimates, proposalEvent, vetoEvent, Kept, Ready, roundOf, Played}
+use Rattle.fleet.proofs.Turns.{rule, rule-idle, proposers, vetoers, proposal-turn, veto-turn, kept-proposal, kept-veto, next-is}
 use Rattle.fleet.specs.Sets.{Members, Sorted}
 use Rattle.fleet.proofs.Members.{set-below, within-removed, seen, seen-none, seen-all, seen-in, seen-out, seen-joined, replaced, replaced-at, replaced-all, replaced-none, replaced-more}
 
@@ -27,7 +32,7 @@ pub record Going (n k : ℕ) (ts : List Truck) (new : ℕ → Truck) (running : 
 
 module _ (n k : ℕ) (ts : List Truck) (new : ℕ → Truck) (running : ℕ) (p : Truck → Bool) where
   module _ (long : n ≤ length ts) where
-    pub going-starts : ((j : ℕ) → j < n → bit running j ≡ false → new j ≡ truck ts j)
+    going-starts : ((j : ℕ) → j < n → bit running j ≡ false → new j ≡ truck ts j)
         → Going n k ts new running p (record { n = n; done = k; trucks = ts }) 0 running
     going-starts h =
         record {
@@ -37,13 +42,13 @@ module _ (n k : ℕ) (ts : List Truck) (new : ℕ → Truck) (running : ℕ) (p 
         }
 
   module _ (below : running < 2 ^ n) {f : Fleet} {members left : ℕ} (g : Going n k ts new running p f members left) (i : ℕ) (h : bit left i ≡ true) where
-    pub going-below : i < n
+    going-below : i < n
     going-below = set-below running n below i (g .within i h)
 
-    pub going-truck : truck (f .trucks) i ≡ truck ts i
+    going-truck : truck (f .trucks) i ≡ truck ts i
     going-truck = ap (λ (f : Fleet). truck (f .trucks) i) (g .fleet) ∙ replaced-at (opened 0) ts new n left i going-below h
 
-    pub going-more : (long : n ≤ length ts) (u : Truck) (b : Bool) (members′ left′ : ℕ) → u ≡ new i → b ≡ p u → members′ ≡ cond b (bitOr members (2 ^ i)) members
+    going-more : (long : n ≤ length ts) (u : Truck) (b : Bool) (members′ left′ : ℕ) → u ≡ new i → b ≡ p u → members′ ≡ cond b (bitOr members (2 ^ i)) members
         → left′ ≡ bitXor left (2 ^ i) → Going n k ts new running p (record { n = f .n; done = f .done; trucks = set (f .trucks) i u }) members′ left′
     going-more long u b members′ left′ eu eb em el =
         rw (em, el) (record {
@@ -55,12 +60,92 @@ module _ (n k : ℕ) (ts : List Truck) (new : ℕ → Truck) (running : ℕ) (p 
         })
 
   -- none is left
-  pub going-fleet : {f : Fleet} {members left : ℕ} → Going n k ts new running p f members left → left ≡ 0 → f ≡ record { n = n; done = k; trucks = filled new n ts }
+  going-fleet : {f : Fleet} {members left : ℕ} → Going n k ts new running p f members left → left ≡ 0 → f ≡ record { n = n; done = k; trucks = filled new n ts }
   going-fleet {f} {members} {left} g z =
       g .fleet ∙ ap (λ (l : List Truck). record { n = n; done = k; trucks = l }) (ap (replaced (opened 0) ts new n) z ∙ replaced-all (opened 0) ts new n)
 
-  pub going-held : {f : Fleet} {members left : ℕ} → Going n k ts new running p f members left → left ≡ 0 → Members members n (λ j. bit running j && p (new j))
+  going-held : {f : Fleet} {members left : ℕ} → Going n k ts new running p f members left → left ≡ 0 → Members members n (λ j. bit running j && p (new j))
   going-held g z = seen-all (rw z at (g .held))
+
+-- ---- a round of a roster
+module _ (r : Roster) (stop active mark : ℕ) (rows : List ℕ) (ready : Ready r) where
+  abbrev f : Fleet
+  f = r .fleet
+
+  abbrev k : ℕ
+  k = f .done + 1
+
+  abbrev w : List ℕ
+  w = roundOf stop active mark rows
+
+  abbrev new : ℕ → Truck
+  new = rule (f .n) k stop active mark rows (f .trucks)
+
+  known : Members (r .running) (f .n) (λ j. runs (truck (f .trucks) j))
+  known = ready .kept .running
+
+  long : f .n ≤ length (f .trucks)
+  long = omega (arith, ready .places, ready .most)
+
+  module _ (p : Truck → Bool) where
+    pub round-starts : Going (f .n) k (f .trucks) new (r .running) p (record { n = f .n; done = k; trucks = f .trucks }) 0 (r .running)
+    round-starts =
+        going-starts (f .n) k (f .trucks) new (r .running) p long
+        (λ j l h. rule-idle (f .n) k stop active mark rows (f .trucks) j (sym (known .each j l) ∙ h))
+
+    -- truck i is brought up to date by an event that is what the round is to it
+    module _ {g : Fleet} {members left : ℕ} (going : Going (f .n) k (f .trucks) new (r .running) p g members left) (i : ℕ) (h : bit left i ≡ true)
+        (u : Truck) (b : Bool) (members′ left′ : ℕ) (eb : b ≡ p u) (em : members′ ≡ cond b (bitOr members (2 ^ i)) members) (el : left′ ≡ bitXor left (2 ^ i)) where
+      below : i < f .n
+      below = going-below (f .n) k (f .trucks) new (r .running) p (known .below) going i h
+
+      same : truck (g .trucks) i ≡ truck (f .trucks) i
+      same = going-truck (f .n) k (f .trucks) new (r .running) p (known .below) going i h
+
+      moved : u ≡ new i → Going (f .n) k (f .trucks) new (r .running) p (record { n = g .n; done = g .done; trucks = set (g .trucks) i u }) members′ left′
+      moved eu = going-more (f .n) k (f .trucks) new (r .running) p (known .below) going i h long u b members′ left′ eu eb em el
+
+      pub proposal-more : odd k ≡ true → (values : List ℕ) → Sorted values (f .n) (bitAnd (bitXor (r .running) (bitAnd (r .running) stop)) active) (estimates (f .trucks))
+          → (e : Event) → e ≡ proposalEvent stop mark (bitAnd (bitXor (r .running) (bitAnd (r .running) stop)) active) (getD rows i 0) i values (truck (g .trucks) i .estimate)
+          → u ≡ turned k e (truck (g .trucks) i)
+          → Going (f .n) k (f .trucks) new (r .running) p (record { n = g .n; done = g .done; trucks = set (g .trucks) i u }) members′ left′
+      proposal-more o values sorted e ee eu =
+          let sent : ℕ = bitAnd (bitXor (r .running) (bitAnd (r .running) stop)) active in
+          moved (eu
+          ∙ ap₂ (turned k) (ee ∙ ap (λ (t : Truck). proposalEvent stop mark sent (getD rows i 0) i values (t .estimate)) same) same
+          ∙ proposal-turn (f .n) k stop active mark rows (f .trucks) i sent below (proposers (f .n) k w (f .trucks) (r .running) known o) values o sorted (ready .small))
+
+      pub veto-more : odd k ≡ false → (e : Event) → e ≡ vetoEvent stop mark (bitAnd (bitXor (r .running) (bitAnd (r .running) stop)) (r .vetoing)) (getD rows i 0) i
+          → u ≡ turned k e (truck (g .trucks) i)
+          → Going (f .n) k (f .trucks) new (r .running) p (record { n = g .n; done = g .done; trucks = set (g .trucks) i u }) members′ left′
+      veto-more o e ee eu =
+          moved (eu ∙ ap₂ (turned k) ee same
+          ∙ veto-turn (f .n) k stop active mark rows (f .trucks) i (bitAnd (bitXor (r .running) (bitAnd (r .running) stop)) (r .vetoing)) below
+          (vetoers (f .n) k w (f .trucks) (r .running) known (r .vetoing) o (ready .kept .vetoing)) o)
+
+  pub proposal-sends : odd k ≡ true → bitAnd (bitXor (r .running) (bitAnd (r .running) stop)) active < 2 ^ f .n
+  proposal-sends o = proposers (f .n) k w (f .trucks) (r .running) known o .below
+
+  -- no truck is left
+  module _ {g : Fleet} {members left : ℕ} (z : left ≡ 0) where
+    pub proposal-ends : odd k ≡ true → Going (f .n) k (f .trucks) new (r .running) vetoes g members left
+        → Played r stop active mark rows (record { fleet = g; running = bitXor (r .running) (bitAnd (r .running) stop); vetoing = members })
+    proposal-ends o going =
+        let end = going-fleet (f .n) k (f .trucks) new (r .running) vetoes going z in
+        record {
+          fleet = end ∙ sym (next-is f stop active mark rows);
+          kept = subst (λ (q : Fleet). Kept (record { fleet = q; running = bitXor (r .running) (bitAnd (r .running) stop); vetoing = members })) (sym end)
+              (kept-proposal (f .n) k stop active mark rows (f .trucks) (r .running) known members o (going-held (f .n) k (f .trucks) new (r .running) vetoes going z));
+        }
+
+    pub veto-ends : odd k ≡ false → Going (f .n) k (f .trucks) new (r .running) runs g members left → Played r stop active mark rows (record { fleet = g; running = members; vetoing = 0 })
+    veto-ends o going =
+        let end = going-fleet (f .n) k (f .trucks) new (r .running) runs going z in
+        record {
+          fleet = end ∙ sym (next-is f stop active mark rows);
+          kept = subst (λ (q : Fleet). Kept (record { fleet = q; running = members; vetoing = 0 })) (sym end)
+              (kept-veto (f .n) k stop active mark rows (f .trucks) (r .running) known members o (going-held (f .n) k (f .trucks) new (r .running) runs going z));
+        }
 
 -- ---- the senders of each crusher
 pub record Sorting (n senders : ℕ) (est : ℕ → ℕ) (values : List ℕ) (left : ℕ) : Type 0 where

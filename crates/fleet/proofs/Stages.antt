@@ -23,24 +23,26 @@ use Rattle.bitreader.specs.Bits.{bitsRead}
 use Rattle.refusals.specs.declared.Outcome.the-variants.{Accepted}
 use Rattle.recording.specs.Packed.{bitAt, rowAt, trucksOf, roundsOf, openingAt, openingsOf, roundAt}
 use Rattle.recording.specs.Checks.{checkOf}
-use Rattle.recording.proofs.Accepted.{GoodFrame, bytes-good}
+use Rattle.recording.proofs.Accepted.{GoodFrame, GoodOpenings, bytes-good, in-trucks, in-openings}
 use Rattle.recording.proofs.RoundTrip.{openings-read}
 use Rattle.protocol.specs.declared.Truck.{Truck}
 use Rattle.protocol.specs.declared.Fleet.{Fleet}
 use Rattle.protocol.specs.declared.Grades.{Grades}
 use Rattle.protocol.specs.Rules.{truck, runs, airOf, after}
 use Rattle.protocol.specs.Runs.{trucksAt, airAt, gradesOf}
-use Rattle.protocol.specs.Fleets.{nextFleet, fleetAt}
+use Rattle.protocol.specs.declared.Answer.{Answer}
+use Rattle.protocol.specs.Fleets.{startCheck, started, nextFleet, fleetAt}
 use Rattle.protocol.proofs.Whole.{at-suc, air-suc, throughout, estimates-open}
+use Rattle.start.specs.Opens.{openFleet}
 use Rattle.fleet.specs.declared.round.Roster.{Roster}
 use Rattle.fleet.specs.declared.grading.Verdict.{Verdict}
 use Rattle.fleet.specs.declared.replay.Course.{Course}
 use Rattle.fleet.specs.Sets.{Members}
-use Rattle.fleet.specs.Rounds.{Kept, Ready, roundOf, Played, openFleet}
+use Rattle.fleet.specs.Rounds.{Kept, Ready, roundOf, Played}
 use Rattle.fleet.specs.Grading.{verdictOf, Described, carriedAll}
 use Rattle.fleet.specs.Replays.{RowsRead, noGrades, fleetAfter, gradesAfter, counted, Reached, Moved, Finished}
 use Rattle.fleet.proofs.Members.{members-none, members-without}
-use Rattle.fleet.proofs.Records.{length-start}
+use Rattle.start.proofs.Records.{length-start}
 use Rattle.fleet.proofs.Turns.{going-is, proposers, vetoers, row-of}
 use Rattle.fleet.proofs.Same.{Same, same-next, idle-next}
 use Rattle.fleet.proofs.Verdicts.{verdict-starts, verdict-done, carried-all, break-none, break-next}
@@ -319,9 +321,19 @@ module _ (s : List ℕ) (n : ℕ) (openings : List ℕ) (good : checkOf s ≡ Ac
   are-openings : take n openings ≡ openingsOf s
   are-openings = ap (take n) os ∙ ap (λ (m : ℕ). take m (filled (openingAt s) m (replicate 32 0))) count ∙ first-openings s
 
-  pub start-count : length (take n openings) ≡ n
+  start-count : length (take n openings) ≡ n
   unfolding openingsOf
   start-count = ap length are-openings ∙ length-tab (openingAt s) (trucksOf s) ∙ sym count
+
+  pub start-takes : n ≡ length (take n openings)
+  start-takes = sym start-count
+
+  -- the start is accepted
+  pub start-opens : (a : Answer) → a ≡ started n (take n openings) → a .fleet ≡ openFleet n (take n openings)
+  unfolding started startCheck
+  start-opens a e =
+      let g : GoodOpenings n (take n openings) = rw (are-openings, count) (openings-read s) in
+      ap (λ (a : Answer). a .fleet) e ∙ rw (in-trucks n (rw count (bytes-good s good .frame .some)) start-few, in-openings n (take n openings) g)
 
   pub start-long : length openings ≡ 32
   start-long = ap length os ∙ length-filled (openingAt s) n (replicate 32 0) start-few

@@ -9,7 +9,6 @@ use Rattle.basics.specs.Bits.{bit}
 use Rattle.protocol.specs.declared.Truck.{Truck}
 use Rattle.protocol.specs.declared.Fleet.{Fleet}
 use Rattle.protocol.specs.Rules.{truck, runs, vetoes}
-use Rattle.protocol.specs.Runs.{openedTrucks}
 use Rattle.protocol.specs.Fleets.{nextFleet}
 use Rattle.truck.specs.declared.Event.{Event}
 use Rattle.truck.specs.declared.Event.the-variants.{Stop, Proposals, Vetoes}
@@ -50,10 +49,6 @@ roundOf stop active mark rows = stop ∷ active ∷ mark ∷ rows
 pub record Played (r : Roster) (stop active mark : ℕ) (rows : List ℕ) (q : Roster) : Type 0 where
   pub fleet : q .fleet ≡ nextFleet (r .fleet) (roundOf stop active mark rows)
   pub kept : Kept q
-
--- a fleet of n trucks before round 1
-abbrev pub openFleet : ℕ → List ℕ → Fleet
-openFleet n openings = record { n = n; done = 0; trucks = openedTrucks openings }
 
 -- rows before any is read
 abbrev pub noRows : List ℕ

@@ -7,47 +7,23 @@ use refusals::Refusal;
 ghost use mathlib.Core.Path.{_≡_};
 ghost use Prim.Native.Nat.{_≤_, _+_};
 ghost use lib.ListN.{length, getD};
-ghost use Rattle.refusals.specs.declared.Outcome.the-variants.{Accepted, Refused};
+ghost use Rattle.refusals.specs.declared.Outcome.the-variants.{Accepted};
 ghost use Rattle.basics.specs.Lists.{filled};
-ghost use Rattle.protocol.specs.Fleets.{blank, started, stepCheck, nextFleet, stepped, ran, graded};
+ghost use Rattle.protocol.specs.Fleets.{stepCheck, nextFleet, stepped, ran, graded};
 ghost use Rattle.fleet.specs.Rounds.{noRows};
 
 mod grading;
 mod hearing;
-mod record;
 mod replay;
 mod round;
 
-// A refusal of a call that has no record to hand back.
-fn refused(refusal: Refusal) -> Answer
-    ensures { λ r. ⌜ r ≡ record { outcome = Refused refusal; fleet = blank } ⌝ }
-{
-    Answer {
-        outcome: Outcome::Refused(refusal),
-        fleet: record::blank(),
-    }
-}
-
-// Starting a fleet of n trucks.
-pub fn start(n: u8, openings: &[u8]) -> Answer
-    ensures { λ r. ⌜ r ≡ started n (now (openings .entry)) ⌝ }
-{
-    if recording::bad_trucks(n) {
-        return refused(Refusal::TruckCount);
-    }
-    if plain::bad_openings(n, openings) {
-        return refused(Refusal::Record);
-    }
-    Answer {
-        outcome: Outcome::Accepted,
-        fleet: record::open_fleet(n, openings),
-    }
-}
+// Starting a fleet.
+pub use start::start;
 
 fn check_step(f: Fleet, words: &[u32]) -> Outcome
     ensures { λ r. ⌜ r ≡ stepCheck f (now (words .entry)) ⌝ }
 {
-    if !record::good_fleet(f) {
+    if !start::good_fleet(f) {
         return Outcome::Refused(Refusal::Record);
     }
     if f.done == 400 {
@@ -78,7 +54,7 @@ fn next_fleet(f: Fleet, words: &[u32]) -> Fleet
     let active = words[1];
     let mark = words[2];
     let rows = rows_of(words, f.n as usize);
-    let q = round::play(record::roster(f), stop, active, mark, &rows);
+    let q = round::play(round::roster_of(f), stop, active, mark, &rows);
     q.fleet
 }
 
@@ -113,7 +89,7 @@ pub fn run(s: &[u8]) -> Answer
                 fleet,
             }
         }
-        Outcome::Refused(refusal) => refused(refusal),
+        Outcome::Refused(refusal) => start::refused(refusal),
     }
 }
 

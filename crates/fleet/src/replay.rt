@@ -2,10 +2,9 @@
 use crate::grading::graded;
 use crate::hearing::lowest;
 use crate::hearing::without;
-use crate::record::open_fleet;
-use crate::record::roster;
 use crate::round::Roster;
 use crate::round::proposal_round;
+use crate::round::roster_of;
 use crate::round::veto_round;
 use protocol::Fleet;
 use protocol::Grades;
@@ -175,14 +174,15 @@ pub(crate) fn replay(s: &[u8], judging: bool) -> Course
     let trucks = recording::truck_count(s);
     let n = trucks as usize;
     let openings = openings_of(s, trucks);
-    let f = open_fleet(trucks, &openings[..n]);
+    let a = start::start(trucks, &openings[..n]);
+    let f = a.fleet;
     let grades = Grades {
         complete: 0,
         majority: 0,
         zero: 0,
         accurate: 0,
     };
-    let roster = roster(f);
+    let roster = roster_of(f);
     proposals(
         s,
         16 + 4 * n,

@@ -13,7 +13,7 @@ ghost use mathlib.Core.Bool.{true, false};
 ghost use Prim.Native.Nat.{ℕ, _<_, _≤_, _^_, _+_};
 ghost use Rattle.basics.specs.Bits.{odd};
 ghost use Rattle.fleet.specs.Sets.{Sorted};
-ghost use Rattle.fleet.specs.Rounds.{estimates, proposalEvent, vetoEvent, Ready, Played};
+ghost use Rattle.fleet.specs.Rounds.{estimates, proposalEvent, vetoEvent, Kept, Ready, Played};
 
 // A fleet with two sets of its trucks: who runs, and who of those sends a veto in the next veto round.
 pub struct Roster {
@@ -153,5 +153,27 @@ pub(crate) fn play(r: Roster, stop: u32, active: u32, mark: u32, rows: &[u32; 32
         proposal_round(r, stop, active, mark, rows)
     } else {
         veto_round(r, stop, mark, rows)
+    }
+}
+
+// The record with its two sets.
+pub(crate) fn roster_of(f: Fleet) -> Roster
+    requires { ⌜ f .n ≤ 32 ⌝ }
+    ensures { λ r. ⌜ (r .fleet ≡ f) × Kept r ⌝ }
+{
+    let n = f.n as usize;
+    let mut running = 0;
+    let mut vetoing = 0;
+    let mut i = 0;
+    while i < n {
+        let t = f.trucks[i];
+        running = joined(running, i, truck::runs(t));
+        vetoing = joined(vetoing, i, truck::vetoes(t));
+        i += 1;
+    }
+    Roster {
+        fleet: f,
+        running,
+        vetoing,
     }
 }

@@ -1,22 +1,13 @@
 -- `grade` meets its contract.
 use mathlib.Core.Path.{sym, _∙_}
+use borrow.Author.Needs.{needs}
 use Rattle.protocol.specs.Fleets.{graded}
 use Rattle.fleet.specs.Replays.{gradesAfter}
-use borrow.Author.Needs.{needs}
 use Rattle.fleet.proofs.grade.Statement.{statement}
 use Rattle.fleet.proofs.grade.Tie as tie
 
-check-requires : tie.Need-check-requires
-check-requires c κs = search needs
-
-enum-told : tie.Need-enum-told
-enum-told c = search needs
-
 replay-requires : tie.Need-replay-requires
 replay-requires c κs = sym (c .before .before .check .ensures) ∙ c .enum-told .given .1
-
-enum-known-outcome : tie.Need-enum-known-outcome
-enum-known-outcome c = search needs
 
 returns : tie.Need-returns
 unfolding graded gradesAfter
@@ -29,4 +20,4 @@ returns-2 c = rw (sym (c .before .before .before .check .ensures) ∙ c .before 
 pub grade-spec : {M : Type 1} → statement M
 grade-spec =
     tie.close
-    (tie.spec check-requires enum-told replay-requires enum-known-outcome returns returns-2)
+    (tie.spec (λ c κs. search needs) (λ c. search needs) replay-requires (λ c. search needs) returns returns-2)

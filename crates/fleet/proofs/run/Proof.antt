@@ -1,24 +1,12 @@
 -- `run` meets its contract.
 use mathlib.Core.Path.{sym, _∙_}
-use Rattle.protocol.specs.Fleets.{ran}
 use borrow.Author.Needs.{needs}
+use Rattle.protocol.specs.Fleets.{ran}
 use Rattle.fleet.proofs.run.Statement.{statement}
 use Rattle.fleet.proofs.run.Tie as tie
 
-check-requires : tie.Need-check-requires
-check-requires c κs = search needs
-
-enum-told : tie.Need-enum-told
-enum-told c = search needs
-
 replay-requires : tie.Need-replay-requires
 replay-requires c κs = sym (c .before .before .check .ensures) ∙ c .enum-told .given .1
-
-enum-known-outcome : tie.Need-enum-known-outcome
-enum-known-outcome c = search needs
-
-refused-requires : tie.Need-refused-requires
-refused-requires c κs = search needs
 
 returns : tie.Need-returns
 unfolding ran
@@ -32,10 +20,10 @@ pub run-spec : {M : Type 1} → statement M
 run-spec =
     tie.close
     (tie.spec
-    check-requires
-    enum-told
+    (λ c κs. search needs)
+    (λ c. search needs)
     replay-requires
-    enum-known-outcome
-    refused-requires
+    (λ c. search needs)
+    (λ c κs. search needs)
     returns
     returns-2)

@@ -1,21 +1,12 @@
 -- `step` meets its contract.
 use mathlib.Core.Path.{sym, _∙_}
-use Rattle.protocol.specs.Fleets.{stepped}
 use borrow.Author.Needs.{needs}
+use Rattle.protocol.specs.Fleets.{stepped}
 use Rattle.fleet.proofs.step.Statement.{statement}
 use Rattle.fleet.proofs.step.Tie as tie
 
-check-step-requires : tie.Need-check-step-requires
-check-step-requires c κs = search needs
-
-enum-told : tie.Need-enum-told
-enum-told c = search needs
-
 next-fleet-requires : tie.Need-next-fleet-requires
 next-fleet-requires c κs = sym (c .before .before .check-step .ensures) ∙ c .enum-told .given .1
-
-enum-known-outcome : tie.Need-enum-known-outcome
-enum-known-outcome c = search needs
 
 returns : tie.Need-returns
 unfolding stepped
@@ -29,9 +20,9 @@ pub step-spec : {M : Type 1} → statement M
 step-spec =
     tie.close
     (tie.spec
-    check-step-requires
-    enum-told
+    (λ c κs. search needs)
+    (λ c. search needs)
     next-fleet-requires
-    enum-known-outcome
+    (λ c. search needs)
     returns
     returns-2)

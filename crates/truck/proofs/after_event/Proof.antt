@@ -1,3 +1,4 @@
+-- `after_event` meets its contract.
 use mathlib.Core.Path.{_∙_}
 use borrow.Author.Needs.{needs}
 use Rattle.truck.proofs.after_event.Statement.{statement}

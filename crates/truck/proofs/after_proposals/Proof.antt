@@ -1,3 +1,4 @@
+-- `after_proposals` meets its contract.
 use Rattle.truck.proofs.after_proposals.Statement.{statement}
 use Rattle.truck.proofs.after_proposals.Tie as tie
 

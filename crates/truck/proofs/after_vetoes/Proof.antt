@@ -1,3 +1,4 @@
+-- `after_vetoes` meets its contract.
 use mathlib.Core.Path.{sym, _∙_}
 use borrow.Author.Needs.{needs}
 use Rattle.truck.proofs.after_vetoes.Statement.{statement}

@@ -1,3 +1,4 @@
+-- `decides` meets its contract.
 use borrow.Author.Needs.{needs}
 use Rattle.truck.proofs.decides.Statement.{statement}
 use Rattle.truck.proofs.decides.Tie as tie

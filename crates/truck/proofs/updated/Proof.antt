@@ -1,3 +1,4 @@
+-- `updated` meets its contract.
 use mathlib.Core.Path.{_∙_}
 use borrow.Author.Needs.{needs}
 use Rattle.truck.proofs.updated.Statement.{statement}

@@ -1,3 +1,4 @@
+-- `vetoes` meets its contract.
 use borrow.Author.Needs.{needs}
 use Rattle.truck.proofs.vetoes.Statement.{statement}
 use Rattle.truck.proofs.vetoes.Tie as tie

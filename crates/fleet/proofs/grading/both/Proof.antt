@@ -1,6 +1,6 @@
 -- `both` meets its contract.
-use Rattle.fleet.specs.Grading.{bothOf}
 use borrow.Author.Needs.{needs}
+use Rattle.fleet.specs.Grading.{bothOf}
 use Rattle.fleet.proofs.grading.both.Statement.{statement}
 use Rattle.fleet.proofs.grading.both.Tie as tie
 

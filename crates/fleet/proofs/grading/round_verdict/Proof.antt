@@ -2,13 +2,13 @@
 use mathlib.Core.Path.{_≡_, ap₂, _∙_}
 use mathlib.Core.Bool.{true}
 use Prim.Native.Nat.{ℕ}
+use borrow.Author.Needs.{needs}
 use Rattle.basics.specs.Bits.{bit}
 use Rattle.air.specs.Air.{Air}
 use Rattle.words.proofs.Words.{removed-lt}
 use Rattle.fleet.specs.Grading.{Described, bothOf, truckVerdict}
 use Rattle.fleet.proofs.Members.{within-removed}
 use Rattle.fleet.proofs.Verdicts.{soFar, verdict-starts, verdict-more, verdict-done}
-use borrow.Author.Needs.{needs}
 use Rattle.fleet.proofs.grading.round_verdict.Statement.{statement}
 use Rattle.fleet.proofs.grading.round_verdict.Tie as tie
 
@@ -21,30 +21,6 @@ abbrev μ-loop : tie.MeasureT-loop
 
 loop-holds : tie.Need-loop-holds Inv-loop μ-loop
 loop-holds c = ((λ j h. h), λ a d. verdict-starts a _ _ _ _ d)
-
-lowest-requires : tie.Need-lowest-requires Inv-loop μ-loop
-lowest-requires c κs = search needs
-
-mul-heard-set : tie.Need-mul-heard-set Inv-loop μ-loop
-mul-heard-set c = search needs
-
-element-copy-out-heard-set : tie.Need-element-copy-out-heard-set Inv-loop μ-loop
-element-copy-out-heard-set c = search needs
-
-heard-set-requires : tie.Need-heard-set-requires Inv-loop μ-loop
-heard-set-requires c κs = search needs
-
-holds-requires : tie.Need-holds-requires Inv-loop μ-loop
-holds-requires c κs = search needs
-
-truck-verdict-requires : tie.Need-truck-verdict-requires Inv-loop μ-loop
-truck-verdict-requires c κs = search needs
-
-both-requires : tie.Need-both-requires Inv-loop μ-loop
-both-requires c κs = search needs
-
-without-requires : tie.Need-without-requires Inv-loop μ-loop
-without-requires c κs = search needs
 
 loop-less : tie.Need-loop-less Inv-loop μ-loop
 loop-less c = rw (c .without .ensures) (removed-lt _ _ (c .before .before .before .before .before .before .lowest .ensures .1))
@@ -71,14 +47,14 @@ round-verdict-spec =
     Inv-loop
     μ-loop
     loop-holds
-    lowest-requires
-    mul-heard-set
-    element-copy-out-heard-set
-    heard-set-requires
-    holds-requires
-    truck-verdict-requires
-    both-requires
-    without-requires
+    (λ c κs. search needs)
+    (λ c. search needs)
+    (λ c. search needs)
+    (λ c κs. search needs)
+    (λ c κs. search needs)
+    (λ c κs. search needs)
+    (λ c κs. search needs)
+    (λ c κs. search needs)
     loop-less
     loop-again
     returns)

@@ -1,8 +1,8 @@
 -- `truck_verdict` meets its contract.
 use native.Mathlib.Omega.{arith}
+use borrow.Author.Needs.{needs}
 use lib.Count.{ones-le}
 use Rattle.fleet.specs.Grading.{truckVerdict}
-use borrow.Author.Needs.{needs}
 use Rattle.fleet.proofs.grading.truck_verdict.Statement.{statement}
 use Rattle.fleet.proofs.grading.truck_verdict.Tie as tie
 

@@ -3,9 +3,6 @@ use borrow.Author.Needs.{needs}
 use Rattle.fleet.proofs.hearing.joined.Statement.{statement}
 use Rattle.fleet.proofs.hearing.joined.Tie as tie
 
-only-requires : tie.Need-only-requires
-only-requires c κs = search needs
-
 returns : tie.Need-returns
 returns c = rw (c .only .ensures, c .before .if1 .taken)
 
@@ -13,4 +10,4 @@ returns-2 : tie.Need-returns-2
 returns-2 c = rw (c .if1 .left)
 
 pub joined-spec : {M : Type 1} → statement M
-joined-spec = tie.close (tie.spec only-requires returns returns-2)
+joined-spec = tie.close (tie.spec (λ c κs. search needs) returns returns-2)

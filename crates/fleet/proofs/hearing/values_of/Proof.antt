@@ -5,12 +5,12 @@ use Prim.Native.Nat.{_≤_, _-_}
 use native.Mathlib.Omega.{arith}
 use native.Mathlib.Numerals.{add-one}
 use borrow.Author.Tests.{ne-eqb, eq-eqb}
+use borrow.Author.Needs.{needs}
 use Rattle.basics.specs.Lists.{first}
 use Rattle.basics.proofs.Laws.{first-none, first-on}
 use Rattle.fleet.specs.Sets.{wasHeard}
 use Rattle.fleet.proofs.Laws.{first-found}
 use Rattle.fleet.proofs.ByCrusher.{values-hit, values-none, values-silent}
-use borrow.Author.Needs.{needs}
 use Rattle.fleet.proofs.hearing.values_of.Statement.{statement}
 use Rattle.fleet.proofs.hearing.values_of.Tie as tie
 
@@ -26,18 +26,6 @@ returns c = let a = c .before .args in sym (values-silent (a .values .now) (a .h
 loop-holds : tie.Need-loop-holds Inv-loop μ-loop
 loop-holds c = (search needs, first-none (wasHeard (c .before .args .values .now) (c .before .args .heard)))
 
-mul-here : tie.Need-mul-here Inv-loop μ-loop
-mul-here c = search needs
-
-element-copy-out-here : tie.Need-element-copy-out-here Inv-loop μ-loop
-element-copy-out-here c = search needs
-
-count-requires : tie.Need-count-requires Inv-loop μ-loop
-count-requires c κs = search needs
-
-cast-t14 : tie.Need-cast-t14 Inv-loop μ-loop
-cast-t14 c = search needs
-
 returns-2 : tie.Need-returns-2 Inv-loop μ-loop
 returns-2 c =
     let a = c .before .before .before .before .before .before .args in
@@ -45,12 +33,6 @@ returns-2 c =
     rw (c .count .ensures)
     (sym (values-hit (a .values .now) (a .heard) (a .estimate) (i .c) (c .before .before .before .loop-test .taken)
     (first-found (wasHeard (a .values .now) (a .heard)) 16 (i .c) (c .before .before .before .loop-test .taken) (i .inv .1) (ap not (ne-eqb _ 0 (c .before .if2 .taken))))))
-
-add-c : tie.Need-add-c Inv-loop μ-loop
-add-c c = search needs
-
-loop-less : tie.Need-loop-less Inv-loop μ-loop
-loop-less c = search needs
 
 loop-again : tie.Need-loop-again Inv-loop μ-loop
 loop-again c =
@@ -73,12 +55,12 @@ values-of-spec =
     μ-loop
     returns
     loop-holds
-    mul-here
-    element-copy-out-here
-    count-requires
-    cast-t14
+    (λ c. search needs)
+    (λ c. search needs)
+    (λ c κs. search needs)
+    (λ c. search needs)
     returns-2
-    add-c
-    loop-less
+    (λ c. search needs)
+    (λ c. search needs)
     loop-again
     returns-3)

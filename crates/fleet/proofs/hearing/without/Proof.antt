@@ -3,11 +3,8 @@ use borrow.Author.Needs.{needs}
 use Rattle.fleet.proofs.hearing.without.Statement.{statement}
 use Rattle.fleet.proofs.hearing.without.Tie as tie
 
-only-requires : tie.Need-only-requires
-only-requires c κs = search needs
-
 returns : tie.Need-returns
 returns c = rw (c .only .ensures)
 
 pub without-spec : {M : Type 1} → statement M
-without-spec = tie.close (tie.spec only-requires returns)
+without-spec = tie.close (tie.spec (λ c κs. search needs) returns)

@@ -3,9 +3,6 @@ use borrow.Author.Needs.{needs}
 use Rattle.fleet.proofs.replay.grades_after.Statement.{statement}
 use Rattle.fleet.proofs.replay.grades_after.Tie as tie
 
-graded-requires : tie.Need-graded-requires
-graded-requires c κs = search needs
-
 returns : tie.Need-returns
 returns c = λ a d. rw (c .before .if1 .taken) (c .graded .ensures a d)
 
@@ -13,4 +10,4 @@ returns-2 : tie.Need-returns-2
 returns-2 c = λ a d. rw (c .if1 .left)
 
 pub grades-after-spec : {M : Type 1} → statement M
-grades-after-spec = tie.close (tie.spec graded-requires returns returns-2)
+grades-after-spec = tie.close (tie.spec (λ c κs. search needs) returns returns-2)

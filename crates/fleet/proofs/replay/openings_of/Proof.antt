@@ -4,11 +4,11 @@ use mathlib.Core.List.{List}
 use Prim.Native.Nat.{ℕ, _≤_, _-_}
 use native.Mathlib.Omega.{arith}
 use native.Mathlib.Numerals.{add-one}
+use borrow.Author.Needs.{needs}
 use lib.ListN.{set, replicate}
 use Rattle.basics.specs.Lists.{filled}
 use Rattle.basics.proofs.Laws.{filled-none, filled-more}
 use Rattle.recording.specs.Packed.{openingAt}
-use borrow.Author.Needs.{needs}
 use Rattle.fleet.proofs.replay.openings_of.Statement.{statement}
 use Rattle.fleet.proofs.replay.openings_of.Tie as tie
 
@@ -20,21 +20,6 @@ abbrev μ-loop : tie.MeasureT-loop
 
 loop-holds : tie.Need-loop-holds Inv-loop μ-loop
 loop-holds c = (search needs, sym (filled-none (openingAt (c .before .args .s .now)) (replicate 32 0)))
-
-cast-k : tie.Need-cast-k Inv-loop μ-loop
-cast-k c = search needs
-
-opening-requires : tie.Need-opening-requires Inv-loop μ-loop
-opening-requires c κs = search needs
-
-array-write-openings : tie.Need-array-write-openings Inv-loop μ-loop
-array-write-openings c = search needs
-
-add-i : tie.Need-add-i Inv-loop μ-loop
-add-i c = search needs
-
-loop-less : tie.Need-loop-less Inv-loop μ-loop
-loop-less c = search needs
 
 loop-again : tie.Need-loop-again Inv-loop μ-loop
 loop-again c =
@@ -54,10 +39,10 @@ openings-of-spec =
     Inv-loop
     μ-loop
     loop-holds
-    cast-k
-    opening-requires
-    array-write-openings
-    add-i
-    loop-less
+    (λ c. search needs)
+    (λ c κs. search needs)
+    (λ c. search needs)
+    (λ c. search needs)
+    (λ c. search needs)
     loop-again
     returns)

@@ -1,8 +1,8 @@
 -- `rows_at` meets its contract.
 use native.Mathlib.Omega.{arith}
+use borrow.Author.Needs.{needs}
 use Rattle.words.proofs.Words.{removed-lt}
 use Rattle.fleet.proofs.Reading.{product, Rows, rows-start, rows-below, rows-more, rows-done}
-use borrow.Author.Needs.{needs}
 use Rattle.fleet.proofs.replay.rows_at.Statement.{statement}
 use Rattle.fleet.proofs.replay.rows_at.Tie as tie
 
@@ -15,26 +15,11 @@ abbrev μ-loop : tie.MeasureT-loop
 loop-holds : tie.Need-loop-holds Inv-loop μ-loop
 loop-holds c = rows-start (c .before .args .s .now) (c .before .args .at) (c .before .args .n) (c .before .args .among)
 
-lowest-requires : tie.Need-lowest-requires Inv-loop μ-loop
-lowest-requires c κs = search needs
-
 mul-row-at : tie.Need-mul-row-at Inv-loop μ-loop
 mul-row-at c = omega (arith, product (c .lowest .result) (c .before .before .before .before .args .n) (c .lowest .ensures .0) (c .before .before .before .before .pre .0))
 
 add-row-at : tie.Need-add-row-at Inv-loop μ-loop
 add-row-at c = omega (arith, product (c .lowest .result) (c .before .before .before .before .args .n) (c .lowest .ensures .0) (c .before .before .before .before .pre .0), c .before .before .before .before .pre .1)
-
-row-at-requires : tie.Need-row-at-requires Inv-loop μ-loop
-row-at-requires c κs = search needs
-
-mul-rows : tie.Need-mul-rows Inv-loop μ-loop
-mul-rows c = search needs
-
-array-write-rows : tie.Need-array-write-rows Inv-loop μ-loop
-array-write-rows c = search needs
-
-without-requires : tie.Need-without-requires Inv-loop μ-loop
-without-requires c κs = search needs
 
 loop-less : tie.Need-loop-less Inv-loop μ-loop
 loop-less c = rw (c .without .ensures) (removed-lt _ _ (c .before .before .lowest .ensures .1))
@@ -60,13 +45,13 @@ rows-at-spec =
     Inv-loop
     μ-loop
     loop-holds
-    lowest-requires
+    (λ c κs. search needs)
     mul-row-at
     add-row-at
-    row-at-requires
-    mul-rows
-    array-write-rows
-    without-requires
+    (λ c κs. search needs)
+    (λ c. search needs)
+    (λ c. search needs)
+    (λ c κs. search needs)
     loop-less
     loop-again
     returns)

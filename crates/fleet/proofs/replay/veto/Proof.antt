@@ -1,19 +1,13 @@
 -- `veto` meets its contract.
 use native.Mathlib.Omega.{arith}
+use borrow.Author.Needs.{needs}
 use Rattle.fleet.proofs.Laws.{after-odd}
 use Rattle.fleet.proofs.Stages.{few-trucks, few-done, place-low, ready, listeners-below, veto-done}
-use borrow.Author.Needs.{needs}
 use Rattle.fleet.proofs.replay.veto.Statement.{statement}
 use Rattle.fleet.proofs.replay.veto.Tie as tie
 
-cast-n : tie.Need-cast-n
-cast-n c = search needs
-
 add-k : tie.Need-add-k
 add-k c = omega (arith, few-done (c .before .before .before .args .s .now) (c .before .before .before .args .at) (c .before .before .before .args .judging) (c .before .before .before .args .c) (c .before .before .before .pre .0) (c .before .before .before .pre .1))
-
-row-at-requires : tie.Need-row-at-requires
-row-at-requires c κs = search needs
 
 mul-row-at : tie.Need-mul-row-at
 mul-row-at c = omega (arith, few-trucks (c .before .before .before .before .args .s .now) (c .before .before .before .before .args .at) (c .before .before .before .before .args .judging) (c .before .before .before .before .args .c) (c .before .before .before .before .pre .0))
@@ -21,17 +15,11 @@ mul-row-at c = omega (arith, few-trucks (c .before .before .before .before .args
 add-row-at : tie.Need-add-row-at
 add-row-at c = omega (arith, few-trucks (c .before .before .before .before .args .s .now) (c .before .before .before .before .args .at) (c .before .before .before .before .args .judging) (c .before .before .before .before .args .c) (c .before .before .before .before .pre .0), place-low (c .before .before .before .before .args .s .now) (c .before .before .before .before .args .at) (c .before .before .before .before .args .judging) (c .before .before .before .before .args .c) (c .before .before .before .before .pre .0) (c .before .before .before .before .pre .1))
 
-row-at-requires-2 : tie.Need-row-at-requires-2
-row-at-requires-2 c κs = search needs
-
 mul-rows-at : tie.Need-mul-rows-at
 mul-rows-at c = omega (arith, few-trucks (c .before .before .before .before .before .args .s .now) (c .before .before .before .before .before .args .at) (c .before .before .before .before .before .args .judging) (c .before .before .before .before .before .args .c) (c .before .before .before .before .before .pre .0))
 
 add-rows-at : tie.Need-add-rows-at
 add-rows-at c = omega (arith, few-trucks (c .before .before .before .before .before .args .s .now) (c .before .before .before .before .before .args .at) (c .before .before .before .before .before .args .judging) (c .before .before .before .before .before .args .c) (c .before .before .before .before .before .pre .0), place-low (c .before .before .before .before .before .args .s .now) (c .before .before .before .before .before .args .at) (c .before .before .before .before .before .args .judging) (c .before .before .before .before .before .args .c) (c .before .before .before .before .before .pre .0) (c .before .before .before .before .before .pre .1))
-
-listeners-requires : tie.Need-listeners-requires
-listeners-requires c κs = search needs
 
 rows-at-requires : tie.Need-rows-at-requires
 rows-at-requires c κs =
@@ -39,9 +27,6 @@ rows-at-requires c κs =
     let few = few-trucks (z .args .s .now) (z .args .at) (z .args .judging) (z .args .c) (z .pre .0) in
     let low = place-low (z .args .s .now) (z .args .at) (z .args .judging) (z .args .c) (z .pre .0) (z .pre .1) in
     (few, omega arith, listeners-below (z .args .s .now) (z .args .at) (z .args .judging) (z .args .c) (z .pre .0) (z .pre .1) (c .before .before .row-at .result) (z .args .c .roster .vetoing) (c .listeners .result) (c .listeners .ensures))
-
-grades-after-requires : tie.Need-grades-after-requires
-grades-after-requires c κs = search needs
 
 veto-round-requires : tie.Need-veto-round-requires
 veto-round-requires c κs =
@@ -61,16 +46,16 @@ pub veto-spec : {M : Type 1} → statement M
 veto-spec =
     tie.close
     (tie.spec
-    cast-n
+    (λ c. search needs)
     add-k
-    row-at-requires
+    (λ c κs. search needs)
     mul-row-at
     add-row-at
-    row-at-requires-2
+    (λ c κs. search needs)
     mul-rows-at
     add-rows-at
-    listeners-requires
+    (λ c κs. search needs)
     rows-at-requires
-    grades-after-requires
+    (λ c κs. search needs)
     veto-round-requires
     returns)

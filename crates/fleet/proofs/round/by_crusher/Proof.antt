@@ -1,8 +1,8 @@
 -- `by_crusher` meets its contract.
+use borrow.Author.Needs.{needs}
 use Rattle.words.proofs.Words.{removed-lt}
 use Rattle.fleet.specs.Rounds.{estimates}
 use Rattle.fleet.proofs.Loops.{Sorting, sorting-starts, sorting-below, sorting-more, sorting-done}
-use borrow.Author.Needs.{needs}
 use Rattle.fleet.proofs.round.by_crusher.Statement.{statement}
 use Rattle.fleet.proofs.round.by_crusher.Tie as tie
 
@@ -15,39 +15,15 @@ abbrev μ-loop : tie.MeasureT-loop
 loop-holds : tie.Need-loop-holds Inv-loop μ-loop
 loop-holds c = sorting-starts (c .args .t1 .n) (c .args .senders) (estimates (c .args .t1 .trucks))
 
-lowest-requires : tie.Need-lowest-requires Inv-loop μ-loop
-lowest-requires c κs = search needs
-
-mul-t : tie.Need-mul-t Inv-loop μ-loop
-mul-t c = search needs
-
-element-copy-out-t : tie.Need-element-copy-out-t Inv-loop μ-loop
-element-copy-out-t c = search needs
-
-cast-c : tie.Need-cast-c Inv-loop μ-loop
-cast-c c = search needs
-
-mul-values : tie.Need-mul-values Inv-loop μ-loop
-mul-values c = search needs
-
 array-read-values : tie.Need-array-read-values Inv-loop μ-loop
 array-read-values c =
     let s = c .before .before .before .before .before in
     s .pre .2 (c .before .before .lowest .result) (sorting-below (s .args .t1 .n) (s .args .senders) (estimates (s .args .t1 .trucks)) (c .before .before .before .before .loop .inv) (s .pre .1) (c .before .before .lowest .result) (c .before .before .lowest .ensures .1))
 
-only-requires : tie.Need-only-requires Inv-loop μ-loop
-only-requires c κs = search needs
-
-mul-values-2 : tie.Need-mul-values-2 Inv-loop μ-loop
-mul-values-2 c = search needs
-
 array-write-values : tie.Need-array-write-values Inv-loop μ-loop
 array-write-values c =
     let s = c .before .before .before .before .before .before in
     s .pre .2 (c .before .before .before .lowest .result) (sorting-below (s .args .t1 .n) (s .args .senders) (estimates (s .args .t1 .trucks)) (c .before .before .before .before .before .loop .inv) (s .pre .1) (c .before .before .before .lowest .result) (c .before .before .before .lowest .ensures .1))
-
-without-requires : tie.Need-without-requires Inv-loop μ-loop
-without-requires c κs = search needs
 
 loop-less : tie.Need-loop-less Inv-loop μ-loop
 loop-less c = rw (c .without .ensures) (removed-lt _ _ (c .before .before .before .before .lowest .ensures .1))
@@ -73,16 +49,16 @@ by-crusher-spec =
     Inv-loop
     μ-loop
     loop-holds
-    lowest-requires
-    mul-t
-    element-copy-out-t
-    cast-c
-    mul-values
+    (λ c κs. search needs)
+    (λ c. search needs)
+    (λ c. search needs)
+    (λ c. search needs)
+    (λ c. search needs)
     array-read-values
-    only-requires
-    mul-values-2
+    (λ c κs. search needs)
+    (λ c. search needs)
     array-write-values
-    without-requires
+    (λ c κs. search needs)
     loop-less
     loop-again
     returns)

@@ -1,25 +1,13 @@
 -- `proposal_event` meets its contract.
 use mathlib.Core.Path.{sym, _∙_}
-use Rattle.fleet.specs.Rounds.{proposalEvent}
 use borrow.Author.Needs.{needs}
+use Rattle.fleet.specs.Rounds.{proposalEvent}
 use Rattle.fleet.proofs.round.proposal_event.Statement.{statement}
 use Rattle.fleet.proofs.round.proposal_event.Tie as tie
-
-holds-requires : tie.Need-holds-requires
-holds-requires c κs = search needs
 
 returns : tie.Need-returns
 unfolding proposalEvent
 returns c = rw (sym (c .before .holds .ensures) ∙ c .if1 .taken)
-
-heard-set-requires : tie.Need-heard-set-requires
-heard-set-requires c κs = search needs
-
-values-of-requires : tie.Need-values-of-requires
-values-of-requires c κs = search needs
-
-holds-requires-2 : tie.Need-holds-requires-2
-holds-requires-2 c κs = search needs
 
 returns-2 : tie.Need-returns-2
 unfolding proposalEvent
@@ -29,9 +17,9 @@ pub proposal-event-spec : {M : Type 1} → statement M
 proposal-event-spec =
     tie.close
     (tie.spec
-    holds-requires
+    (λ c κs. search needs)
     returns
-    heard-set-requires
-    values-of-requires
-    holds-requires-2
+    (λ c κs. search needs)
+    (λ c κs. search needs)
+    (λ c κs. search needs)
     returns-2)

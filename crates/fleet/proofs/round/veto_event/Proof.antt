@@ -1,22 +1,13 @@
 -- `veto_event` meets its contract.
 use mathlib.Core.Path.{sym, _∙_}
-use Rattle.fleet.specs.Rounds.{vetoEvent}
 use borrow.Author.Needs.{needs}
+use Rattle.fleet.specs.Rounds.{vetoEvent}
 use Rattle.fleet.proofs.round.veto_event.Statement.{statement}
 use Rattle.fleet.proofs.round.veto_event.Tie as tie
-
-holds-requires : tie.Need-holds-requires
-holds-requires c κs = search needs
 
 returns : tie.Need-returns
 unfolding vetoEvent
 returns c = rw (sym (c .before .holds .ensures) ∙ c .if1 .taken)
-
-holds-requires-2 : tie.Need-holds-requires-2
-holds-requires-2 c κs = search needs
-
-heard-set-requires : tie.Need-heard-set-requires
-heard-set-requires c κs = search needs
 
 returns-2 : tie.Need-returns-2
 unfolding vetoEvent
@@ -24,4 +15,4 @@ returns-2 c = rw (sym (c .before .before .before .holds .ensures) ∙ c .before 
 
 pub veto-event-spec : {M : Type 1} → statement M
 veto-event-spec =
-    tie.close (tie.spec holds-requires returns holds-requires-2 heard-set-requires returns-2)
+    tie.close (tie.spec (λ c κs. search needs) returns (λ c κs. search needs) (λ c κs. search needs) returns-2)

@@ -1,14 +1,14 @@
--- `roster` meets its contract.
+-- `roster_of` meets its contract.
 use mathlib.Core.Path.{_≡_, refl, subst}
 use Prim.Native.Nat.{ℕ, _≤_, _-_}
 use native.Mathlib.Omega.{arith}
 use native.Mathlib.Numerals.{add-one}
+use borrow.Author.Needs.{needs}
 use Rattle.protocol.specs.Rules.{truck, runs, vetoes}
 use Rattle.fleet.specs.Sets.{Members}
 use Rattle.fleet.proofs.Members.{members-none, members-next}
-use borrow.Author.Needs.{needs}
-use Rattle.fleet.proofs.record.roster.Statement.{statement}
-use Rattle.fleet.proofs.record.roster.Tie as tie
+use Rattle.fleet.proofs.round.roster_of.Statement.{statement}
+use Rattle.fleet.proofs.round.roster_of.Tie as tie
 
 abbrev Inv-loop : tie.InvT-loop
 Inv-loop f n running₀ vetoing₀ i₀ running vetoing i =
@@ -17,35 +17,8 @@ Inv-loop f n running₀ vetoing₀ i₀ running vetoing i =
 abbrev μ-loop : tie.MeasureT-loop
 μ-loop f n running₀ vetoing₀ i₀ running vetoing i = n - i
 
-cast-n : tie.Need-cast-n Inv-loop μ-loop
-cast-n c = search needs
-
 loop-holds : tie.Need-loop-holds Inv-loop μ-loop
 loop-holds c = (search needs, members-none 0 _ (λ j l. absurd (omega arith)), members-none 0 _ (λ j l. absurd (omega arith)))
-
-mul-t : tie.Need-mul-t Inv-loop μ-loop
-mul-t c = search needs
-
-element-copy-out-t : tie.Need-element-copy-out-t Inv-loop μ-loop
-element-copy-out-t c = search needs
-
-runs-requires : tie.Need-runs-requires Inv-loop μ-loop
-runs-requires c κs = search needs
-
-joined-requires : tie.Need-joined-requires Inv-loop μ-loop
-joined-requires c κs = search needs
-
-vetoes-requires : tie.Need-vetoes-requires Inv-loop μ-loop
-vetoes-requires c κs = search needs
-
-joined-requires-2 : tie.Need-joined-requires-2 Inv-loop μ-loop
-joined-requires-2 c κs = search needs
-
-add-i : tie.Need-add-i Inv-loop μ-loop
-add-i c = search needs
-
-loop-less : tie.Need-loop-less Inv-loop μ-loop
-loop-less c = search needs
 
 loop-again : tie.Need-loop-again Inv-loop μ-loop
 loop-again c =
@@ -68,21 +41,21 @@ returns c =
       },
     )
 
-pub roster-spec : {M : Type 1} → statement M
-roster-spec =
+pub roster-of-spec : {M : Type 1} → statement M
+roster-of-spec =
     tie.close
     (tie.spec
     Inv-loop
     μ-loop
-    cast-n
+    (λ c. search needs)
     loop-holds
-    mul-t
-    element-copy-out-t
-    runs-requires
-    joined-requires
-    vetoes-requires
-    joined-requires-2
-    add-i
-    loop-less
+    (λ c. search needs)
+    (λ c. search needs)
+    (λ c κs. search needs)
+    (λ c κs. search needs)
+    (λ c κs. search needs)
+    (λ c κs. search needs)
+    (λ c. search needs)
+    (λ c. search needs)
     loop-again
     returns)

@@ -1,31 +1,24 @@
 -- Fleet records: a fleet that opens, and what refusal 7 asks.
 use mathlib.Core.Path.{_≡_, refl, ap, sym, _∙_}
-use mathlib.Core.Bool.{Bool, true, false, not, _&&_}
+use mathlib.Core.Bool.{true, false}
 use mathlib.Core.List.{List, []}
 use Prim.Native.Nat.{ℕ, _+_, _≤_, _<_}
 use native.Mathlib.Decide.{decLt}
 use native.Mathlib.Omega.{arith}
-use lib.Dec.{eqb, leb}
-use borrow.Author.Tests.{le-leb, lt-leb, leb-true, eqb-false, not-true, not-false}
 use native.Mathlib.Numerals.{add-one}
+use borrow.Author.Tests.{le-leb, lt-leb}
 use lib.ListN.{length, getD, set, List·getD-eq-default}
 use lib.Seq.{ext-getD}
 use Rattle.basics.specs.Lists.{filled, allBelow}
-use Rattle.basics.proofs.Laws.{and-left, and-right, allBelow-at, length-tab, getD-tab, length-filled, getD-filled, getD-filled-past, filled-none, filled-more}
-use Rattle.refusals.specs.declared.Refusal.the-variants.{Record, RoundsDone}
-use Rattle.refusals.specs.declared.Outcome.{Outcome}
-use Rattle.refusals.specs.declared.Outcome.the-variants.{Accepted}
-use Rattle.recording.specs.Checks.{refuse, badTrucks, roundCheck}
-use Rattle.recording.proofs.Accepted.{refuse-false, refuse-rest, trucks-in}
-use Rattle.recording.proofs.Rounds.{round-good}
+use Rattle.basics.proofs.Laws.{length-tab, getD-tab, length-filled, getD-filled, getD-filled-past, filled-none, filled-more}
+use Rattle.recording.specs.Checks.{badTrucks}
 use Rattle.protocol.specs.declared.Truck.{Truck}
 use Rattle.protocol.specs.declared.Fleet.{Fleet}
 use Rattle.protocol.specs.Rules.{opened, truck}
 use Rattle.air.specs.Runs.{stateAt}
 use Rattle.protocol.specs.Runs.{openedTrucks, trucksAt}
-use Rattle.protocol.specs.Fleets.{blank, goodTruck, goodFleet, stepCheck}
-use Rattle.protocol.proofs.Good.{good-parts}
-use Rattle.fleet.specs.Rounds.{openFleet}
+use Rattle.protocol.specs.Fleets.{blank, goodTruck, goodFleet}
+use Rattle.start.specs.Opens.{openFleet}
 
 pub length-opened : (openings : List ℕ) → length (openedTrucks openings) ≡ 32
 unfolding openedTrucks
@@ -93,29 +86,3 @@ bad-done f h l = rw (h, lt-leb (f .done) 400 l)
 pub good-count : (f : Fleet) → badTrucks (f .n) ≡ false → f .done ≤ 400 → goodFleet f ≡ allBelow (λ i. goodTruck (f .done) (truck (f .trucks) i)) (f .n)
 unfolding goodFleet
 good-count f h l = rw (h, le-leb (f .done) 400 l)
-
--- what an accepted step says of the record and of the round
-pub record StepGood (f : Fleet) (w : List ℕ) : Type 0 where
-  pub most : f .n ≤ 32
-  pub room : f .done < 400
-  pub small : (j : ℕ) → j < f .n → truck (f .trucks) j .estimate < 16
-  pub count : length w ≡ 3 + f .n
-
-pub step-good : (f : Fleet) (w : List ℕ) → stepCheck f w ≡ Accepted → StepGood f w
-unfolding stepCheck goodFleet
-step-good f w h =
-    let later : Outcome = refuse (eqb (f .done) 400) RoundsDone (roundCheck (f .n) w) in
-    let counts : Bool = not (badTrucks (f .n)) && leb (f .done) 400 in
-    let trucks : Bool = allBelow (λ i. goodTruck (f .done) (truck (f .trucks) i)) (f .n) in
-    let good : (counts && trucks) ≡ true = not-false (counts && trucks) (refuse-false (not (counts && trucks)) Record later h) in
-    let two : counts ≡ true = and-left counts trucks good in
-    let rest : later ≡ Accepted = refuse-rest (not (counts && trucks)) Record later h in
-    let full : f .done ≡ 400 → ⊥ = eqb-false (f .done) 400 (refuse-false (eqb (f .done) 400) RoundsDone (roundCheck (f .n) w) rest) in
-    record {
-      most = trucks-in (f .n) (not-true (badTrucks (f .n)) (and-left (not (badTrucks (f .n))) (leb (f .done) 400) two)) .1;
-      room = omega (arith, leb-true (f .done) 400 (and-right (not (badTrucks (f .n))) (leb (f .done) 400) two));
-      small = λ j l.
-          let g = good-parts (f .done) (truck (f .trucks) j) (allBelow-at (λ i. goodTruck (f .done) (truck (f .trucks) i)) (f .n) (and-right counts trucks good) j l) in
-          omega (arith, leb-true (truck (f .trucks) j .estimate) 15 (g .estimate));
-      count = round-good (f .n) w (refuse-rest (eqb (f .done) 400) RoundsDone (roundCheck (f .n) w) rest) .count;
-    }

@@ -1,13 +1,10 @@
 -- `good_fleet` meets its contract.
 use mathlib.Core.Path.{sym, _∙_}
-use Rattle.recording.proofs.Accepted.{trucks-in}
-use Rattle.fleet.proofs.Records.{bad-count, bad-done, good-count}
 use borrow.Author.Needs.{needs}
-use Rattle.fleet.proofs.record.good_fleet.Statement.{statement}
-use Rattle.fleet.proofs.record.good_fleet.Tie as tie
-
-bad-trucks-requires : tie.Need-bad-trucks-requires
-bad-trucks-requires c κs = search needs
+use Rattle.recording.proofs.Accepted.{trucks-in}
+use Rattle.start.proofs.Records.{bad-count, bad-done, good-count}
+use Rattle.start.proofs.good_fleet.Statement.{statement}
+use Rattle.start.proofs.good_fleet.Tie as tie
 
 returns : tie.Need-returns
 returns c = sym (bad-count (c .before .before .args .f) (sym (c .before .bad-trucks .ensures) ∙ c .if1 .taken))
@@ -26,4 +23,4 @@ returns-3 c =
 
 pub good-fleet-spec : {M : Type 1} → statement M
 good-fleet-spec =
-    tie.close (tie.spec bad-trucks-requires returns returns-2 good-trucks-requires returns-3)
+    tie.close (tie.spec (λ c κs. search needs) returns returns-2 good-trucks-requires returns-3)

@@ -1,16 +1,16 @@
 -- `good_trucks` meets its contract.
-use mathlib.Core.Path.{_≡_, ap, ap₂, sym, _∙_}
 use mathlib.Core.Bool.{_&&_}
+use mathlib.Core.Path.{_≡_, ap, ap₂, sym, _∙_}
 use Prim.Native.Nat.{_≤_, _-_}
 use native.Mathlib.Omega.{arith}
 use native.Mathlib.Numerals.{add-one}
+use borrow.Author.Needs.{needs}
 use Rattle.basics.specs.Lists.{allBelow}
 use Rattle.basics.proofs.Laws.{allBelow-none, allBelow-suc}
 use Rattle.protocol.specs.Rules.{truck}
 use Rattle.protocol.specs.Fleets.{goodTruck}
-use borrow.Author.Needs.{needs}
-use Rattle.fleet.proofs.record.good_trucks.Statement.{statement}
-use Rattle.fleet.proofs.record.good_trucks.Tie as tie
+use Rattle.start.proofs.good_trucks.Statement.{statement}
+use Rattle.start.proofs.good_trucks.Tie as tie
 
 abbrev Inv-loop : tie.InvT-loop
 Inv-loop f n done ok₀ i₀ ok i = (i ≤ n) × (ok ≡ allBelow (λ i. goodTruck done (truck (f .trucks) i)) i)
@@ -18,26 +18,8 @@ Inv-loop f n done ok₀ i₀ ok i = (i ≤ n) × (ok ≡ allBelow (λ i. goodTru
 abbrev μ-loop : tie.MeasureT-loop
 μ-loop f n done ok₀ i₀ ok i = n - i
 
-cast-n : tie.Need-cast-n Inv-loop μ-loop
-cast-n c = search needs
-
 loop-holds : tie.Need-loop-holds Inv-loop μ-loop
 loop-holds c = (search needs, sym (allBelow-none (λ i. goodTruck (c .args .t1 .done) (truck (c .args .t1 .trucks) i))))
-
-mul-t : tie.Need-mul-t Inv-loop μ-loop
-mul-t c = search needs
-
-element-copy-out-t : tie.Need-element-copy-out-t Inv-loop μ-loop
-element-copy-out-t c = search needs
-
-good-truck-requires : tie.Need-good-truck-requires Inv-loop μ-loop
-good-truck-requires c κs = search needs
-
-add-i : tie.Need-add-i Inv-loop μ-loop
-add-i c = search needs
-
-loop-less : tie.Need-loop-less Inv-loop μ-loop
-loop-less c = search needs
 
 loop-again : tie.Need-loop-again Inv-loop μ-loop
 loop-again c =
@@ -57,12 +39,12 @@ good-trucks-spec =
     (tie.spec
     Inv-loop
     μ-loop
-    cast-n
+    (λ c. search needs)
     loop-holds
-    mul-t
-    element-copy-out-t
-    good-truck-requires
-    add-i
-    loop-less
+    (λ c. search needs)
+    (λ c. search needs)
+    (λ c κs. search needs)
+    (λ c. search needs)
+    (λ c. search needs)
     loop-again
     returns)

@@ -1,13 +1,13 @@
 -- `open_fleet` meets its contract.
-use Rattle.fleet.proofs.Records.{opening, open-starts, open-more, open-done}
 use mathlib.Core.Path.{_≡_}
 use Prim.Native.Nat.{_≤_, _-_}
 use native.Mathlib.Omega.{arith}
-use lib.ListN.{length}
-use Rattle.protocol.specs.Rules.{opened}
 use borrow.Author.Needs.{needs}
-use Rattle.fleet.proofs.record.open_fleet.Statement.{statement}
-use Rattle.fleet.proofs.record.open_fleet.Tie as tie
+use lib.ListN.{length}
+use Rattle.start.proofs.Records.{opening, open-starts, open-more, open-done}
+use Rattle.protocol.specs.Rules.{opened}
+use Rattle.start.proofs.open_fleet.Statement.{statement}
+use Rattle.start.proofs.open_fleet.Tie as tie
 
 abbrev Inv-loop : tie.InvT-loop
 Inv-loop n openings f₀ i₀ f i = (i ≤ length openings) × (f ≡ opening n openings i)
@@ -15,29 +15,8 @@ Inv-loop n openings f₀ i₀ f i = (i ≤ length openings) × (f ≡ opening n 
 abbrev μ-loop : tie.MeasureT-loop
 μ-loop n openings f₀ i₀ f i = length openings - i
 
-blank-requires : tie.Need-blank-requires Inv-loop μ-loop
-blank-requires c κs = search needs
-
 loop-holds : tie.Need-loop-holds Inv-loop μ-loop
 loop-holds c = (search needs, open-starts (c .before .before .args .n) (c .before .before .args .openings .now) (c .blank .result) (c .blank .ensures))
-
-shared-slice-read-opened : tie.Need-shared-slice-read-opened Inv-loop μ-loop
-shared-slice-read-opened c = search needs
-
-opened-requires : tie.Need-opened-requires Inv-loop μ-loop
-opened-requires c κs = search needs
-
-mul-t6 : tie.Need-mul-t6 Inv-loop μ-loop
-mul-t6 c = search needs
-
-element-set-from-f : tie.Need-element-set-from-f Inv-loop μ-loop
-element-set-from-f c = search needs
-
-add-i : tie.Need-add-i Inv-loop μ-loop
-add-i c = search needs
-
-loop-less : tie.Need-loop-less Inv-loop μ-loop
-loop-less c = search needs
 
 loop-again : tie.Need-loop-again Inv-loop μ-loop
 loop-again c =
@@ -57,13 +36,13 @@ open-fleet-spec =
     (tie.spec
     Inv-loop
     μ-loop
-    blank-requires
+    (λ c κs. search needs)
     loop-holds
-    shared-slice-read-opened
-    opened-requires
-    mul-t6
-    element-set-from-f
-    add-i
-    loop-less
+    (λ c. search needs)
+    (λ c κs. search needs)
+    (λ c. search needs)
+    (λ c. search needs)
+    (λ c. search needs)
+    (λ c. search needs)
     loop-again
     returns)

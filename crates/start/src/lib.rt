@@ -1,19 +1,20 @@
-// Fleet records: the blank one, a fleet that opens, what refusal 7 asks of one, and who of it runs.
-use crate::hearing::joined;
-use crate::round::Roster;
+// Fleet records: the blank one, a fleet that starts, and what refusal 7 asks of a record.
+use protocol::Answer;
 use protocol::Fleet;
 use protocol::Heard;
 use protocol::State;
 use protocol::Truck;
+use refusals::Outcome;
+use refusals::Refusal;
 ghost use mathlib.Core.Path.{_≡_};
 ghost use Prim.Native.Nat.{_≤_};
 ghost use lib.ListN.{length};
+ghost use Rattle.refusals.specs.declared.Outcome.the-variants.{Refused};
 ghost use Rattle.basics.specs.Bits.{odd};
 ghost use Rattle.basics.specs.Lists.{allBelow};
 ghost use Rattle.protocol.specs.Rules.{opened, truck};
-ghost use Rattle.protocol.specs.Runs.{openedTrucks};
-ghost use Rattle.protocol.specs.Fleets.{blank, isEmpty, goodState, goodTruck, goodFleet};
-ghost use Rattle.fleet.specs.Rounds.{Kept, openFleet};
+ghost use Rattle.protocol.specs.Fleets.{blank, started, isEmpty, goodState, goodTruck, goodFleet};
+ghost use Rattle.start.specs.Opens.{openFleet};
 
 fn opened(v: u8) -> Truck
     ensures { λ r. ⌜ r ≡ opened v ⌝ }
@@ -28,7 +29,7 @@ fn opened(v: u8) -> Truck
 }
 
 // What a refused start or run holds.
-pub(crate) fn blank() -> Fleet
+pub fn blank() -> Fleet
     ensures { λ r. ⌜ r ≡ blank ⌝ }
 {
     let t = opened(0);
@@ -41,7 +42,7 @@ pub(crate) fn blank() -> Fleet
 }
 
 // A fleet of n trucks before round 1.
-pub(crate) fn open_fleet(n: u8, openings: &[u8]) -> Fleet
+fn open_fleet(n: u8, openings: &[u8]) -> Fleet
     requires { ⌜ (length (now openings) ≡ n) × (n ≤ 32) ⌝ }
     ensures { λ r. ⌜ r ≡ openFleet n (now (openings .entry)) ⌝ }
 {
@@ -107,7 +108,7 @@ fn good_trucks(f: Fleet) -> bool
 }
 
 // Refusal 7 lets the record pass.
-pub(crate) fn good_fleet(f: Fleet) -> bool
+pub fn good_fleet(f: Fleet) -> bool
     ensures { λ r. ⌜ r ≡ goodFleet f ⌝ }
 {
     let n = f.n;
@@ -120,24 +121,28 @@ pub(crate) fn good_fleet(f: Fleet) -> bool
     good_trucks(f)
 }
 
-// The record with its two sets.
-pub(crate) fn roster(f: Fleet) -> Roster
-    requires { ⌜ f .n ≤ 32 ⌝ }
-    ensures { λ r. ⌜ (r .fleet ≡ f) × Kept r ⌝ }
+// A refusal of a call that has no record to hand back.
+pub fn refused(refusal: Refusal) -> Answer
+    ensures { λ r. ⌜ r ≡ record { outcome = Refused refusal; fleet = blank } ⌝ }
 {
-    let n = f.n as usize;
-    let mut running = 0;
-    let mut vetoing = 0;
-    let mut i = 0;
-    while i < n {
-        let t = f.trucks[i];
-        running = joined(running, i, truck::runs(t));
-        vetoing = joined(vetoing, i, truck::vetoes(t));
-        i += 1;
+    Answer {
+        outcome: Outcome::Refused(refusal),
+        fleet: blank(),
     }
-    Roster {
-        fleet: f,
-        running,
-        vetoing,
+}
+
+// Starting a fleet of n trucks.
+pub fn start(n: u8, openings: &[u8]) -> Answer
+    ensures { λ r. ⌜ r ≡ started n (now (openings .entry)) ⌝ }
+{
+    if recording::bad_trucks(n) {
+        return refused(Refusal::TruckCount);
+    }
+    if plain::bad_openings(n, openings) {
+        return refused(Refusal::Record);
+    }
+    Answer {
+        outcome: Outcome::Accepted,
+        fleet: open_fleet(n, openings),
     }
 }

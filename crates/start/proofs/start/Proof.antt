@@ -1,26 +1,14 @@
 -- `start` meets its contract.
 use mathlib.Core.Path.{sym, _∙_}
+use borrow.Author.Needs.{needs}
 use Rattle.protocol.specs.Fleets.{started, startCheck}
 use Rattle.recording.proofs.Accepted.{trucks-in, openings-in}
-use borrow.Author.Needs.{needs}
-use Rattle.fleet.proofs.start.Statement.{statement}
-use Rattle.fleet.proofs.start.Tie as tie
-
-bad-trucks-requires : tie.Need-bad-trucks-requires
-bad-trucks-requires c κs = search needs
-
-refused-requires : tie.Need-refused-requires
-refused-requires c κs = search needs
+use Rattle.start.proofs.start.Statement.{statement}
+use Rattle.start.proofs.start.Tie as tie
 
 returns : tie.Need-returns
 unfolding started startCheck
 returns c = c .refused .ensures ∙ rw (sym (c .before .before .bad-trucks .ensures) ∙ c .before .if1 .taken)
-
-bad-openings-requires : tie.Need-bad-openings-requires
-bad-openings-requires c κs = search needs
-
-refused-requires-2 : tie.Need-refused-requires-2
-refused-requires-2 c κs = search needs
 
 returns-2 : tie.Need-returns-2
 unfolding started startCheck
@@ -44,11 +32,11 @@ pub start-spec : {M : Type 1} → statement M
 start-spec =
     tie.close
     (tie.spec
-    bad-trucks-requires
-    refused-requires
+    (λ c κs. search needs)
+    (λ c κs. search needs)
     returns
-    bad-openings-requires
-    refused-requires-2
+    (λ c κs. search needs)
+    (λ c κs. search needs)
     returns-2
     open-fleet-requires
     returns-3)

@@ -1,6 +1,6 @@
 -- What a round makes of one truck (document 01, 'The fleet and its rounds').
 use Prim.Native.Nat.{ℕ}
-use mathlib.Core.Bool.{Bool, true, false}
+use mathlib.Core.Bool.{false}
 use Rattle.protocol.specs.declared.Truck.{Truck}
 use Rattle.protocol.specs.Rules.{stops, proposed, vetoed, turn}
 use Rattle.truck.specs.declared.Event.{Event}

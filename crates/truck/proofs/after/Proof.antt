@@ -24,11 +24,10 @@ use denote.RattleType.{owns}
 use denote.Laws.{Is, shows}
 use denote.Lend.{lends-ref, ref-back}
 use denote.Memory.{mem, cellAt, partAt, partOf}
-use denote.Plain.{uint-vals, uint-tells, uint-makes, nothing-lawful}
+use denote.Plain.{uint-vals, uint-tells, nothing-lawful}
 use denote.Builtin.{u16, unit}
 use denote.Ref.{RefT, MutRef}
-use denote.Steps.{owned, peeks, heard, nothing}
-use denote.Struct.Steps.{spelt}
+use denote.Steps.{peeks, heard, nothing}
 use denote.Struct.Laws as LL
 use denote.Enum.Laws as EL
 use denote.Triple.Entry.{onEntry}
@@ -54,6 +53,7 @@ use Rattle.truck.proofs.after.Key.{name as #this}
 use Rattle.truck.proofs.after as this
 use Rattle.truck.proofs.after.Statement as stated
 use Rattle.truck.proofs.after.Code as code
+use Rattle.truck.proofs.Values.{truckVal, eventVal, owns-truck, owns-event, owns-round, peeks-truck, spelt-truck}
 
 abbrev stayed : Stays (this.ended .signature .params) (this.ended .kept)
 stayed = (stay-none (λ _. Truck-t.the-row) yes, (stay-none (λ _. u16) yes, (stay-none (λ _. Event-t.the-row) yes, tt)))
@@ -62,12 +62,12 @@ stayed = (stay-none (λ _. Truck-t.the-row) yes, (stay-none (λ _. u16) yes, (st
 abbrev Callee : {M : Type 1} (𝓤 : URA M) (H : Heap 𝓤) (A : Atoms 𝓤) (mem : Memory → SProp 𝓤) (run : Routine → Fun 𝓤) → Contract 𝓤
 Callee 𝓤 H A mem run = tripleOf 𝓤 H A callee.signature (callee.spec 𝓤 H A mem run)
 
-module _ {M : Type 1} (𝓤 : URA M) (H : Heap 𝓤) (A : Atoms 𝓤) (W : Given 𝓤 H A) (at-mem : Memory → SProp 𝓤) (run : Routine → Fun 𝓤) (h : Truck) (k : ℕ) (e : Event) (h-is : Is Truck-t.the-row h (LL.val Truck-t.the-type Truck-l.the-laws h ∷ [])) (k-is : Is u16 k (vint w16 k ∷ [])) (e-is : Is Event-t.the-row e (EL.val Event-t.the-type Event-l.the-laws e ∷ [])) where
+module _ {M : Type 1} (𝓤 : URA M) (H : Heap 𝓤) (A : Atoms 𝓤) (W : Given 𝓤 H A) (at-mem : Memory → SProp 𝓤) (run : Routine → Fun 𝓤) (h : Truck) (k : ℕ) (e : Event) (h-is : Is Truck-t.the-row h (truckVal h ∷ [])) (k-is : Is u16 k (vint w16 k ∷ [])) (e-is : Is Event-t.the-row e (eventVal e ∷ [])) where
   abbrev x : Truck × (ℕ × (Event × Unit {0}))
   x = (h, (k, (e, tt)))
 
   abbrev at : List Val × (List Val × (List Val × Unit {0}))
-  at = (LL.val Truck-t.the-type Truck-l.the-laws h ∷ [], (vint w16 k ∷ [], (EL.val Event-t.the-type Event-l.the-laws e ∷ [], tt)))
+  at = (truckVal h ∷ [], (vint w16 k ∷ [], (eventVal e ∷ [], tt)))
 
   abbrev Post : Val → SProp 𝓤
   Post = walkOf 𝓤 H A this.ended stayed (this.clauses 𝓤 H A at-mem run) .post ((tt, tt, tt, x, at), tt)
@@ -79,31 +79,31 @@ module _ {M : Type 1} (𝓤 : URA M) (H : Heap 𝓤) (A : Atoms 𝓤) (W : Given
   passed l δ = (ref l δ, (k, (e, tt)))
 
   abbrev to : ℕ → ℕ → GName → Callee 𝓤 H A at-mem run .Ghost
-  to ν l δ = (((ν ∷ [], tt), (fullShare, tt), tt, passed l δ, (vptr l 0 ∷ [], (vint w16 k ∷ [], (EL.val Event-t.the-type Event-l.the-laws e ∷ [], tt)))), tt)
+  to ν l δ = (((ν ∷ [], tt), (fullShare, tt), tt, passed l δ, (vptr l 0 ∷ [], (vint w16 k ∷ [], (eventVal e ∷ [], tt)))), tt)
 
   goes : (ν l : ℕ) (δ : GName) → ent 𝓤 (sep 𝓤 (A .lft (ν ∷ []) fullShare) (sem 𝓤 H A (MutRef (named 0) (ν ∷ []) Truck-t.the-row .own (ref l δ) (vptr l 0 ∷ [])))) (Callee 𝓤 H A at-mem run .pre (to ν l δ))
   goes ν l δ =
       qed W (‵ (flft (ν ∷ []) fullShare) ∷ ‵ (MutRef (named 0) (ν ∷ []) Truck-t.the-row .own (ref l δ) (vptr l 0 ∷ [])) ∷ []) ∵
-      nothing ! $ owned ! Event-t.the-row (Is Event-t.the-row) (EL.makes Event-t.the-type Event-l.the-plain 𝓤 H A) e _ e-is $ fjoin ! $ owned ! u16 (Is u16) (uint-makes 𝓤 H A W w16) k _ k-is $ fjoin ! $ move ! (2 ∷ 0 ∷ []) $ fjoin ! $ nothing ! $ move ! (2 ∷ 0 ∷ []) $ join ! $ join ! $ frame ! $ done !
+      nothing ! $ owns-event ! e e-is $ fjoin ! $ owns-round ! k k-is $ fjoin ! $ move ! (2 ∷ 0 ∷ []) $ fjoin ! $ nothing ! $ move ! (2 ∷ 0 ∷ []) $ join ! $ join ! $ frame ! $ done !
 
-  exits : (r : Truck) → r ≡ turned k e h → ent 𝓤 (sem 𝓤 H A (Truck-t.the-row .own r (LL.val Truck-t.the-type Truck-l.the-laws r ∷ []))) (Post (LL.val Truck-t.the-type Truck-l.the-laws r))
+  exits : (r : Truck) → r ≡ turned k e h → ent 𝓤 (sem 𝓤 H A (Truck-t.the-row .own r (truckVal r ∷ []))) (Post (truckVal r))
   exits r p =
-      qed W (‵ (Truck-t.the-row .own r (LL.val Truck-t.the-type Truck-l.the-laws r ∷ [])) ∷ []) ∵
-      suffices ! _ (ends-at 𝓤 H A this.ended stayed (this.clauses 𝓤 H A at-mem run) W ((tt, tt, tt, x, at), tt) (LL.val Truck-t.the-type Truck-l.the-laws r) r (tt, (tt, (tt, tt))) (tt, (tt, (tt, tt)))) $ says ! p $
-      nothing ! $ owned ! Event-t.the-row (Is Event-t.the-row) (EL.makes Event-t.the-type Event-l.the-plain 𝓤 H A) e _ e-is $ fjoin ! $ owned ! u16 (Is u16) (uint-makes 𝓤 H A W w16) k _ k-is $ fjoin ! $ owned ! Truck-t.the-row (Is Truck-t.the-row) (LL.makes Truck-t.the-type Truck-l.the-plain 𝓤 H A) h _ h-is $ fjoin ! $ nothing ! $ done !
+      qed W (‵ (Truck-t.the-row .own r (truckVal r ∷ [])) ∷ []) ∵
+      suffices ! _ (ends-at 𝓤 H A this.ended stayed (this.clauses 𝓤 H A at-mem run) W ((tt, tt, tt, x, at), tt) (truckVal r) r (tt, (tt, (tt, tt))) (tt, (tt, (tt, tt)))) $ says ! p $
+      nothing ! $ owns-event ! e e-is $ fjoin ! $ owns-round ! k k-is $ fjoin ! $ owns-truck ! h h-is $ fjoin ! $ nothing ! $ done !
 
   module _ (C : Calls 𝓤 H) (Λ : Loops 𝓤 H) (fm : FmC 𝓤 H (W .laws) C) (known : Triple 𝓤 (C #callee) (Callee 𝓤 H A at-mem run)) where
-    walk : ent 𝓤 (onEntry 𝓤 H A this.signature tt tt x at) (WpFn 𝓤 H C Λ code.function (LL.val Truck-t.the-type Truck-l.the-laws h ∷ vint w16 k ∷ EL.val Event-t.the-type Event-l.the-laws e ∷ []) Post)
+    walk : ent 𝓤 (onEntry 𝓤 H A this.signature tt tt x at) (WpFn 𝓤 H C Λ code.function (truckVal h ∷ vint w16 k ∷ eventVal e ∷ []) Post)
     unfolding partOf
     walk =
-        qed W (‵ ftrue ∷ ‵ (owns (Truck-t.the-row ∷ u16 ∷ Event-t.the-row ∷ []) x at) ∷ []) ∵ enter ! C Λ code.function (LL.val Truck-t.the-type Truck-l.the-laws h ∷ vint w16 k ∷ EL.val Event-t.the-type Event-l.the-laws e ∷ []) _ $
+        qed W (‵ ftrue ∷ ‵ (owns (Truck-t.the-row ∷ u16 ∷ Event-t.the-row ∷ []) x at) ∷ []) ∵ enter ! C Λ code.function (truckVal h ∷ vint w16 k ∷ eventVal e ∷ []) _ $
         alloc1 ! (λ l0. alloc1 ! (λ l1. alloc1 ! (λ l2. alloc1 ! (λ l3. alloc1 ! (λ l4. alloc1 ! (λ l5. alloc1 ! (λ l6. alloc0 ! $ params1 ! $
         pass1 ! (init ! 10 refl (LL.lawful Truck-t.the-type Truck-l.the-laws 𝓤 H A W .typed h _ h-is .0)) $ pass1 ! (init ! 8 refl (tt, record { fits = k-is .1 })) $ pass1 ! (init ! 6 refl (EL.lawful Event-t.the-type Event-l.the-laws 𝓤 H A W tt .typed e _ e-is .0)) $ pass0 ! $
         assigns ! (of-opd ! (load ! (from ! (stop !)) (look ! 10 refl))) (from ! (stop !)) (init ! 4 refl (LL.lawful Truck-t.the-type Truck-l.the-laws 𝓤 H A W .typed h _ h-is .0)) $
         assigns ! (addr ! (from ! (stop !))) (from ! (stop !)) (init ! 0 refl (tt, tt)) $
         -- the local, in memory
-        move ! (4 ∷ []) $ use1 W (‵ (cellAt fullShare (Truck-t.the-row .mir) (LL.val Truck-t.the-type Truck-l.the-laws h ∷ []) l4 0)) (W .laws .at-raw fullShare Truck-l.mir l4 0 (LL.val Truck-t.the-type Truck-l.the-laws h)) $
-        owned ! Truck-t.the-row (Is Truck-t.the-row) (LL.makes Truck-t.the-type Truck-l.the-plain 𝓤 H A) h _ h-is $ move ! (1 ∷ 0 ∷ []) $ fjoin ! $ fpack ! (List Val) (λ us. fsep (cellAt fullShare (Truck-t.the-row .mir) us l4 0) (Truck-t.the-row .own h us)) (LL.val Truck-t.the-type Truck-l.the-laws h ∷ []) $
+        move ! (4 ∷ []) $ use1 W (‵ (cellAt fullShare (Truck-t.the-row .mir) (truckVal h ∷ []) l4 0)) (W .laws .at-raw fullShare Truck-l.mir l4 0 (truckVal h)) $
+        owns-truck ! h h-is $ move ! (1 ∷ 0 ∷ []) $ fjoin ! $ fpack ! (List Val) (λ us. fsep (cellAt fullShare (Truck-t.the-row .mir) us l4 0) (Truck-t.the-row .own h us)) (truckVal h ∷ []) $
         -- it is lent for a lifetime ν of the call
         lft-new ! tt (λ ν. move ! (1 ∷ []) $ use1 W (later (some (λ (δ : GName). ‵ (MutRef (named 0) (ν ∷ []) Truck-t.the-row .own (ref l4 δ) (vptr l4 0 ∷ [])) ⊛ ‵ (flent (ν ∷ []) (Body (mem Truck-t.the-row) l4 0 δ))))) (lends-ref 𝓤 H A W Truck-t.the-row (named 0) (ν ∷ []) h l4 0) $ await ! tt $ pick ! (λ δ. split ! $
         move ! (2 ∷ 0 ∷ []) $ use2 W (raw (Callee 𝓤 H A at-mem run .pre (to ν l4 δ))) (goes ν l4 δ) $
@@ -114,8 +114,8 @@ module _ {M : Type 1} (𝓤 : URA M) (H : Heap 𝓤) (A : Atoms 𝓤) (W : Given
         land ! (from ! (stop !)) (init ! 8 refl (nothing-lawful 𝓤 H A W .typed r _ is .0)) $
         -- the lifetime is ended, and the record comes back
         move ! (1 ∷ []) $ lft-end ! tt $ move ! (0 ∷ 5 ∷ 3 ∷ []) $ use3 W (later (‵ (partAt Truck-t.the-row fullShare (ws .0) l4 0))) (ref-back 𝓤 H A W Truck-t.the-row (ν ∷ []) δ (ws .0) l4 0) $ await ! tt $
-        fpick ! (λ vs. fsplit ! $ spelt ! Truck-t.the-row (Is Truck-t.the-row) (shows 𝓤 H A Truck-t.the-row) (LL.vals Truck-t.the-type Truck-l.the-laws) (LL.tells Truck-t.the-type Truck-l.the-laws) fullShare (ws .0) vs l4 0 $ use1 W (‵ (fat fullShare Truck-l.mir l4 0 (LL.val Truck-t.the-type Truck-l.the-laws (ws .0)))) (W .laws .raw-at fullShare Truck-l.mir l4 0 (LL.val Truck-t.the-type Truck-l.the-laws (ws .0))) $
-        move ! (1 ∷ []) $ peeks ! Truck-t.the-row (Is Truck-t.the-row) (shows 𝓤 H A Truck-t.the-row) (ws .0) (LL.val Truck-t.the-type Truck-l.the-laws (ws .0) ∷ []) (λ g.
+        fpick ! (λ vs. fsplit ! $ spelt-truck ! fullShare (ws .0) vs l4 0 $ use1 W (‵ (fat fullShare Truck-l.mir l4 0 (truckVal (ws .0)))) (W .laws .raw-at fullShare Truck-l.mir l4 0 (truckVal (ws .0))) $
+        move ! (1 ∷ []) $ peeks-truck ! (ws .0) (truckVal (ws .0) ∷ []) (λ g.
         assigns ! (of-opd ! (load ! (from ! (stop !)) (look ! 1 refl))) (from ! (stop !)) (init ! 16 refl (LL.lawful Truck-t.the-type Truck-l.the-laws 𝓤 H A W .typed (ws .0) _ g .0)) $
         returns ! (look ! 16 refl) $ forget ! 1 refl $ forget ! 5 refl $ forget ! 7 refl $ forget ! 10 refl $ forget ! 12 refl $ forget ! 14 refl $ forget ! 16 refl $
         move ! (16 ∷ 17 ∷ []) $ free1 ! $ move ! (14 ∷ 15 ∷ []) $ free1 ! $ move ! (12 ∷ 13 ∷ []) $ free1 ! $ move ! (10 ∷ 11 ∷ []) $ free1 ! $ move ! (1 ∷ 9 ∷ []) $ free1 ! $ move ! (6 ∷ 7 ∷ []) $ free1 ! $ move ! (4 ∷ 5 ∷ []) $ free1 ! $ free0 ! $

@@ -20,14 +20,13 @@ use types.Run.{look, look-raw, init, store-raw, forget, stop, hop, from, load, u
 use types.SemTy.{Body}
 use sound.WpLaws.{FmC, fmOf, WpFn-mono}
 use denote.RattleType.{owns}
-use denote.Laws.{Is, shows}
+use denote.Laws.{Is}
 use denote.Memory.{mem}
-use denote.Plain.{uint-vals, uint-tells, uint-makes}
+use denote.Plain.{uint-vals, uint-tells}
 use denote.Builtin.{u16}
 use denote.Ref.{RefT, MutRef, ptr-vals, mut-tells}
 use denote.Signature.{plain}
-use denote.Steps.{opens, closes, owned, peeks, heard, nothing}
-use denote.Struct.Steps.{spelt}
+use denote.Steps.{opens, closes, heard, nothing}
 use denote.Struct.Laws as LL
 use denote.Enum.Laws as EL
 use denote.Triple.Entry.{onEntry}
@@ -53,6 +52,7 @@ use Rattle.truck.proofs.update.Key.{name as #this}
 use Rattle.truck.proofs.update as this
 use Rattle.truck.proofs.update.Statement as stated
 use Rattle.truck.proofs.update.Code as code
+use Rattle.truck.proofs.Values.{truckVal, eventVal, owns-truck, owns-event, owns-round, peeks-truck, spelt-truck}
 
 abbrev stayed : Stays (this.ended .signature .params) (this.ended .kept)
 stayed = (stay-ref (0 ∷ []) tt (plain (λ _. Truck-t.the-row)), (stay-none (λ _. u16) yes, (stay-none (λ _. Event-t.the-row) yes, tt)))
@@ -61,21 +61,21 @@ stayed = (stay-ref (0 ∷ []) tt (plain (λ _. Truck-t.the-row)), (stay-none (λ
 abbrev Callee : {M : Type 1} (𝓤 : URA M) (H : Heap 𝓤) (A : Atoms 𝓤) (mem : Memory → SProp 𝓤) (run : Routine → Fun 𝓤) → Contract 𝓤
 Callee 𝓤 H A mem run = tripleOf 𝓤 H A callee.signature (callee.spec 𝓤 H A mem run)
 
-module _ {M : Type 1} (𝓤 : URA M) (H : Heap 𝓤) (A : Atoms 𝓤) (W : Given 𝓤 H A) (at-mem : Memory → SProp 𝓤) (run : Routine → Fun 𝓤) (κ : Lft) (q : Share) (b o : ℕ) (γ : GName) (h : Truck) (k : ℕ) (e : Event) (k-is : Is u16 k (vint w16 k ∷ [])) (e-is : Is Event-t.the-row e (EL.val Event-t.the-type Event-l.the-laws e ∷ [])) where
+module _ {M : Type 1} (𝓤 : URA M) (H : Heap 𝓤) (A : Atoms 𝓤) (W : Given 𝓤 H A) (at-mem : Memory → SProp 𝓤) (run : Routine → Fun 𝓤) (κ : Lft) (q : Share) (b o : ℕ) (γ : GName) (h : Truck) (k : ℕ) (e : Event) (k-is : Is u16 k (vint w16 k ∷ [])) (e-is : Is Event-t.the-row e (eventVal e ∷ [])) where
   abbrev x : RefT Truck × (ℕ × (Event × Unit {0}))
   x = (record { ptr = (b, o); name = γ; now = h }, (k, (e, tt)))
 
   abbrev at : List Val × (List Val × (List Val × Unit {0}))
-  at = (vptr b o ∷ [], (vint w16 k ∷ [], (EL.val Event-t.the-type Event-l.the-laws e ∷ [], tt)))
+  at = (vptr b o ∷ [], (vint w16 k ∷ [], (eventVal e ∷ [], tt)))
 
   abbrev Post : Val → SProp 𝓤
   Post = walkOf 𝓤 H A this.ended stayed (this.clauses 𝓤 H A at-mem run) .post (((κ, tt), (q, tt), tt, x, at), tt)
 
   abbrev to : Callee 𝓤 H A at-mem run .Ghost
-  to = ((tt, tt, tt, (h, (k, (e, tt))), (LL.val Truck-t.the-type Truck-l.the-laws h ∷ [], (vint w16 k ∷ [], (EL.val Event-t.the-type Event-l.the-laws e ∷ [], tt)))), tt)
+  to = ((tt, tt, tt, (h, (k, (e, tt))), (truckVal h ∷ [], (vint w16 k ∷ [], (eventVal e ∷ [], tt)))), tt)
 
-  goes : Is Truck-t.the-row h (LL.val Truck-t.the-type Truck-l.the-laws h ∷ []) → ent 𝓤 (emp 𝓤) (Callee 𝓤 H A at-mem run .pre to)
-  goes g = qed W [] ∵ nothing ! $ owned ! Event-t.the-row (Is Event-t.the-row) (EL.makes Event-t.the-type Event-l.the-plain 𝓤 H A) e _ e-is $ fjoin ! $ owned ! u16 (Is u16) (uint-makes 𝓤 H A W w16) k _ k-is $ fjoin ! $ owned ! Truck-t.the-row (Is Truck-t.the-row) (LL.makes Truck-t.the-type Truck-l.the-plain 𝓤 H A) h _ g $ fjoin ! $ nothing ! $ join ! $ frame ! $ done !
+  goes : Is Truck-t.the-row h (truckVal h ∷ []) → ent 𝓤 (emp 𝓤) (Callee 𝓤 H A at-mem run .pre to)
+  goes g = qed W [] ∵ nothing ! $ owns-event ! e e-is $ fjoin ! $ owns-round ! k k-is $ fjoin ! $ owns-truck ! h g $ fjoin ! $ nothing ! $ join ! $ frame ! $ done !
 
   said : (r : Truck) → ent 𝓤 (ensured 𝓤 H A callee.ended (callee.clauses 𝓤 H A at-mem run) tt (h, (k, (e, tt))) tt r) (fact 𝓤 (r ≡ turned k e h))
   said r = exE 𝓤 _ (λ ws. snd∗ 𝓤 (sem 𝓤 H A (lasts callee.ended tt (h, (k, (e, tt))) ws)) (fact 𝓤 (r ≡ turned k e h)))
@@ -84,22 +84,22 @@ module _ {M : Type 1} (𝓤 : URA M) (H : Heap 𝓤) (A : Atoms 𝓤) (W : Given
   exits r p =
       qed W (‵ (fobs γ (Truck-t.the-row .coded .code r)) ∷ ‵ (fbor κ (Body (mem Truck-t.the-row) b o γ)) ∷ ‵ (flft κ q) ∷ []) ∵
       suffices ! _ (ends-at 𝓤 H A this.ended stayed (this.clauses 𝓤 H A at-mem run) W (((κ, tt), (q, tt), tt, x, at), tt) vunit tt (r, (tt, (tt, tt))) (tt, (tt, (tt, tt)))) $ says ! p $ nothing ! $ move ! (3 ∷ 0 ∷ []) $ join ! $
-      frame ! $ feqI ! (List Val) (vptr b o ∷ []) (vptr b o ∷ []) refl $ fjoin3 ! $ nothing ! $ owned ! Event-t.the-row (Is Event-t.the-row) (EL.makes Event-t.the-type Event-l.the-plain 𝓤 H A) e _ e-is $ fjoin ! $ owned ! u16 (Is u16) (uint-makes 𝓤 H A W w16) k _ k-is $ fjoin ! $ move ! (1 ∷ 0 ∷ []) $ fjoin ! $ feqI ! (List Val) (vunit ∷ []) (vunit ∷ []) refl $ move ! (1 ∷ 0 ∷ []) $ done !
+      frame ! $ feqI ! (List Val) (vptr b o ∷ []) (vptr b o ∷ []) refl $ fjoin3 ! $ nothing ! $ owns-event ! e e-is $ fjoin ! $ owns-round ! k k-is $ fjoin ! $ move ! (1 ∷ 0 ∷ []) $ fjoin ! $ feqI ! (List Val) (vunit ∷ []) (vunit ∷ []) refl $ move ! (1 ∷ 0 ∷ []) $ done !
 
   module _ (C : Calls 𝓤 H) (Λ : Loops 𝓤 H) (fm : FmC 𝓤 H (W .laws) C) (known : Triple 𝓤 (C #callee) (Callee 𝓤 H A at-mem run)) where
-    walk : ent 𝓤 (onEntry 𝓤 H A this.signature (κ, tt) (q, tt) x at) (WpFn 𝓤 H C Λ code.function (vptr b o ∷ vint w16 k ∷ EL.val Event-t.the-type Event-l.the-laws e ∷ []) Post)
+    walk : ent 𝓤 (onEntry 𝓤 H A this.signature (κ, tt) (q, tt) x at) (WpFn 𝓤 H C Λ code.function (vptr b o ∷ vint w16 k ∷ eventVal e ∷ []) Post)
     walk =
-        qed W ((‵ (flft κ q) ⊛ ‵ ftrue) ∷ ‵ (owns (MutRef (named 0) κ Truck-t.the-row ∷ u16 ∷ Event-t.the-row ∷ []) x at) ∷ []) ∵ enter ! C Λ code.function (vptr b o ∷ vint w16 k ∷ EL.val Event-t.the-type Event-l.the-laws e ∷ []) _ $
+        qed W ((‵ (flft κ q) ⊛ ‵ ftrue) ∷ ‵ (owns (MutRef (named 0) κ Truck-t.the-row ∷ u16 ∷ Event-t.the-row ∷ []) x at) ∷ []) ∵ enter ! C Λ code.function (vptr b o ∷ vint w16 k ∷ eventVal e ∷ []) _ $
         alloc1 ! (λ l0. alloc1 ! (λ l1. alloc1 ! (λ l2. alloc1 ! (λ l3. alloc1 ! (λ l4. alloc1 ! (λ l5. alloc0 ! $ params1 ! $
         pass1 ! (init ! 8 refl (tt, tt)) $ pass1 ! (init ! 6 refl (tt, record { fits = k-is .1 })) $ pass1 ! (init ! 4 refl (EL.lawful Event-t.the-type Event-l.the-laws 𝓤 H A W tt .typed e _ e-is .0)) $ pass0 ! $
         move ! (13 ∷ []) $ fsplit ! $ fsplit3 ! $ drop ! $ move ! (15 ∷ []) $ split ! $ move ! (2 ∷ 3 ∷ 0 ∷ []) $
-        opens ! tt Truck-t.the-row {h = h} b o (λ vs. spelt ! Truck-t.the-row (Is Truck-t.the-row) (shows 𝓤 H A Truck-t.the-row) (LL.vals Truck-t.the-type Truck-l.the-laws) (LL.tells Truck-t.the-type Truck-l.the-laws) fullShare h vs b o $ move ! (1 ∷ []) $ peeks ! Truck-t.the-row (Is Truck-t.the-row) (shows 𝓤 H A Truck-t.the-row) h (LL.val Truck-t.the-type Truck-l.the-laws h ∷ []) (λ g. move ! (1 ∷ 0 ∷ []) $
+        opens ! tt Truck-t.the-row {h = h} b o (λ vs. spelt-truck ! fullShare h vs b o $ move ! (1 ∷ []) $ peeks-truck ! h (truckVal h ∷ []) (λ g. move ! (1 ∷ 0 ∷ []) $
         -- [the cell; what h owns; the open borrow; obs; auth; true; the others' own; the locals from 7 on, the last first]
         assigns ! (of-opd ! (load ! (from ! (hop ! (look ! 15 refl) (stop !))) (look-raw ! 0 refl))) (from ! (stop !)) (init ! 7 refl (LL.lawful Truck-t.the-type Truck-l.the-laws 𝓤 H A W .typed h _ g .0)) $
         use0 W (raw (Callee 𝓤 H A at-mem run .pre to)) (goes g) $
         calls-at ! fm (Callee 𝓤 H A at-mem run) known to (and-then ! (load ! (from ! (stop !)) (look ! 8 refl)) (and-then ! (load ! (from ! (stop !)) (look ! 14 refl)) (and-then ! (load ! (from ! (stop !)) (look ! 12 refl)) (no-more !)))) (λ v.
         use1 W (later (some (λ (r : Truck). (‵ ftrue ⊛ ‵ (Truck-t.the-row .own r (v ∷ []))) ⊛ raw (ensured 𝓤 H A callee.ended (callee.clauses 𝓤 H A at-mem run) tt (h, (k, (e, tt))) tt r)))) (id⊢ 𝓤 _) $ await ! tt $ pick ! (λ r.
-        split ! $ move ! (1 ∷ []) $ use1 W (raw (fact 𝓤 (r ≡ turned k e h))) (said r) $ heard ! (r ≡ turned k e h) (λ p. split ! $ drop ! $ peeks ! Truck-t.the-row (Is Truck-t.the-row) (shows 𝓤 H A Truck-t.the-row) r (v ∷ []) (λ is.
+        split ! $ move ! (1 ∷ []) $ use1 W (raw (fact 𝓤 (r ≡ turned k e h))) (said r) $ heard ! (r ≡ turned k e h) (λ p. split ! $ drop ! $ peeks-truck ! r (v ∷ []) (λ is.
         -- [what r owns; the cell; what h owns; the open borrow; obs; auth; true; the others' own; the locals from 8 on]
         land ! (from ! (stop !)) (init ! 10 refl (LL.lawful Truck-t.the-type Truck-l.the-laws 𝓤 H A W .typed r _ is .0)) $
         assigns ! (of-opd ! (load ! (from ! (stop !)) (look ! 10 refl))) (from ! (hop ! (look ! 16 refl) (stop !))) (store-raw ! 1 refl (LL.lawful Truck-t.the-type Truck-l.the-laws 𝓤 H A W .typed r _ is .0)) $

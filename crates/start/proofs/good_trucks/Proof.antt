@@ -1,12 +1,11 @@
 -- `good_trucks` meets its contract.
 use mathlib.Core.Bool.{_&&_}
-use mathlib.Core.Path.{_≡_, ap, ap₂, sym, _∙_}
+use mathlib.Core.Path.{_≡_, refl, ap, ap₂, _∙_}
 use Prim.Native.Nat.{_≤_, _-_}
 use native.Mathlib.Omega.{arith}
 use native.Mathlib.Numerals.{add-one}
 use borrow.Author.Needs.{needs}
 use Rattle.basics.specs.Lists.{allBelow}
-use Rattle.basics.proofs.Laws.{allBelow-none, allBelow-suc}
 use Rattle.protocol.specs.Rules.{truck}
 use Rattle.protocol.specs.Fleets.{goodTruck}
 use Rattle.start.proofs.good_trucks.Statement.{statement}
@@ -19,13 +18,12 @@ abbrev μ-loop : tie.MeasureT-loop
 μ-loop f n done ok₀ i₀ ok i = n - i
 
 loop-holds : tie.Need-loop-holds Inv-loop μ-loop
-loop-holds c = (search needs, sym (allBelow-none (λ i. goodTruck (c .args .t1 .done) (truck (c .args .t1 .trucks) i))))
+unfolding allBelow
+loop-holds c = (search needs, refl)
 
 loop-again : tie.Need-loop-again Inv-loop μ-loop
-loop-again c =
-    let f = c .before .before .before .before .args .t1 in
-    let i = c .before .before .before .loop .i in
-    (search needs, ap₂ _&&_ (c .before .before .before .loop .inv .1) (c .good-truck .ensures) ∙ sym (ap (allBelow (λ i. goodTruck (f .done) (truck (f .trucks) i))) (add-one i) ∙ allBelow-suc (λ i. goodTruck (f .done) (truck (f .trucks) i)) i))
+unfolding allBelow
+loop-again c = (search needs, rw (add-one (c .before .before .before .loop .i)) (ap₂ _&&_ (c .before .before .before .loop .inv .1) (c .good-truck .ensures)))
 
 returns : tie.Need-returns Inv-loop μ-loop
 returns c =

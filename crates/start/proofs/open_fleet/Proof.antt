@@ -4,13 +4,13 @@ use Prim.Native.Nat.{_≤_, _-_}
 use native.Mathlib.Omega.{arith}
 use borrow.Author.Needs.{needs}
 use lib.ListN.{length}
-use Rattle.start.proofs.Records.{opening, open-starts, open-more, open-done}
+use Rattle.start.proofs.Records.{openingFleet, open-starts, open-more, open-done}
 use Rattle.protocol.specs.Rules.{opened}
 use Rattle.start.proofs.open_fleet.Statement.{statement}
 use Rattle.start.proofs.open_fleet.Tie as tie
 
 abbrev Inv-loop : tie.InvT-loop
-Inv-loop n openings f₀ i₀ f i = (i ≤ length openings) × (f ≡ opening n openings i)
+Inv-loop n openings f₀ i₀ f i = (i ≤ length openings) × (f ≡ openingFleet n openings i)
 
 abbrev μ-loop : tie.MeasureT-loop
 μ-loop n openings f₀ i₀ f i = length openings - i

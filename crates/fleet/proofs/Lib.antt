@@ -1,5 +1,6 @@
 pub mod Laws
 pub mod Members
+pub mod Packed
 pub mod ByCrusher
 pub mod Airs
 pub mod Turns

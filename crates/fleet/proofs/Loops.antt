@@ -2,7 +2,7 @@
 use mathlib.Core.Path.{_≡_, refl, ap, ap₂, sym, subst, _∙_}
 use mathlib.Core.Bool.{Bool, true, false, cond, _&&_}
 use mathlib.Core.List.{List}
-use Prim.Native.Nat.{ℕ, _+_, _^_, _≤_, _<_}
+use Prim.Native.Nat.{ℕ, suc, _+_, _-_, _^_, _≤_, _<_, min}
 use native.Mathlib.Omega.{arith}
 use native.Mathlib.Decide.{ℕ-discrete}
 use borrow.Author.Tests.{eq-eqb, ne-eqb}
@@ -13,15 +13,18 @@ use lib.Seq.{getD-set-same, getD-set-other}
 use Rattle.basics.specs.Bits.{bit, odd}
 use Rattle.basics.specs.Lists.{filled}
 use Rattle.basics.proofs.Laws.{and-left}
+use Rattle.bitreader.specs.Bits.{bitsRead, mirrored}
+use Rattle.bitreader.proofs.Digits.{mirrored-lt}
 use Rattle.protocol.specs.declared.Truck.{Truck}
 use Rattle.protocol.specs.declared.Fleet.{Fleet}
 use Rattle.protocol.specs.Rules.{opened, truck, runs, vetoes}
 use Rattle.truck.specs.declared.Event.{Event}
 use Rattle.truck.specs.Events.{turned}
 use Rattle.fleet.specs.declared.round.Roster.{Roster}
-use Rattle.fleet.specs.Rounds.{estimates, proposalEvent, vetoEvent, Kept, Ready, roundOf, Played}
+use Rattle.fleet.specs.Rounds.{estimates, proposalEvent, vetoEvent, Kept, Ready, roundOf, plainRows, Played}
 use Rattle.fleet.proofs.Turns.{rule, rule-idle, proposers, vetoers, proposal-turn, veto-turn, kept-proposal, kept-veto, next-is}
 use Rattle.fleet.specs.Sets.{Members, Sorted}
+use Rattle.fleet.proofs.Packed.{row-plain, sorted-packed, proposal-packed, veto-packed}
 use Rattle.fleet.proofs.Members.{set-below, within-removed, seen, seen-none, seen-all, seen-in, seen-out, seen-joined, replaced, replaced-at, replaced-all, replaced-none, replaced-more}
 
 -- a round under way: the trucks of `left` are as they were, the others of `running` as they become, and set holds those of the latter that have p
@@ -67,7 +70,7 @@ module _ (n k : ℕ) (ts : List Truck) (new : ℕ → Truck) (running : ℕ) (p 
   going-held : {f : Fleet} {members left : ℕ} → Going n k ts new running p f members left → left ≡ 0 → Members members n (λ j. bit running j && p (new j))
   going-held g z = seen-all (rw z at (g .held))
 
--- ---- a round of a roster
+-- ---- a round of a roster, whose rows are as they are packed
 module _ (r : Roster) (stop active mark : ℕ) (rows : List ℕ) (ready : Ready r) where
   abbrev f : Fleet
   f = r .fleet
@@ -75,11 +78,18 @@ module _ (r : Roster) (stop active mark : ℕ) (rows : List ℕ) (ready : Ready 
   abbrev k : ℕ
   k = f .done + 1
 
+  abbrev plain : List ℕ
+  plain = plainRows (f .n) rows
+
   abbrev w : List ℕ
-  w = roundOf stop active mark rows
+  w = roundOf stop active mark plain
 
   abbrev new : ℕ → Truck
-  new = rule (f .n) k stop active mark rows (f .trucks)
+  new = rule (f .n) k stop active mark plain (f .trucks)
+
+  -- those that run after the stops
+  abbrev on : ℕ
+  on = bitXor (r .running) (bitAnd (r .running) stop)
 
   known : Members (r .running) (f .n) (λ j. runs (truck (f .trucks) j))
   known = ready .kept .running
@@ -87,17 +97,23 @@ module _ (r : Roster) (stop active mark : ℕ) (rows : List ℕ) (ready : Ready 
   long : f .n ≤ length (f .trucks)
   long = omega (arith, ready .places, ready .most)
 
+  width : (v : ℕ) → mirrored (bitsRead (f .n)) v ≡ mirrored (f .n) v
+  width v = ap (λ (m : ℕ). mirrored m v) (let e : min (f .n) 32 ≡ f .n = omega (arith, ready .most) in e)
+
   module _ (p : Truck → Bool) where
     pub round-starts : Going (f .n) k (f .trucks) new (r .running) p (record { n = f .n; done = k; trucks = f .trucks }) 0 (r .running)
     round-starts =
         going-starts (f .n) k (f .trucks) new (r .running) p long
-        (λ j l h. rule-idle (f .n) k stop active mark rows (f .trucks) j (sym (known .each j l) ∙ h))
+        (λ j l h. rule-idle (f .n) k stop active mark plain (f .trucks) j (sym (known .each j l) ∙ h))
+
+    pub round-below : {g : Fleet} {members left : ℕ} → Going (f .n) k (f .trucks) new (r .running) p g members left → (i : ℕ) → bit left i ≡ true → i < f .n
+    round-below going i h = going-below (f .n) k (f .trucks) new (r .running) p (known .below) going i h
 
     -- truck i is brought up to date by an event that is what the round is to it
     module _ {g : Fleet} {members left : ℕ} (going : Going (f .n) k (f .trucks) new (r .running) p g members left) (i : ℕ) (h : bit left i ≡ true)
         (u : Truck) (b : Bool) (members′ left′ : ℕ) (eb : b ≡ p u) (em : members′ ≡ cond b (bitOr members (2 ^ i)) members) (el : left′ ≡ bitXor left (2 ^ i)) where
       below : i < f .n
-      below = going-below (f .n) k (f .trucks) new (r .running) p (known .below) going i h
+      below = round-below going i h
 
       same : truck (g .trucks) i ≡ truck (f .trucks) i
       same = going-truck (f .n) k (f .trucks) new (r .running) p (known .below) going i h
@@ -105,46 +121,62 @@ module _ (r : Roster) (stop active mark : ℕ) (rows : List ℕ) (ready : Ready 
       moved : u ≡ new i → Going (f .n) k (f .trucks) new (r .running) p (record { n = g .n; done = g .done; trucks = set (g .trucks) i u }) members′ left′
       moved eu = going-more (f .n) k (f .trucks) new (r .running) p (known .below) going i h long u b members′ left′ eu eb em el
 
-      pub proposal-more : odd k ≡ true → (values : List ℕ) → Sorted values (f .n) (bitAnd (bitXor (r .running) (bitAnd (r .running) stop)) active) (estimates (f .trucks))
-          → (e : Event) → e ≡ proposalEvent stop mark (bitAnd (bitXor (r .running) (bitAnd (r .running) stop)) active) (getD rows i 0) i values (truck (g .trucks) i .estimate)
-          → u ≡ turned k e (truck (g .trucks) i)
-          → Going (f .n) k (f .trucks) new (r .running) p (record { n = g .n; done = g .done; trucks = set (g .trucks) i u }) members′ left′
-      proposal-more o values sorted e ee eu =
-          let sent : ℕ = bitAnd (bitXor (r .running) (bitAnd (r .running) stop)) active in
-          moved (eu
-          ∙ ap₂ (turned k) (ee ∙ ap (λ (t : Truck). proposalEvent stop mark sent (getD rows i 0) i values (t .estimate)) same) same
-          ∙ proposal-turn (f .n) k stop active mark rows (f .trucks) i sent below (proposers (f .n) k w (f .trucks) (r .running) known o) values o sorted (ready .small))
+      -- the place of its own bit
+      place-is : f .n - 1 - i ≡ f .n - suc i
+      place-is = omega arith
 
-      pub veto-more : odd k ≡ false → (e : Event) → e ≡ vetoEvent stop mark (bitAnd (bitXor (r .running) (bitAnd (r .running) stop)) (r .vetoing)) (getD rows i 0) i
-          → u ≡ turned k e (truck (g .trucks) i)
-          → Going (f .n) k (f .trucks) new (r .running) p (record { n = g .n; done = g .done; trucks = set (g .trucks) i u }) members′ left′
-      veto-more o e ee eu =
-          moved (eu ∙ ap₂ (turned k) ee same
-          ∙ veto-turn (f .n) k stop active mark rows (f .trucks) i (bitAnd (bitXor (r .running) (bitAnd (r .running) stop)) (r .vetoing)) below
-          (vetoers (f .n) k w (f .trucks) (r .running) known (r .vetoing) o (ready .kept .vetoing)) o)
+      module _ (senders : ℕ) (e : Event) (eu : u ≡ turned k e (truck (g .trucks) i)) where
+        pub proposal-more : odd k ≡ true → senders ≡ mirrored (bitsRead (f .n)) (bitAnd on active)
+            → (values : List ℕ) → Sorted values (f .n) senders (λ j. estimates (f .trucks) (f .n - suc j))
+            → e ≡ proposalEvent stop mark senders (getD rows i 0) i (f .n - 1 - i) values (truck (g .trucks) i .estimate)
+            → Going (f .n) k (f .trucks) new (r .running) p (record { n = g .n; done = g .done; trucks = set (g .trucks) i u }) members′ left′
+        proposal-more o es values sorted ee =
+            let sent = proposers (f .n) k w (f .trucks) (r .running) known o in
+            let packed = es ∙ width (bitAnd on active) in
+            moved (eu
+            ∙ ap₂ (turned k)
+            (ee ∙ rw (packed, place-is, same) (proposal-packed (f .n) (bitAnd on active) (getD rows i 0) i (sent .below) below stop mark values (estimates (f .trucks) i))
+            ∙ ap (λ (x : ℕ). proposalEvent stop mark (bitAnd on active) x i i (plainRows (f .n) values) (estimates (f .trucks) i)) (sym (row-plain (f .n) rows i)))
+            same
+            ∙ proposal-turn (f .n) k stop active mark plain (f .trucks) i (bitAnd on active) below sent (plainRows (f .n) values) o
+            (sorted-packed (f .n) values (bitAnd on active) (estimates (f .trucks)) (rw packed at sorted)) (ready .small))
 
-  pub proposal-sends : odd k ≡ true → bitAnd (bitXor (r .running) (bitAnd (r .running) stop)) active < 2 ^ f .n
-  proposal-sends o = proposers (f .n) k w (f .trucks) (r .running) known o .below
+        pub veto-more : odd k ≡ false → senders ≡ mirrored (bitsRead (f .n)) (bitAnd on (r .vetoing))
+            → e ≡ vetoEvent stop mark senders (getD rows i 0) i (f .n - 1 - i)
+            → Going (f .n) k (f .trucks) new (r .running) p (record { n = g .n; done = g .done; trucks = set (g .trucks) i u }) members′ left′
+        veto-more o es ee =
+            let sent = vetoers (f .n) k w (f .trucks) (r .running) known (r .vetoing) o (ready .kept .vetoing) in
+            let packed = es ∙ width (bitAnd on (r .vetoing)) in
+            moved (eu
+            ∙ ap₂ (turned k)
+            (ee ∙ rw (packed, place-is) (veto-packed (f .n) (bitAnd on (r .vetoing)) (getD rows i 0) i (sent .below) below stop mark)
+            ∙ ap (λ (x : ℕ). vetoEvent stop mark (bitAnd on (r .vetoing)) x i i) (sym (row-plain (f .n) rows i)))
+            same
+            ∙ veto-turn (f .n) k stop active mark plain (f .trucks) i (bitAnd on (r .vetoing)) below sent o)
+
+  -- the senders as they are packed
+  pub packed-below : (senders v : ℕ) → senders ≡ mirrored (bitsRead (f .n)) v → senders < 2 ^ f .n
+  packed-below senders v e = rw (e ∙ width v) (mirrored-lt (f .n) v)
 
   -- no truck is left
   module _ {g : Fleet} {members left : ℕ} (z : left ≡ 0) where
     pub proposal-ends : odd k ≡ true → Going (f .n) k (f .trucks) new (r .running) vetoes g members left
-        → Played r stop active mark rows (record { fleet = g; running = bitXor (r .running) (bitAnd (r .running) stop); vetoing = members })
+        → Played r stop active mark rows (record { fleet = g; running = on; vetoing = members })
     proposal-ends o going =
         let end = going-fleet (f .n) k (f .trucks) new (r .running) vetoes going z in
         record {
-          fleet = end ∙ sym (next-is f stop active mark rows);
-          kept = subst (λ (q : Fleet). Kept (record { fleet = q; running = bitXor (r .running) (bitAnd (r .running) stop); vetoing = members })) (sym end)
-              (kept-proposal (f .n) k stop active mark rows (f .trucks) (r .running) known members o (going-held (f .n) k (f .trucks) new (r .running) vetoes going z));
+          fleet = end ∙ sym (next-is f stop active mark plain);
+          kept = subst (λ (q : Fleet). Kept (record { fleet = q; running = on; vetoing = members })) (sym end)
+              (kept-proposal (f .n) k stop active mark plain (f .trucks) (r .running) known members o (going-held (f .n) k (f .trucks) new (r .running) vetoes going z));
         }
 
     pub veto-ends : odd k ≡ false → Going (f .n) k (f .trucks) new (r .running) runs g members left → Played r stop active mark rows (record { fleet = g; running = members; vetoing = 0 })
     veto-ends o going =
         let end = going-fleet (f .n) k (f .trucks) new (r .running) runs going z in
         record {
-          fleet = end ∙ sym (next-is f stop active mark rows);
+          fleet = end ∙ sym (next-is f stop active mark plain);
           kept = subst (λ (q : Fleet). Kept (record { fleet = q; running = members; vetoing = 0 })) (sym end)
-              (kept-veto (f .n) k stop active mark rows (f .trucks) (r .running) known members o (going-held (f .n) k (f .trucks) new (r .running) runs going z));
+              (kept-veto (f .n) k stop active mark plain (f .trucks) (r .running) known members o (going-held (f .n) k (f .trucks) new (r .running) runs going z));
         }
 
 -- ---- the senders of each crusher

@@ -12,8 +12,8 @@ use lib.ListN.{length, getD, set, replicate, length-set}
 use lib.Seq.{getD-set-same, getD-set-other}
 use Rattle.basics.specs.Bits.{bit}
 use Rattle.words.proofs.Words.{bit-zero, bit-removed}
-use Rattle.bitreader.specs.Bits.{bitsRead}
-use Rattle.recording.specs.Packed.{bitAt, rowAt, trucksOf, wordAt, roundAt}
+use Rattle.bitreader.specs.Bits.{bitAt, numAt, rowAt, bitsRead}
+use Rattle.recording.specs.Packed.{trucksOf, wordAt, roundAt}
 use Rattle.recording.proofs.Rounds.{word-round}
 use Rattle.fleet.specs.Replays.{RowsRead}
 use Rattle.fleet.proofs.Members.{set-below, within-removed}
@@ -25,7 +25,7 @@ product i n l m = mul-le-mul (let e : i ≤ 32 = omega arith in e) m
 pub record Rows (s : List ℕ) (at n among : ℕ) (rows : List ℕ) (left : ℕ) : Type 0 where
   pub long : length rows ≡ 32
   pub within : (j : ℕ) → bit left j ≡ true → bit among j ≡ true
-  pub read : (i : ℕ) → i < n → bit among i ≡ true → bit left i ≡ false → getD rows i 0 ≡ rowAt (bitAt s) (at + i * n) n
+  pub read : (i : ℕ) → i < n → bit among i ≡ true → bit left i ≡ false → getD rows i 0 ≡ numAt (bitAt s) (at + i * n) n
 
 module _ (s : List ℕ) (at n among : ℕ) where
   pub rows-start : Rows s at n among (replicate 32 0) among
@@ -35,7 +35,7 @@ module _ (s : List ℕ) (at n among : ℕ) where
   rows-below r below i h = set-below among n below i (r .within i h)
 
   pub rows-more : {rows : List ℕ} {left : ℕ} → Rows s at n among rows left → n ≤ 32 → (i v : ℕ) → i < n → bit left i ≡ true
-      → v ≡ rowAt (bitAt s) (at + i * n) (bitsRead n) → (left′ : ℕ) → left′ ≡ bitXor left (2 ^ i) → Rows s at n among (set rows i v) left′
+      → v ≡ numAt (bitAt s) (at + i * n) (bitsRead n) → (left′ : ℕ) → left′ ≡ bitXor left (2 ^ i) → Rows s at n among (set rows i v) left′
   rows-more {rows} {left} r m i v l h e left′ el =
       rw el (record {
         long = length-set rows i v ∙ r .long;
@@ -43,9 +43,9 @@ module _ (s : List ℕ) (at n among : ℕ) where
         read = λ j lj g o. go j lj g o (ℕ-discrete j i);
       })
     where
-      go : (j : ℕ) → j < n → bit among j ≡ true → bit (bitXor left (2 ^ i)) j ≡ false → Dec (j ≡ i) → getD (set rows i v) j 0 ≡ rowAt (bitAt s) (at + j * n) n
+      go : (j : ℕ) → j < n → bit among j ≡ true → bit (bitXor left (2 ^ i)) j ≡ false → Dec (j ≡ i) → getD (set rows i v) j 0 ≡ numAt (bitAt s) (at + j * n) n
       go j lj g o (yes q) =
-          rw q (getD-set-same rows i v 0 (omega (arith, r .long)) ∙ e ∙ ap (rowAt (bitAt s) (at + i * n)) (let z : min n 32 ≡ n = omega arith in z))
+          rw q (getD-set-same rows i v 0 (omega (arith, r .long)) ∙ e ∙ ap (numAt (bitAt s) (at + i * n)) (let z : min n 32 ≡ n = omega arith in z))
       go j lj g o (no q) =
           getD-set-other rows i j v 0 q
           ∙ r .read j lj g (sym (bit-removed left i j h ∙ ap (λ (b : Bool). bit left j && not b) (ne-eqb i j (λ t. q (sym t))) ∙ and-true (bit left j)) ∙ o)

@@ -17,8 +17,10 @@ use Rattle.protocol.specs.declared.Truck.{Truck}
 use Rattle.protocol.specs.declared.Fleet.{Fleet}
 use Rattle.protocol.specs.Rules.{opened, truck, isRunning, runs, vetoes, stops, turn, airOf, valuesHeard, plays, after}
 use Rattle.protocol.specs.Fleets.{nextFleet}
-use Rattle.fleet.specs.Rounds.{roundOf, noRows}
+use Rattle.bitreader.specs.Bits.{mirrored}
+use Rattle.fleet.specs.Rounds.{roundOf, plainRows, noRows}
 use Rattle.fleet.proofs.Laws.{filled-same}
+use Rattle.fleet.proofs.Packed.{row-plain, mirror-back}
 use Rattle.fleet.proofs.Turns.{row-of}
 
 -- two rounds that differ in nothing that is looked at
@@ -91,20 +93,23 @@ veto-active f stop active mark rows o =
     row-is : (i : ℕ) → getD (roundOf stop 0 mark rows) (3 + i) 0 ≡ getD (roundOf stop active mark rows) (3 + i) 0
     row-is i = row-of stop 0 mark rows i ∙ sym (row-of stop active mark rows i)
 
--- a round in plain form by its first three words and its rows
+-- a round in plain form by its first three words and its rows as they are packed
 pub plain-next : (f : Fleet) (w : List ℕ)
-    → nextFleet f (roundOf (getD w 0 0) (getD w 1 0) (getD w 2 0) (filled (λ i. getD w (3 + i) 0) (f .n) noRows)) ≡ nextFleet f w
+    → nextFleet f (roundOf (getD w 0 0) (getD w 1 0) (getD w 2 0) (plainRows (f .n) (filled (λ i. mirrored (f .n) (getD w (3 + i) 0)) (f .n) noRows))) ≡ nextFleet f w
 plain-next f w =
-    same-next f (roundOf (getD w 0 0) (getD w 1 0) (getD w 2 0) rows) w
+    same-next f (roundOf (getD w 0 0) (getD w 1 0) (getD w 2 0) (plainRows (f .n) rows)) w
     (record {
       stop = refl;
       active = λ e. refl;
       mark = refl;
-      rows = λ i l r j lj s. ap (λ (x : ℕ). bit x j) (row-of (getD w 0 0) (getD w 1 0) (getD w 2 0) rows i ∙ getD-filled (λ i. getD w (3 + i) 0) (f .n) noRows i 0 l);
+      rows = λ i l r j lj s.
+          ap (λ (x : ℕ). bit x j)
+          (row-of (getD w 0 0) (getD w 1 0) (getD w 2 0) (plainRows (f .n) rows) i ∙ row-plain (f .n) rows i ∙ ap (mirrored (f .n)) (getD-filled (λ i. mirrored (f .n) (getD w (3 + i) 0)) (f .n) noRows i 0 l))
+          ∙ mirror-back (f .n) (getD w (3 + i) 0) j lj;
     })
   where
     rows : List ℕ
-    rows = filled (λ i. getD w (3 + i) 0) (f .n) noRows
+    rows = filled (λ i. mirrored (f .n) (getD w (3 + i) 0)) (f .n) noRows
 
 -- a round in which nobody runs
 pub idle-next : (f : Fleet) (w : List ℕ) → f .n ≤ length (f .trucks) → ((j : ℕ) → j < f .n → runs (truck (f .trucks) j) ≡ false)

@@ -19,7 +19,9 @@ use Rattle.air.specs.Round.{activeBit}
 use Rattle.air.specs.Runs.{stateAt}
 use Rattle.air.specs.Air.{Air, complete, majorityComplete, zeroComplete, accurate}
 use Rattle.words.proofs.Words.{bit-zero}
-use Rattle.bitreader.specs.Bits.{bitsRead}
+use Rattle.words.proofs.Mirror.{mirror-bit}
+use Rattle.bitreader.specs.Bits.{bitsRead, mirrored}
+use Rattle.bitreader.proofs.Digits.{bitAt-lt, mirrored-num}
 use Rattle.refusals.specs.declared.Outcome.the-variants.{Accepted}
 use Rattle.recording.specs.Packed.{bitAt, rowAt, trucksOf, roundsOf, openingAt, openingsOf, roundAt}
 use Rattle.recording.specs.Checks.{checkOf}
@@ -38,11 +40,12 @@ use Rattle.fleet.specs.declared.round.Roster.{Roster}
 use Rattle.fleet.specs.declared.grading.Verdict.{Verdict}
 use Rattle.fleet.specs.declared.replay.Course.{Course}
 use Rattle.fleet.specs.Sets.{Members}
-use Rattle.fleet.specs.Rounds.{Kept, Ready, roundOf, Played}
+use Rattle.fleet.specs.Rounds.{Kept, Ready, roundOf, plainRows, Played}
 use Rattle.fleet.specs.Grading.{verdictOf, Described, carriedAll}
 use Rattle.fleet.specs.Replays.{RowsRead, noGrades, fleetAfter, gradesAfter, counted, Reached, Moved, Finished}
 use Rattle.fleet.proofs.Members.{members-none, members-without}
 use Rattle.start.proofs.Records.{length-start}
+use Rattle.fleet.proofs.Packed.{row-plain}
 use Rattle.fleet.proofs.Turns.{going-is, proposers, vetoers, row-of}
 use Rattle.fleet.proofs.Same.{Same, same-next, idle-next}
 use Rattle.fleet.proofs.Verdicts.{verdict-starts, verdict-done, carried-all, break-none, break-next}
@@ -178,9 +181,10 @@ module _ (s : List ℕ) (at : ℕ) (judging : Bool) (c : Course) (reached : Reac
             subst (λ (x : ℕ). Members (bitXor (c .roster .running) (bitAnd (c .roster .running) x)) (f .n) (air .running)) (sym es)
             (going-is (f .n) k w (f .trucks) (c .roster .running) (reached .kept .running))
 
-        row-here : (i : ℕ) → i < f .n → air .running i ≡ true → (j : ℕ) → j < f .n → air .sends j ≡ true → getD rows i 0 ≡ getD w (3 + i) 0
+        row-here : (i : ℕ) → i < f .n → air .running i ≡ true → (j : ℕ) → j < f .n → air .sends j ≡ true → mirrored (f .n) (getD rows i 0) ≡ getD w (3 + i) 0
         row-here i l r j lj sj =
-            er i l (heard (eqb (bitAnd (gone-on stop) sent) 0) refl)
+            ap (mirrored (f .n)) (er i l (heard (eqb (bitAnd (gone-on stop) sent) 0) refl))
+            ∙ mirrored-num (bitAt s) (bitAt-lt s) (at + 3 * f .n + i * f .n) (f .n)
             ∙ ap (rowAt (bitAt s) (at + 3 * f .n + i * f .n)) (let z : f .n ≡ min (f .n) 32 = omega (arith, few-trucks) in z)
             ∙ word-read (3 + i) (at + 3 * f .n + i * f .n) (omega arith) (omega (arith, add-mul 3 i (f .n)))
           where
@@ -189,29 +193,30 @@ module _ (s : List ℕ) (at : ℕ) (judging : Bool) (c : Course) (reached : Reac
                 absurd (false≢true (sym (ap (λ (x : ℕ). bit x j) (eqb-true (bitAnd (gone-on stop) sent) 0 e) ∙ bit-zero j) ∙ sends .each j lj ∙ sj))
             heard false e = running-here .each i l ∙ r
 
-        as-read : Same (f .n) k (f .trucks) (roundOf stop active mark rows) w
+        as-read : Same (f .n) k (f .trucks) (roundOf stop active mark (plainRows (f .n) rows)) w
         as-read =
             record {
               stop = es;
               active = ea;
               mark = em;
-              rows = λ i l r j lj sj. ap (λ (x : ℕ). bit x j) (row-of stop active mark rows i ∙ row-here i l r j lj sj);
+              rows = λ i l r j lj sj. ap (λ (x : ℕ). bit x j) (row-of stop active mark (plainRows (f .n) rows) i ∙ row-plain (f .n) rows i ∙ row-here i l r j lj sj);
             }
 
-        described : Described air (gone-on stop) (bitAnd (gone-on stop) sent) mark rows
+        described : Described air (f .n) (gone-on stop) (bitAnd (gone-on stop) sent) mark rows
         unfolding airOf
         described =
             record {
+              count = refl;
               running = running-here;
               sends = sends;
               marked = λ i l r. ap (λ (x : ℕ). bit x i) (sym em);
-              lost = λ i l r j lj sj. ap (λ (x : ℕ). bit x j) (sym (row-here i l r j lj sj));
+              lost = λ i l r j lj sj. ap (λ (x : ℕ). bit x j) (sym (row-here i l r j lj sj)) ∙ mirror-bit (f .n) (getD rows i 0) j lj;
             }
 
         pub round-done : (q : Roster) (grades : Grades) → Played (c .roster) stop active mark rows q
-            → ((a : Air) → Described a (gone-on stop) (bitAnd (gone-on stop) sent) mark rows → grades ≡ cond judging (carriedAll (c .grades) (verdictOf a) k) (c .grades))
+            → ((a : Air) → Described a (f .n) (gone-on stop) (bitAnd (gone-on stop) sent) mark rows → grades ≡ cond judging (carriedAll (c .grades) (verdictOf a) k) (c .grades))
             → Moved s at judging c (record { roster = q; grades = grades })
-        round-done q grades p g = moved q grades (p .fleet ∙ same-next f (roundOf stop active mark rows) w as-read) (p .kept) (g air described)
+        round-done q grades p g = moved q grades (p .fleet ∙ same-next f (roundOf stop active mark (plainRows (f .n) rows)) w as-read) (p .kept) (g air described)
 
     -- the rows that are asked for are rows of trucks below n
     pub listeners-below : (stop sent among : ℕ) → among ≡ cond (eqb (bitAnd (gone-on stop) sent) 0) 0 (gone-on stop) → among < 2 ^ f .n
@@ -232,7 +237,7 @@ module _ (s : List ℕ) (at : ℕ) (judging : Bool) (c : Course) (reached : Reac
 
       pub proposal-done : odd k ≡ true → (active : ℕ) → active ≡ rowAt (bitAt s) (at + f .n) (bitsRead (f .n))
           → among ≡ cond (eqb (bitAnd (gone-on stop) active) 0) 0 (gone-on stop) → Played (c .roster) stop active mark rows q
-          → ((a : Air) → Described a (gone-on stop) (bitAnd (gone-on stop) active) mark rows
+          → ((a : Air) → Described a (f .n) (gone-on stop) (bitAnd (gone-on stop) active) mark rows
           → grades ≡ cond judging (carriedAll (c .grades) (verdictOf a) k) (c .grades))
           → Moved s at judging c (record { roster = q; grades = grades })
       proposal-done o active ra e p g =
@@ -243,7 +248,7 @@ module _ (s : List ℕ) (at : ℕ) (judging : Bool) (c : Course) (reached : Reac
 
       pub veto-done : odd k ≡ false
           → among ≡ cond (eqb (bitAnd (gone-on stop) (c .roster .vetoing)) 0) 0 (gone-on stop) → Played (c .roster) stop 0 mark rows q
-          → ((a : Air) → Described a (gone-on stop) (bitAnd (gone-on stop) (c .roster .vetoing)) mark rows
+          → ((a : Air) → Described a (f .n) (gone-on stop) (bitAnd (gone-on stop) (c .roster .vetoing)) mark rows
           → grades ≡ cond judging (carriedAll (c .grades) (verdictOf a) k) (c .grades))
           → Moved s at judging c (record { roster = q; grades = grades })
       veto-done o e p g =
@@ -256,10 +261,11 @@ module _ (s : List ℕ) (at : ℕ) (judging : Bool) (c : Course) (reached : Reac
       nobody : (j : ℕ) → j < f .n → runs (truck (f .trucks) j) ≡ false
       nobody j l = sym (reached .kept .running .each j l) ∙ ap (λ (x : ℕ). bit x j) none ∙ bit-zero j
 
-      silent : Described air 0 0 0 []
+      silent : Described air (f .n) 0 0 0 []
       unfolding airOf
       silent =
           record {
+            count = refl;
             running = members-none (f .n) (air .running) (λ j l. rw (nobody j l));
             sends = members-none (f .n) (air .sends) (λ j l. rw (nobody j l));
             marked = λ i l r. absurd (false≢true (sym (rw (nobody i l)) ∙ r));
@@ -269,7 +275,7 @@ module _ (s : List ℕ) (at : ℕ) (judging : Bool) (c : Course) (reached : Reac
       idle-done : Moved s at judging c (counted c 1)
       idle-done =
           moved (counted c 1 .roster) (c .grades) (sym (idle-next f w (omega (arith, ready .places, few-trucks)) nobody)) (record { running = reached .kept .running; vetoing = reached .kept .vetoing })
-          (sym (same judging (ap (λ (v : Verdict). carriedAll (c .grades) v k) (sym (verdict-starts air 0 0 0 [] silent ∙ verdict-done air 0 0 0 [] silent 0 refl)) ∙ carried-all (c .grades) k)))
+          (sym (same judging (ap (λ (v : Verdict). carriedAll (c .grades) v k) (sym (verdict-starts air (f .n) 0 0 0 [] silent ∙ verdict-done air (f .n) 0 0 0 [] silent 0 refl)) ∙ carried-all (c .grades) k)))
         where
           same : (b : Bool) {x y : Grades} → x ≡ y → cond b x y ≡ y
           same true e = e

@@ -181,10 +181,10 @@ module _ (n k stop active mark : ℕ) (rows : List ℕ) (ts : List Truck) where
     vetoed-is o = plays-veto n (activeBit w) k w ts i o ∙ ap (λ (b : Bool). vetoed k (markBit w i) b (truck ts i)) any-heard
 
     pub proposal-turn : (values : List ℕ) → odd k ≡ true → Sorted values n senders (estimates ts) → ((j : ℕ) → j < n → estimates ts j < 16)
-        → turned k (proposalEvent stop mark senders row i values (estimates ts i)) (truck ts i) ≡ rule i
+        → turned k (proposalEvent stop mark senders row i i values (estimates ts i)) (truck ts i) ≡ rule i
     unfolding proposalEvent
     proposal-turn values o sorted small =
-        event-turn k (truck ts i .state) (stopBit w i) (truck ts i) (plays air k w ts i) (proposalEvent stop mark senders row i values (estimates ts i)) (λ h. rw h)
+        event-turn k (truck ts i .state) (stopBit w i) (truck ts i) (plays air k w ts i) (proposalEvent stop mark senders row i i values (estimates ts i)) (λ h. rw h)
         (λ h. rw h (ap (λ (v : Values). proposed (markBit w i) (v .heard) (v .least) (truck ts i)) values-are ∙ sym (proposed-is o)))
       where
         js : List ℕ
@@ -196,10 +196,10 @@ module _ (n k stop active mark : ℕ) (rows : List ℕ) (ts : List Truck) where
             values-right values n senders (heardSet senders row i) (estimates ts i) (estimates ts) sorted (heard-is .below)
             (λ j h. sends-bit j (member-below heard-is j h) (hears-sends air i j (member-has heard-is j h))) (λ j lj s. small j lj)
 
-    pub veto-turn : odd k ≡ false → turned k (vetoEvent stop mark senders row i) (truck ts i) ≡ rule i
+    pub veto-turn : odd k ≡ false → turned k (vetoEvent stop mark senders row i i) (truck ts i) ≡ rule i
     unfolding vetoEvent
     veto-turn o =
-        event-turn k (truck ts i .state) (stopBit w i) (truck ts i) (plays air k w ts i) (vetoEvent stop mark senders row i) (λ h. rw h)
+        event-turn k (truck ts i .state) (stopBit w i) (truck ts i) (plays air k w ts i) (vetoEvent stop mark senders row i i) (λ h. rw h)
         (λ h. rw h (sym (vetoed-is o)))
 
   -- the fleet after the round, and its two sets

@@ -2,7 +2,7 @@
 use mathlib.Core.Path.{_≡_, refl, ap, ap₂, sym, _∙_}
 use mathlib.Core.Bool.{Bool, true, false, cond, not, _&&_, and-true, true≢false, false≢true}
 use mathlib.Core.List.{List}
-use Prim.Native.Nat.{ℕ, zero, suc, _*_, _^_, _<_}
+use Prim.Native.Nat.{ℕ, zero, suc, _*_, _-_, _^_, _<_}
 use native.Mathlib.Decide.{decLt, ℕ-discrete}
 use native.Mathlib.Omega.{arith}
 use borrow.Author.Tests.{eq-eqb, ne-eqb, lt-ltb, le-ltb}
@@ -15,12 +15,15 @@ use Rattle.basics.specs.Lists.{allBelow, someBelow, first}
 use Rattle.basics.proofs.Laws.{allBelow-all, first-le, first-kept, first-hit, first-on, none-someBelow, someBelow-none}
 use Rattle.air.specs.Air.{Air, implies, sent, hears, heardBy, heard, misses, missesAny, judged, complete, majorityComplete, zeroComplete, accurate, firstBreak}
 use Rattle.air.proofs.Laws.{hears-sends}
+use Rattle.bitreader.specs.Bits.{mirrored}
 use Rattle.words.proofs.Words.{bit-zero, bit-removed, same-bits}
+use Rattle.words.proofs.Mirror.{mirror-bit}
 use Rattle.protocol.specs.declared.Grades.{Grades}
 use Rattle.fleet.specs.declared.grading.Verdict.{Verdict}
 use Rattle.fleet.specs.Sets.{Members, heardSet}
 use Rattle.fleet.specs.Grading.{verdictOf, truckVerdict, bothOf, Described, carried, carriedAll}
 use Rattle.fleet.proofs.Members.{member-below, member-has, seen}
+use Rattle.fleet.proofs.Packed.{verdict-packed}
 use Rattle.fleet.proofs.Airs.{count-members, hearers}
 
 allBelow-ext : (f g : ℕ → Bool) (n : ℕ) → ((k : ℕ) → k < n → f k ≡ g k) → allBelow f n ≡ allBelow g n
@@ -104,7 +107,7 @@ module _ (a : Air) where
   soFar left =
       record { complete = but a marksMissed left; majority = but a marksMinority left; zero = but a marksSilence left; accurate = but a missedMarks left }
 
-module _ (a : Air) (going senders mark : ℕ) (rows : List ℕ) (d : Described a going senders mark rows) where
+module _ (a : Air) (n going senders mark : ℕ) (rows : List ℕ) (d : Described a n going senders mark rows) where
   pub verdict-starts : record { complete = true; majority = true; zero = true; accurate = true } ≡ soFar a going
   unfolding soFar
   verdict-starts =
@@ -124,10 +127,12 @@ module _ (a : Air) (going senders mark : ℕ) (rows : List ℕ) (d : Described a
     r = member-has (d .running) i g
 
     abbrev set : ℕ
-    set = heardSet senders (getD rows i 0) i
+    set = heardSet senders (mirrored n (getD rows i 0)) i
 
     hearing : Members set (a .trucks) (hears a i)
-    hearing = hearers a i senders (getD rows i 0) (d .sends) (d .lost i l r)
+    hearing =
+        hearers a i senders (mirrored n (getD rows i 0)) (d .sends)
+        (λ j lj s. d .lost i l r j lj s ∙ sym (mirror-bit n (getD rows i 0) j (omega (arith, d .count))))
 
     missed : missesAny a i ≡ not (eqb set senders)
     unfolding missesAny misses
@@ -169,10 +174,11 @@ module _ (a : Air) (going senders mark : ℕ) (rows : List ℕ) (d : Described a
     heard-messages = count-members hearing
 
     pub verdict-more : (left : ℕ) → bit left i ≡ true → (left′ : ℕ) → left′ ≡ bitXor left (2 ^ i)
-        → bothOf (soFar a left) (truckVerdict senders set (bit mark i)) ≡ soFar a left′
+        → bothOf (soFar a left) (truckVerdict (mirrored n senders) (heardSet (mirrored n senders) (getD rows i 0) (n - suc i)) (bit mark i)) ≡ soFar a left′
     unfolding bothOf truckVerdict soFar
     verdict-more left h left′ e =
-        rw (
+        ap (bothOf (soFar a left)) (verdict-packed n senders (getD rows i 0) i (rw (d .count) at (d .sends .below)) (omega (arith, d .count, l)) (bit mark i))
+        ∙ rw (
           e,
           but-more a (marksMissed a) left i l h r,
           but-more a (marksMinority a) left i l h r,

@@ -1,5 +1,5 @@
 -- Grading, carried along a run: the verdict on a round by sets of trucks, and the first round so far that breaks each class.
-use Prim.Native.Nat.{ℕ, _<_, _*_}
+use Prim.Native.Nat.{ℕ, suc, _<_, _*_, _-_}
 use mathlib.Core.Path.{_≡_}
 use mathlib.Core.Bool.{Bool, true, cond, not, _&&_, _||_}
 use mathlib.Core.List.{List}
@@ -36,12 +36,13 @@ bothOf u v =
       accurate = u .accurate && v .accurate;
     }
 
--- a round on the radio is what these sets and words say, as far as it is looked at
-pub record Described (a : Air) (going senders mark : ℕ) (rows : List ℕ) : Type 0 where
+-- a round of n trucks on the radio is what these sets and words say, as far as it is looked at; the rows are as they are packed
+pub record Described (a : Air) (n going senders mark : ℕ) (rows : List ℕ) : Type 0 where
+  pub count : a .trucks ≡ n
   pub running : Members going (a .trucks) (a .running)
   pub sends : Members senders (a .trucks) (a .sends)
   pub marked : (i : ℕ) → i < a .trucks → a .running i ≡ true → a .marked i ≡ bit mark i
-  pub lost : (i : ℕ) → i < a .trucks → a .running i ≡ true → (j : ℕ) → j < a .trucks → a .sends j ≡ true → a .lost i j ≡ bit (getD rows i 0) j
+  pub lost : (i : ℕ) → i < a .trucks → a .running i ≡ true → (j : ℕ) → j < a .trucks → a .sends j ≡ true → a .lost i j ≡ bit (getD rows i 0) (n - suc j)
 
 -- the first round that breaks a class, or 0, with round k looked at too
 unfoldable pub carried : ℕ → Bool → ℕ → ℕ

@@ -6,7 +6,8 @@ use mathlib.Core.List.{List}
 use lib.ListN.{getD}
 use Rattle.basics.specs.Bits.{bit}
 use Rattle.refusals.specs.declared.Outcome.the-variants.{Accepted}
-use Rattle.recording.specs.Packed.{bitAt, rowAt, trucksOf, roundsOf, openingsOf, roundAt}
+use Rattle.bitreader.specs.Bits.{bitAt, numAt}
+use Rattle.recording.specs.Packed.{trucksOf, roundsOf, openingsOf, roundAt}
 use Rattle.recording.specs.Checks.{checkOf}
 use Rattle.protocol.specs.declared.Fleet.{Fleet}
 use Rattle.protocol.specs.declared.Grades.{Grades}
@@ -15,9 +16,9 @@ use Rattle.protocol.specs.Fleets.{fleetAt}
 use Rattle.fleet.specs.declared.replay.Course.{Course}
 use Rattle.fleet.specs.Rounds.{Kept}
 
--- the rows of the trucks of a set, of n bits each, the first row standing at a place
+-- the rows of the trucks of a set as they are packed, of n bits each, the first row standing at a place
 abbrev pub RowsRead : List ℕ → ℕ → ℕ → ℕ → List ℕ → Type 0
-RowsRead s at n among rows = (i : ℕ) → i < n → bit among i ≡ true → getD rows i 0 ≡ rowAt (bitAt s) (at + i * n) n
+RowsRead s at n among rows = (i : ℕ) → i < n → bit among i ≡ true → getD rows i 0 ≡ numAt (bitAt s) (at + i * n) n
 
 abbrev pub noGrades : Grades
 noGrades = record { complete = 0; majority = 0; zero = 0; accurate = 0 }

@@ -2,10 +2,11 @@
 use Prim.Native.Nat.{ℕ, _<_, _≤_}
 use mathlib.Core.Path.{_≡_}
 use mathlib.Core.Bool.{Bool, true, cond, not}
-use mathlib.Core.List.{List, _∷_}
+use mathlib.Core.List.{List, _∷_, map}
 use lib.Dec.{eqb}
 use lib.ListN.{length, replicate}
 use Rattle.basics.specs.Bits.{bit}
+use Rattle.bitreader.specs.Bits.{mirrored}
 use Rattle.protocol.specs.declared.Truck.{Truck}
 use Rattle.protocol.specs.declared.Fleet.{Fleet}
 use Rattle.protocol.specs.Rules.{truck, runs, vetoes}
@@ -18,15 +19,15 @@ use Rattle.fleet.specs.Sets.{Members, heardSet, valuesOf}
 abbrev pub estimates : List Truck → ℕ → ℕ
 estimates ts j = truck ts j .estimate
 
--- what a proposal round is to truck i, where values holds the senders of each crusher
-unfoldable pub proposalEvent : ℕ → ℕ → ℕ → ℕ → ℕ → List ℕ → ℕ → Event
-proposalEvent stop mark senders row i values e =
-    let v = valuesOf values (heardSet senders row i) e in
+-- what a proposal round is to truck i, where values holds the senders of each crusher, and the truck's own bit among senders, there and in its row stands at a place
+unfoldable pub proposalEvent : ℕ → ℕ → ℕ → ℕ → ℕ → ℕ → List ℕ → ℕ → Event
+proposalEvent stop mark senders row i place values e =
+    let v = valuesOf values (heardSet senders row place) e in
     cond (bit stop i) Stop (Proposals (bit mark i) (v .heard) (v .least))
 
 -- what a veto round is to truck i
-unfoldable pub vetoEvent : ℕ → ℕ → ℕ → ℕ → ℕ → Event
-vetoEvent stop mark senders row i = cond (bit stop i) Stop (Vetoes (bit mark i) (not (eqb (heardSet senders row i) 0)))
+unfoldable pub vetoEvent : ℕ → ℕ → ℕ → ℕ → ℕ → ℕ → Event
+vetoEvent stop mark senders row i place = cond (bit stop i) Stop (Vetoes (bit mark i) (not (eqb (heardSet senders row place) 0)))
 
 -- the two sets of a roster are those that its name says
 pub record Kept (r : Roster) : Type 0 where
@@ -45,9 +46,13 @@ pub record Ready (r : Roster) : Type 0 where
 abbrev pub roundOf : ℕ → ℕ → ℕ → List ℕ → List ℕ
 roundOf stop active mark rows = stop ∷ active ∷ mark ∷ rows
 
--- the roster after a round
+-- rows of n bits as they are packed, in plain form
+abbrev pub plainRows : ℕ → List ℕ → List ℕ
+plainRows n rows = map (mirrored n) rows
+
+-- the roster after a round, whose rows are as they are packed
 pub record Played (r : Roster) (stop active mark : ℕ) (rows : List ℕ) (q : Roster) : Type 0 where
-  pub fleet : q .fleet ≡ nextFleet (r .fleet) (roundOf stop active mark rows)
+  pub fleet : q .fleet ≡ nextFleet (r .fleet) (roundOf stop active mark (plainRows (r .fleet .n) rows))
   pub kept : Kept q
 
 -- rows before any is read

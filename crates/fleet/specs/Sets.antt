@@ -16,9 +16,9 @@ pub record Members (set n : ℕ) (p : ℕ → Bool) : Type 0 where
   pub below : set < 2 ^ n
   pub each : (j : ℕ) → j < n → bit set j ≡ p j
 
--- the senders that truck i hears: those whose loss bit in its row is clear, and itself
+-- the senders that a truck hears: those whose loss bit in its row is clear, and itself, whose bit stands at a place
 unfoldable pub heardSet : ℕ → ℕ → ℕ → ℕ
-heardSet senders row i = bitOr (bitXor senders (bitAnd senders row)) (bitAnd senders (2 ^ i))
+heardSet senders row place = bitOr (bitXor senders (bitAnd senders row)) (bitAnd senders (2 ^ place))
 
 -- of the senders heard, those that sent crusher c
 abbrev pub sentHere : List ℕ → ℕ → ℕ → ℕ

@@ -5,6 +5,7 @@ use crate::hearing::lowest;
 use crate::hearing::without;
 use protocol::Grades;
 ghost use mathlib.Core.Path.{_≡_};
+ghost use Prim.Native.Nat.{_≤_, _<_, _^_};
 ghost use lib.Bits.{bitAnd, bitXor};
 ghost use Rattle.air.specs.Air.{Air};
 ghost use Rattle.fleet.specs.Grading.{carried, carriedAll, Described, truckVerdict, bothOf, verdictOf};
@@ -43,10 +44,12 @@ fn both(a: Verdict, b: Verdict) -> Verdict
     }
 }
 
-// The verdict on a round, by the trucks that run after its stops and the senders.
-fn round_verdict(going: u32, senders: u32, mark: u32, rows: &[u32; 32]) -> Verdict
-    ensures { λ r. ⌜ ((a : Air) → Described a going senders mark (now (rows .entry)) → r ≡ verdictOf a) ⌝ }
+// The verdict on a round of n trucks, by those that run after its stops, the senders, and rows as they are packed.
+fn round_verdict(n: usize, going: u32, sends: u32, mark: u32, rows: &[u32; 32]) -> Verdict
+    requires { ⌜ (n ≤ 32) × (going < 2 ^ n) ⌝ }
+    ensures { λ r. ⌜ ((a : Air) → Described a n going sends mark (now (rows .entry)) → r ≡ verdictOf a) ⌝ }
 {
+    let senders = bitreader::mirror(sends, n);
     let mut all = Verdict {
         complete: true,
         majority: true,
@@ -56,7 +59,11 @@ fn round_verdict(going: u32, senders: u32, mark: u32, rows: &[u32; 32]) -> Verdi
     let mut left = going;
     while left != 0 {
         let i = lowest(left);
-        let one = truck_verdict(senders, heard_set(senders, rows[i], i), holds(mark, i));
+        let one = truck_verdict(
+            senders,
+            heard_set(senders, rows[i], n - 1 - i),
+            holds(mark, i),
+        );
         all = both(all, one);
         left = without(left, i);
     }
@@ -77,17 +84,19 @@ fn carry(first: u16, ok: bool, k: u16) -> u16
 pub(crate) fn graded(
     grades: Grades,
     k: u16,
+    n: usize,
     running: u32,
     sent: u32,
     stop: u32,
     mark: u32,
     rows: &[u32; 32],
 ) -> Grades
-    ensures { λ r. ⌜ ((a : Air) → Described a (bitXor running (bitAnd running stop)) (bitAnd (bitXor running (bitAnd running stop)) sent) mark (now (rows .entry))
+    requires { ⌜ (n ≤ 32) × (running < 2 ^ n) ⌝ }
+    ensures { λ r. ⌜ ((a : Air) → Described a n (bitXor running (bitAnd running stop)) (bitAnd (bitXor running (bitAnd running stop)) sent) mark (now (rows .entry))
         → r ≡ carriedAll grades (verdictOf a) k) ⌝ }
 {
     let going = running ^ (running & stop);
-    let v = round_verdict(going, going & sent, mark, rows);
+    let v = round_verdict(n, going, going & sent, mark, rows);
     Grades {
         complete: carry(grades.complete, v.complete, k),
         majority: carry(grades.majority, v.majority, k),

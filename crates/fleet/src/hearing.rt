@@ -48,12 +48,12 @@ pub(crate) fn without(set: u32, i: usize) -> u32
     set ^ only(i)
 }
 
-// The senders that truck i hears.
-pub(crate) fn heard_set(senders: u32, row: u32, i: usize) -> u32
-    requires { ⌜ i < 32 ⌝ }
-    ensures { λ r. ⌜ r ≡ heardSet senders row i ⌝ }
+// The senders that a truck hears, whose own bit stands at a place.
+pub(crate) fn heard_set(senders: u32, row: u32, place: usize) -> u32
+    requires { ⌜ place < 32 ⌝ }
+    ensures { λ r. ⌜ r ≡ heardSet senders row place ⌝ }
 {
-    (senders ^ (senders & row)) | (senders & only(i))
+    (senders ^ (senders & row)) | (senders & only(place))
 }
 
 // How many different values were heard, and the least of them.

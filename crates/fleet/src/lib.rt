@@ -9,6 +9,7 @@ ghost use Prim.Native.Nat.{_≤_, _+_};
 ghost use lib.ListN.{length, getD};
 ghost use Rattle.refusals.specs.declared.Outcome.the-variants.{Accepted};
 ghost use Rattle.basics.specs.Lists.{filled};
+ghost use Rattle.bitreader.specs.Bits.{mirrored};
 ghost use Rattle.protocol.specs.Fleets.{stepCheck, nextFleet, stepped, ran, graded};
 ghost use Rattle.fleet.specs.Rounds.{noRows};
 
@@ -32,15 +33,15 @@ fn check_step(f: Fleet, words: &[u32]) -> Outcome
     plain::check_round(f.n, words)
 }
 
-// The rows of a round in plain form.
+// The rows of a round in plain form, in the order in which they are packed.
 fn rows_of(words: &[u32], n: usize) -> [u32; 32]
     requires { ⌜ (n ≤ 32) × (length (now words) ≡ 3 + n) ⌝ }
-    ensures { λ r. ⌜ r ≡ filled (λ i. getD (now (words .entry)) (3 + i) 0) n noRows ⌝ }
+    ensures { λ r. ⌜ r ≡ filled (λ i. mirrored n (getD (now (words .entry)) (3 + i) 0)) n noRows ⌝ }
 {
     let mut rows = [0u32; 32];
     let mut i = 0;
     while i < n {
-        rows[i] = words[3 + i];
+        rows[i] = bitreader::mirror(words[3 + i], n);
         i += 1;
     }
     rows

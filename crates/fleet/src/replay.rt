@@ -36,7 +36,7 @@ fn listeners(going: u32, senders: u32) -> u32
     if senders == 0 { 0 } else { going }
 }
 
-// The rows of the trucks of a set, of a round whose first row stands at a place.
+// The rows of the trucks of a set as they are packed, of a round whose first row stands at a place.
 fn rows_at(s: &[u8], at: usize, n: usize, among: u32) -> [u32; 32]
     requires { ⌜ (n ≤ 32) × (at < 2 ^ 32) × (among < 2 ^ n) ⌝ }
     ensures { λ r. ⌜ RowsRead (now (s .entry)) at n among r ⌝ }
@@ -45,7 +45,8 @@ fn rows_at(s: &[u8], at: usize, n: usize, among: u32) -> [u32; 32]
     let mut left = among;
     while left != 0 {
         let i = lowest(left);
-        rows[i] = bitreader::row_at(s, at + i * n, n);
+        let t = bitreader::read_at(s, at + i * n, n);
+        rows[i] = t.value;
         left = without(left, i);
     }
     rows
@@ -67,17 +68,19 @@ fn grades_after(
     judging: bool,
     grades: Grades,
     k: u16,
+    n: usize,
     running: u32,
     sent: u32,
     stop: u32,
     mark: u32,
     rows: &[u32; 32],
 ) -> Grades
-    ensures { λ r. ⌜ ((a : Air) → Described a (bitXor running (bitAnd running stop)) (bitAnd (bitXor running (bitAnd running stop)) sent) mark (now (rows .entry))
+    requires { ⌜ (n ≤ 32) × (running < 2 ^ n) ⌝ }
+    ensures { λ r. ⌜ ((a : Air) → Described a n (bitXor running (bitAnd running stop)) (bitAnd (bitXor running (bitAnd running stop)) sent) mark (now (rows .entry))
         → r ≡ cond judging (carriedAll grades (verdictOf a) k) grades) ⌝ }
 {
     if judging {
-        graded(grades, k, running, sent, stop, mark, rows)
+        graded(grades, k, n, running, sent, stop, mark, rows)
     } else {
         grades
     }
@@ -96,7 +99,7 @@ fn propose(s: &[u8], at: usize, judging: bool, c: Course) -> Course
     let mark = bitreader::row_at(s, at + 2 * n, n);
     let going = running ^ (running & stop);
     let rows = rows_at(s, at + 3 * n, n, listeners(going, going & active));
-    let grades = grades_after(judging, c.grades, k, running, active, stop, mark, &rows);
+    let grades = grades_after(judging, c.grades, k, n, running, active, stop, mark, &rows);
     let roster = proposal_round(c.roster, stop, active, mark, &rows);
     Course { roster, grades }
 }
@@ -114,7 +117,7 @@ fn veto(s: &[u8], at: usize, judging: bool, c: Course) -> Course
     let mark = bitreader::row_at(s, at + 2 * n, n);
     let going = running ^ (running & stop);
     let rows = rows_at(s, at + 3 * n, n, listeners(going, going & vetoing));
-    let grades = grades_after(judging, c.grades, k, running, vetoing, stop, mark, &rows);
+    let grades = grades_after(judging, c.grades, k, n, running, vetoing, stop, mark, &rows);
     let roster = veto_round(c.roster, stop, mark, &rows);
     Course { roster, grades }
 }

@@ -1,4 +1,5 @@
-// One round of a fleet, by sets of trucks: only running trucks are looked at.
+// One round of a fleet, by sets of trucks: only running trucks are looked at. Rows are as they are packed, with truck j at the bit worth 2 to the n - 1 - j, and so are the senders that they
+// are laid beside.
 use crate::hearing::heard_set;
 use crate::hearing::holds;
 use crate::hearing::joined;
@@ -10,7 +11,7 @@ use protocol::Fleet;
 use truck::Event;
 ghost use mathlib.Core.Path.{_≡_};
 ghost use mathlib.Core.Bool.{true, false};
-ghost use Prim.Native.Nat.{ℕ, _<_, _≤_, _^_, _+_};
+ghost use Prim.Native.Nat.{ℕ, suc, _<_, _≤_, _^_, _+_, _-_};
 ghost use Rattle.basics.specs.Bits.{odd};
 ghost use Rattle.fleet.specs.Sets.{Sorted};
 ghost use Rattle.fleet.specs.Rounds.{estimates, proposalEvent, vetoEvent, Kept, Ready, Played};
@@ -22,40 +23,42 @@ pub struct Roster {
     pub vetoing: u32,
 }
 
-// The senders of each crusher.
+// The senders of each crusher, in packed order like the senders.
 fn by_crusher(f: Fleet, senders: u32) -> [u32; 16]
     requires { ⌜ (f .n ≤ 32) × (senders < 2 ^ f .n) × ((j : ℕ) → j < f .n → estimates (f .trucks) j < 16) ⌝ }
-    ensures { λ r. ⌜ Sorted r (f .n) senders (estimates (f .trucks)) ⌝ }
+    ensures { λ r. ⌜ Sorted r (f .n) senders (λ j. estimates (f .trucks) (f .n - suc j)) ⌝ }
 {
+    let n = f.n as usize;
     let mut values = [0u32; 16];
     let mut left = senders;
     while left != 0 {
-        let i = lowest(left);
-        let t = f.trucks[i];
+        let place = lowest(left);
+        let t = f.trucks[n - 1 - place];
         let c = t.estimate as usize;
-        values[c] = values[c] | only(i);
-        left = without(left, i);
+        values[c] = values[c] | only(place);
+        left = without(left, place);
     }
     values
 }
 
-// What a proposal round is to truck i.
+// What a proposal round is to truck i. The senders, those of each crusher and its row are in one order, in which its own bit stands at a place.
 fn proposal_event(
     stop: u32,
     mark: u32,
     senders: u32,
     row: u32,
     i: usize,
+    place: usize,
     values: &[u32; 16],
     estimate: u8,
 ) -> Event
-    requires { ⌜ i < 32 ⌝ }
-    ensures { λ r. ⌜ r ≡ proposalEvent stop mark senders row i (now (values .entry)) estimate ⌝ }
+    requires { ⌜ (i < 32) × (place < 32) ⌝ }
+    ensures { λ r. ⌜ r ≡ proposalEvent stop mark senders row i place (now (values .entry)) estimate ⌝ }
 {
     if holds(stop, i) {
         return Event::Stop;
     }
-    let v = values_of(values, heard_set(senders, row, i), estimate);
+    let v = values_of(values, heard_set(senders, row, place), estimate);
     let heard = v.heard;
     Event::Proposals {
         mark: holds(mark, i),
@@ -65,16 +68,16 @@ fn proposal_event(
 }
 
 // What a veto round is to truck i.
-fn veto_event(stop: u32, mark: u32, senders: u32, row: u32, i: usize) -> Event
-    requires { ⌜ i < 32 ⌝ }
-    ensures { λ r. ⌜ r ≡ vetoEvent stop mark senders row i ⌝ }
+fn veto_event(stop: u32, mark: u32, senders: u32, row: u32, i: usize, place: usize) -> Event
+    requires { ⌜ (i < 32) × (place < 32) ⌝ }
+    ensures { λ r. ⌜ r ≡ vetoEvent stop mark senders row i place ⌝ }
 {
     if holds(stop, i) {
         return Event::Stop;
     }
     Event::Vetoes {
         mark: holds(mark, i),
-        veto: heard_set(senders, row, i) != 0,
+        veto: heard_set(senders, row, place) != 0,
     }
 }
 
@@ -91,9 +94,10 @@ pub(crate) fn proposal_round(
 {
     let running = r.running;
     let going = running ^ (running & stop);
-    let senders = going & active;
-    let values = by_crusher(r.fleet, senders);
     let mut fleet = r.fleet;
+    let n = fleet.n as usize;
+    let senders = bitreader::mirror(going & active, n);
+    let values = by_crusher(r.fleet, senders);
     let round = fleet.done + 1;
     fleet.done = round;
     let mut vetoing = 0;
@@ -101,7 +105,16 @@ pub(crate) fn proposal_round(
     while left != 0 {
         let i = lowest(left);
         let t = fleet.trucks[i];
-        let event = proposal_event(stop, mark, senders, rows[i], i, &values, t.estimate);
+        let event = proposal_event(
+            stop,
+            mark,
+            senders,
+            rows[i],
+            i,
+            n - 1 - i,
+            &values,
+            t.estimate,
+        );
         let u = truck::after(t, round, event);
         fleet.trucks[i] = u;
         vetoing = joined(vetoing, i, truck::vetoes(u));
@@ -121,8 +134,9 @@ pub(crate) fn veto_round(r: Roster, stop: u32, mark: u32, rows: &[u32; 32]) -> R
 {
     let running = r.running;
     let going = running ^ (running & stop);
-    let senders = going & r.vetoing;
     let mut fleet = r.fleet;
+    let n = fleet.n as usize;
+    let senders = bitreader::mirror(going & r.vetoing, n);
     let round = fleet.done + 1;
     fleet.done = round;
     let mut on = 0;
@@ -130,7 +144,7 @@ pub(crate) fn veto_round(r: Roster, stop: u32, mark: u32, rows: &[u32; 32]) -> R
     while left != 0 {
         let i = lowest(left);
         let t = fleet.trucks[i];
-        let event = veto_event(stop, mark, senders, rows[i], i);
+        let event = veto_event(stop, mark, senders, rows[i], i, n - 1 - i);
         let u = truck::after(t, round, event);
         fleet.trucks[i] = u;
         on = joined(on, i, truck::runs(u));

@@ -4,9 +4,8 @@ use mathlib.Core.Path.{_≡_, ap₂, sym, subst, _∙_}
 use Prim.Native.Nat.{ℕ, _<_, _≤_}
 use native.Mathlib.Omega.{arith}
 use borrow.Author.Needs.{needs}
-use lib.ListN.{getD}
-use lib.ListN.{length, length-map}
-use Rattle.fleet.specs.Rounds.{estimates, roundOf}
+use lib.ListN.{length, getD, length-map}
+use Rattle.fleet.specs.Rounds.{estimates, roundOf, plainRows}
 use Rattle.protocol.specs.Fleets.{nextFleet}
 use Rattle.protocol.specs.declared.Fleet.{Fleet}
 use Rattle.fleet.proofs.Steps.{step-good}
@@ -50,7 +49,7 @@ returns c =
     let a = c .before .before .before .before .before .before .before .before .before .before .args in
     let w = a .words .now in
     c .before .play .ensures .fleet
-    ∙ ap₂ (λ (f : Fleet) (rows : List ℕ). nextFleet f (roundOf (getD w 0 0) (getD w 1 0) (getD w 2 0) rows)) (c .before .before .before .roster-of .ensures .0) (c .before .before .before .before .rows-of .ensures)
+    ∙ ap₂ (λ (f : Fleet) (rows : List ℕ). nextFleet f (roundOf (getD w 0 0) (getD w 1 0) (getD w 2 0) (plainRows (f .n) rows))) (c .before .before .before .roster-of .ensures .0) (c .before .before .before .before .rows-of .ensures)
     ∙ plain-next (a .f) w
 
 pub next-fleet-spec : {M : Type 1} → statement M

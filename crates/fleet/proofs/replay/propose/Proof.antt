@@ -31,6 +31,11 @@ rows-at-requires c κs =
     let low = place-low (z .args .s .now) (z .args .at) (z .args .judging) (z .args .c) (z .pre .0) (z .pre .1) in
     (few, omega arith, listeners-below (z .args .s .now) (z .args .at) (z .args .judging) (z .args .c) (z .pre .0) (z .pre .1) (c .before .before .before .row-at .result) (c .before .before .row-at2 .result) (c .listeners .result) (c .listeners .ensures))
 
+grades-after-requires : tie.Need-grades-after-requires
+grades-after-requires c κs =
+    let z = c .before .before .before .before .before .before .before .before .before in
+    (few-trucks (z .args .s .now) (z .args .at) (z .args .judging) (z .args .c) (z .pre .0), z .pre .0 .kept .running .below)
+
 proposal-round-requires : tie.Need-proposal-round-requires
 proposal-round-requires c κs =
     let z = c .before .before .before .before .before .before .before .before .before .before .before in
@@ -61,6 +66,6 @@ propose-spec =
     add-rows-at
     (λ c κs. search needs)
     rows-at-requires
-    (λ c κs. search needs)
+    grades-after-requires
     proposal-round-requires
     returns)

@@ -15,11 +15,11 @@ abbrev μ-loop : tie.MeasureT-loop
 loop-holds : tie.Need-loop-holds Inv-loop μ-loop
 loop-holds c = rows-start (c .before .args .s .now) (c .before .args .at) (c .before .args .n) (c .before .args .among)
 
-mul-row-at : tie.Need-mul-row-at Inv-loop μ-loop
-mul-row-at c = omega (arith, product (c .lowest .result) (c .before .before .before .before .args .n) (c .lowest .ensures .0) (c .before .before .before .before .pre .0))
+mul-read-at : tie.Need-mul-read-at Inv-loop μ-loop
+mul-read-at c = omega (arith, product (c .lowest .result) (c .before .before .before .before .args .n) (c .lowest .ensures .0) (c .before .before .before .before .pre .0))
 
-add-row-at : tie.Need-add-row-at Inv-loop μ-loop
-add-row-at c = omega (arith, product (c .lowest .result) (c .before .before .before .before .args .n) (c .lowest .ensures .0) (c .before .before .before .before .pre .0), c .before .before .before .before .pre .1)
+add-read-at : tie.Need-add-read-at Inv-loop μ-loop
+add-read-at c = omega (arith, product (c .lowest .result) (c .before .before .before .before .args .n) (c .lowest .ensures .0) (c .before .before .before .before .pre .0), c .before .before .before .before .pre .1)
 
 loop-less : tie.Need-loop-less Inv-loop μ-loop
 loop-less c = rw (c .without .ensures) (removed-lt _ _ (c .before .before .lowest .ensures .1))
@@ -30,8 +30,8 @@ loop-again c =
     let a = s .args in
     let i = c .before .before .lowest in
     let inv = c .before .before .before .before .loop .inv in
-    rows-more (a .s .now) (a .at) (a .n) (a .among) inv (s .pre .0) (i .result) (c .before .row-at .result)
-    (rows-below (a .s .now) (a .at) (a .n) (a .among) inv (s .pre .2) (i .result) (i .ensures .1)) (i .ensures .1) (c .before .row-at .ensures) (c .without .result) (c .without .ensures)
+    rows-more (a .s .now) (a .at) (a .n) (a .among) inv (s .pre .0) (i .result) (c .before .read-at .result .value)
+    (rows-below (a .s .now) (a .at) (a .n) (a .among) inv (s .pre .2) (i .result) (i .ensures .1)) (i .ensures .1) (c .before .read-at .ensures .0) (c .without .result) (c .without .ensures)
 
 returns : tie.Need-returns Inv-loop μ-loop
 returns c =
@@ -46,8 +46,8 @@ rows-at-spec =
     μ-loop
     loop-holds
     (λ c κs. search needs)
-    mul-row-at
-    add-row-at
+    mul-read-at
+    add-read-at
     (λ c κs. search needs)
     (λ c. search needs)
     (λ c. search needs)

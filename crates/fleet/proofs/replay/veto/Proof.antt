@@ -28,6 +28,11 @@ rows-at-requires c κs =
     let low = place-low (z .args .s .now) (z .args .at) (z .args .judging) (z .args .c) (z .pre .0) (z .pre .1) in
     (few, omega arith, listeners-below (z .args .s .now) (z .args .at) (z .args .judging) (z .args .c) (z .pre .0) (z .pre .1) (c .before .before .row-at .result) (z .args .c .roster .vetoing) (c .listeners .result) (c .listeners .ensures))
 
+grades-after-requires : tie.Need-grades-after-requires
+grades-after-requires c κs =
+    let z = c .before .before .before .before .before .before .before .before in
+    (few-trucks (z .args .s .now) (z .args .at) (z .args .judging) (z .args .c) (z .pre .0), z .pre .0 .kept .running .below)
+
 veto-round-requires : tie.Need-veto-round-requires
 veto-round-requires c κs =
     let z = c .before .before .before .before .before .before .before .before .before .before in
@@ -56,6 +61,6 @@ veto-spec =
     add-rows-at
     (λ c κs. search needs)
     rows-at-requires
-    (λ c κs. search needs)
+    grades-after-requires
     veto-round-requires
     returns)

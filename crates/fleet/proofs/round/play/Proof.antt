@@ -1,5 +1,6 @@
 -- `play` meets its contract.
 use mathlib.Core.Path.{_∙_}
+use Rattle.fleet.specs.Rounds.{plainRows}
 use Rattle.fleet.proofs.Laws.{next-odd, next-even}
 use Rattle.fleet.proofs.Same.{veto-active}
 use Rattle.fleet.proofs.round.play.Statement.{statement}
@@ -18,7 +19,7 @@ returns-2 : tie.Need-returns-2
 returns-2 c =
     let a = c .before .before .before .before .args in
     record {
-      fleet = c .veto-round .ensures .fleet ∙ veto-active (a .r .fleet) (a .stop) (a .active) (a .mark) (a .rows .now) (next-even (a .r .fleet .done) (c .before .if1 .left));
+      fleet = c .veto-round .ensures .fleet ∙ veto-active (a .r .fleet) (a .stop) (a .active) (a .mark) (plainRows (a .r .fleet .n) (a .rows .now)) (next-even (a .r .fleet .done) (c .before .if1 .left));
       kept = c .veto-round .ensures .kept;
     }
 

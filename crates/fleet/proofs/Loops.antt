@@ -1,31 +1,34 @@
 -- The loops of a round: the trucks of a set are taken one by one.
 use mathlib.Core.Path.{_≡_, refl, ap, ap₂, sym, subst, _∙_}
-use mathlib.Core.Bool.{Bool, true, false, cond, _&&_}
+use mathlib.Core.Bool.{Bool, true, false, cond, not, _&&_}
 use mathlib.Core.List.{List}
 use Prim.Native.Nat.{ℕ, suc, _+_, _-_, _^_, _≤_, _<_, min}
 use native.Mathlib.Omega.{arith}
 use native.Mathlib.Decide.{ℕ-discrete}
-use borrow.Author.Tests.{eq-eqb, ne-eqb}
-use lib.Bits.{bitAnd, bitOr, bitXor}
+use borrow.Author.Tests.{eq-eqb, ne-eqb, not-true}
+use lib.Bits.{bitAnd, bitOr, bitXor, and-le-l}
 use lib.Dec.{eqb}
 use lib.ListN.{length, getD, set, replicate, getD-replicate, length-set}
 use lib.Seq.{getD-set-same, getD-set-other}
 use Rattle.basics.specs.Bits.{bit, odd}
 use Rattle.basics.specs.Lists.{filled}
-use Rattle.basics.proofs.Laws.{and-left}
+use Rattle.basics.proofs.Laws.{and-left, and-right, filled-ext}
 use Rattle.bitreader.specs.Bits.{bitsRead, mirrored}
 use Rattle.bitreader.proofs.Digits.{mirrored-lt}
 use Rattle.protocol.specs.declared.Truck.{Truck}
 use Rattle.protocol.specs.declared.Fleet.{Fleet}
-use Rattle.protocol.specs.Rules.{opened, truck, runs, vetoes}
+use Rattle.protocol.specs.Rules.{opened, truck, runs, vetoes, stops}
 use Rattle.truck.specs.declared.Event.{Event}
+use Rattle.truck.specs.declared.Event.the-variants.{Stop}
 use Rattle.truck.specs.Events.{turned}
 use Rattle.fleet.specs.declared.round.Roster.{Roster}
-use Rattle.fleet.specs.Rounds.{estimates, proposalEvent, vetoEvent, Kept, Ready, roundOf, plainRows, Played}
-use Rattle.fleet.proofs.Turns.{rule, rule-idle, proposers, vetoers, proposal-turn, veto-turn, kept-proposal, kept-veto, next-is}
+use Rattle.fleet.specs.Rounds.{estimates, stoppedTruck, stoppedFleet, proposalEvent, vetoEvent, Kept, Ready, roundOf, plainRows, Played}
+use Rattle.fleet.proofs.Turns.{rule, rule-stop, rule-stopped, rule-idle, proposers, vetoers, proposal-turn, veto-turn, kept-proposal, kept-veto, next-is}
 use Rattle.fleet.specs.Sets.{Members, Sorted}
 use Rattle.fleet.proofs.Packed.{row-plain, sorted-packed, proposal-packed, veto-packed}
-use Rattle.fleet.proofs.Members.{set-below, within-removed, seen, seen-none, seen-all, seen-in, seen-out, seen-joined, replaced, replaced-at, replaced-all, replaced-none, replaced-more}
+use Rattle.words.proofs.Words.{bit-and, bit-without, bit-zero}
+use Rattle.fleet.proofs.Laws.{filled-same}
+use Rattle.fleet.proofs.Members.{set-below, members-none, within-removed, seen, seen-none, seen-all, seen-in, seen-out, seen-joined, half, replaced, replaced-at, replaced-all, replaced-none, replaced-more}
 
 -- a round under way: the trucks of `left` are as they were, the others of `running` as they become, and set holds those of the latter that have p
 pub record Going (n k : ℕ) (ts : List Truck) (new : ℕ → Truck) (running : ℕ) (p : Truck → Bool) (f : Fleet) (members left : ℕ) : Type 0 where
@@ -70,6 +73,30 @@ module _ (n k : ℕ) (ts : List Truck) (new : ℕ → Truck) (running : ℕ) (p 
   going-held : {f : Fleet} {members left : ℕ} → Going n k ts new running p f members left → left ≡ 0 → Members members n (λ j. bit running j && p (new j))
   going-held g z = seen-all (rw z at (g .held))
 
+-- ---- the trucks of a set are stopped in round k
+abbrev pub Stopping : Fleet → ℕ → ℕ → Fleet → ℕ → Type 0
+Stopping f k stopping g left = Going (f .n) (f .done) (f .trucks) (stoppedTruck k stopping (f .trucks)) stopping (λ t. false) g 0 left
+
+module _ (f : Fleet) (k stopping : ℕ) where
+  abbrev halted : ℕ → Truck
+  halted = stoppedTruck k stopping (f .trucks)
+
+  halts : (b : Bool) (j : ℕ) → bit stopping j ≡ b → cond b (turned k Stop (truck (f .trucks) j)) (truck (f .trucks) j) ≡ halted j
+  halts b j h = sym (ap (λ (b : Bool). cond b (turned k Stop (truck (f .trucks) j)) (truck (f .trucks) j)) h)
+
+  module _ (long : f .n ≤ length (f .trucks)) where
+    pub stops-start : Stopping f k stopping f stopping
+    stops-start = going-starts (f .n) (f .done) (f .trucks) halted stopping (λ t. false) long (λ j l h. sym (halts false j h))
+
+    pub stops-more : stopping < 2 ^ f .n → {g : Fleet} {left : ℕ} → Stopping f k stopping g left → (i : ℕ) → bit left i ≡ true → (u : Truck) → u ≡ turned k Stop (truck (f .trucks) i)
+        → (left′ : ℕ) → left′ ≡ bitXor left (2 ^ i) → Stopping f k stopping (record { n = g .n; done = g .done; trucks = set (g .trucks) i u }) left′
+    stops-more below {g} {left} s i h u eu left′ el =
+        going-more (f .n) (f .done) (f .trucks) halted stopping (λ t. false) below s i h long u false 0 left′ (eu ∙ halts true i (s .within i h)) refl refl el
+
+  pub stops-end : {g : Fleet} {left : ℕ} → Stopping f k stopping g left → left ≡ 0 → g ≡ stoppedFleet f k stopping
+  unfolding stoppedFleet
+  stops-end s z = going-fleet (f .n) (f .done) (f .trucks) halted stopping (λ t. false) s z
+
 -- ---- a round of a roster, whose rows are as they are packed
 module _ (r : Roster) (stop active mark : ℕ) (rows : List ℕ) (ready : Ready r) where
   abbrev f : Fleet
@@ -100,18 +127,45 @@ module _ (r : Roster) (stop active mark : ℕ) (rows : List ℕ) (ready : Ready 
   width : (v : ℕ) → mirrored (bitsRead (f .n)) v ≡ mirrored (f .n) v
   width v = ap (λ (m : ℕ). mirrored m v) (let e : min (f .n) 32 ≡ f .n = omega (arith, ready .most) in e)
 
-  module _ (p : Truck → Bool) where
-    pub round-starts : Going (f .n) k (f .trucks) new (r .running) p (record { n = f .n; done = k; trucks = f .trucks }) 0 (r .running)
-    round-starts =
-        going-starts (f .n) k (f .trucks) new (r .running) p long
-        (λ j l h. rule-idle (f .n) k stop active mark plain (f .trucks) j (sym (known .each j l) ∙ h))
+  module _ (p : Truck → Bool) (p-stops : (t : Truck) → p (stops k t) ≡ false) where
+    -- its stops have been worked out, and those that go on are left
+    pub round-starts : (g : Fleet) → g ≡ stoppedFleet (record { n = f .n; done = k; trucks = f .trucks }) k (bitAnd (r .running) stop)
+        → Going (f .n) k (f .trucks) new (r .running) p g 0 on
+    unfolding stoppedFleet
+    round-starts g e =
+        record {
+          fleet = e ∙ ap (λ (l : List Truck). record { n = f .n; done = k; trucks = l })
+              (filled-ext (stoppedTruck k (bitAnd (r .running) stop) (f .trucks)) (half (opened 0) (f .trucks) new (f .n) on) (f .n) (f .trucks)
+              (λ j l. rw (bit-and (r .running) stop j, bit-without (r .running) stop j) (here j (bit (r .running) j) (bit stop j) (known .each j l) refl)));
+          within = λ j e. and-left (bit (r .running) j) (not (bit stop j)) (sym (bit-without (r .running) stop j) ∙ e);
+          held = members-none (f .n) (seen on (λ j. bit (r .running) j && p (new j)))
+              (λ j l. rw (bit-without (r .running) stop j) (gone j (bit (r .running) j) (bit stop j) (known .each j l) refl));
+        }
+      where
+        here : (j : ℕ) (b s : Bool) → b ≡ runs (truck (f .trucks) j) → bit stop j ≡ s
+            → cond (b && s) (turned k Stop (truck (f .trucks) j)) (truck (f .trucks) j) ≡ cond (b && not s) (truck (f .trucks) j) (new j)
+        here j true true e h = rule-stop (f .n) k stop active mark plain (f .trucks) j h
+        here j true false e h = refl
+        here j false s e h = sym (rule-idle (f .n) k stop active mark plain (f .trucks) j (sym e))
+
+        gone : (j : ℕ) (b s : Bool) → b ≡ runs (truck (f .trucks) j) → bit stop j ≡ s → (not (b && not s) && (b && p (new j))) ≡ false
+        gone j true true e h = ap p (rule-stopped (f .n) k stop active mark plain (f .trucks) j h (sym e)) ∙ p-stops (truck (f .trucks) j)
+        gone j true false e h = refl
+        gone j false s e h = refl
+
+    -- nobody is stopped
+    pub round-starts-on : (g : Fleet) → g ≡ record { n = f .n; done = k; trucks = f .trucks } → bitAnd (r .running) stop ≡ 0 → Going (f .n) k (f .trucks) new (r .running) p g 0 on
+    unfolding stoppedFleet
+    round-starts-on g e z =
+        round-starts g (e ∙ ap (λ (l : List Truck). record { n = f .n; done = k; trucks = l })
+        (sym (filled-same (opened 0) (stoppedTruck k (bitAnd (r .running) stop) (f .trucks)) (f .n) (f .trucks) long (λ j l. rw (z, bit-zero j)))))
 
     pub round-below : {g : Fleet} {members left : ℕ} → Going (f .n) k (f .trucks) new (r .running) p g members left → (i : ℕ) → bit left i ≡ true → i < f .n
     round-below going i h = going-below (f .n) k (f .trucks) new (r .running) p (known .below) going i h
 
     -- truck i is brought up to date by an event that is what the round is to it
     module _ {g : Fleet} {members left : ℕ} (going : Going (f .n) k (f .trucks) new (r .running) p g members left) (i : ℕ) (h : bit left i ≡ true)
-        (u : Truck) (b : Bool) (members′ left′ : ℕ) (eb : b ≡ p u) (em : members′ ≡ cond b (bitOr members (2 ^ i)) members) (el : left′ ≡ bitXor left (2 ^ i)) where
+        (u : Truck) (b : Bool) (members′ left′ : ℕ) (eb : b ≡ p u) (em : members′ ≡ cond b (bitOr members (2 ^ i)) members) (el : left′ ≡ bitXor left (2 ^ i)) (on-it : bit stop i ≡ false) where
       below : i < f .n
       below = round-below going i h
 
@@ -128,31 +182,38 @@ module _ (r : Roster) (stop active mark : ℕ) (rows : List ℕ) (ready : Ready 
       module _ (senders : ℕ) (e : Event) (eu : u ≡ turned k e (truck (g .trucks) i)) where
         pub proposal-more : odd k ≡ true → senders ≡ mirrored (bitsRead (f .n)) (bitAnd on active)
             → (values : List ℕ) → Sorted values (f .n) senders (λ j. estimates (f .trucks) (f .n - suc j))
-            → e ≡ proposalEvent stop mark senders (getD rows i 0) i (f .n - 1 - i) values (truck (g .trucks) i .estimate)
+            → e ≡ proposalEvent mark senders (getD rows i 0) i (f .n - 1 - i) values (truck (g .trucks) i .estimate)
             → Going (f .n) k (f .trucks) new (r .running) p (record { n = g .n; done = g .done; trucks = set (g .trucks) i u }) members′ left′
         proposal-more o es values sorted ee =
             let sent = proposers (f .n) k w (f .trucks) (r .running) known o in
             let packed = es ∙ width (bitAnd on active) in
             moved (eu
             ∙ ap₂ (turned k)
-            (ee ∙ rw (packed, place-is, same) (proposal-packed (f .n) (bitAnd on active) (getD rows i 0) i (sent .below) below stop mark values (estimates (f .trucks) i))
-            ∙ ap (λ (x : ℕ). proposalEvent stop mark (bitAnd on active) x i i (plainRows (f .n) values) (estimates (f .trucks) i)) (sym (row-plain (f .n) rows i)))
+            (ee ∙ rw (packed, place-is, same) (proposal-packed (f .n) (bitAnd on active) (getD rows i 0) i (sent .below) below mark values (estimates (f .trucks) i))
+            ∙ ap (λ (x : ℕ). proposalEvent mark (bitAnd on active) x i i (plainRows (f .n) values) (estimates (f .trucks) i)) (sym (row-plain (f .n) rows i)))
             same
             ∙ proposal-turn (f .n) k stop active mark plain (f .trucks) i (bitAnd on active) below sent (plainRows (f .n) values) o
-            (sorted-packed (f .n) values (bitAnd on active) (estimates (f .trucks)) (rw packed at sorted)) (ready .small))
+            (sorted-packed (f .n) values (bitAnd on active) (estimates (f .trucks)) (rw packed at sorted)) (ready .small) on-it)
 
         pub veto-more : odd k ≡ false → senders ≡ mirrored (bitsRead (f .n)) (bitAnd on (r .vetoing))
-            → e ≡ vetoEvent stop mark senders (getD rows i 0) i (f .n - 1 - i)
+            → e ≡ vetoEvent mark senders (getD rows i 0) i (f .n - 1 - i)
             → Going (f .n) k (f .trucks) new (r .running) p (record { n = g .n; done = g .done; trucks = set (g .trucks) i u }) members′ left′
         veto-more o es ee =
             let sent = vetoers (f .n) k w (f .trucks) (r .running) known (r .vetoing) o (ready .kept .vetoing) in
             let packed = es ∙ width (bitAnd on (r .vetoing)) in
             moved (eu
             ∙ ap₂ (turned k)
-            (ee ∙ rw (packed, place-is) (veto-packed (f .n) (bitAnd on (r .vetoing)) (getD rows i 0) i (sent .below) below stop mark)
-            ∙ ap (λ (x : ℕ). vetoEvent stop mark (bitAnd on (r .vetoing)) x i i) (sym (row-plain (f .n) rows i)))
+            (ee ∙ rw (packed, place-is) (veto-packed (f .n) (bitAnd on (r .vetoing)) (getD rows i 0) i (sent .below) below mark)
+            ∙ ap (λ (x : ℕ). vetoEvent mark (bitAnd on (r .vetoing)) x i i) (sym (row-plain (f .n) rows i)))
             same
-            ∙ veto-turn (f .n) k stop active mark plain (f .trucks) i (bitAnd on (r .vetoing)) below sent o)
+            ∙ veto-turn (f .n) k stop active mark plain (f .trucks) i (bitAnd on (r .vetoing)) below sent o on-it)
+
+  -- those that go on have no stop bit
+  pub goes-on : (i : ℕ) → bit on i ≡ true → bit stop i ≡ false
+  goes-on i h = not-true (bit stop i) (and-right (bit (r .running) i) (not (bit stop i)) (sym (bit-without (r .running) stop i) ∙ h))
+
+  pub stopping-below : bitAnd (r .running) stop < 2 ^ f .n
+  stopping-below = omega (arith, and-le-l (r .running) stop, known .below)
 
   -- the senders as they are packed
   pub packed-below : (senders v : ℕ) → senders ≡ mirrored (bitsRead (f .n)) v → senders < 2 ^ f .n

@@ -1,6 +1,6 @@
 -- Rows and senders in the order in which a recording packs them, truck j at the bit worth 2 to the n - 1 - j, say what plain words say.
 use mathlib.Core.Path.{_≡_, ap, ap₂, sym, fun-ext, _∙_}
-use mathlib.Core.Bool.{Bool, cond, not, _&&_}
+use mathlib.Core.Bool.{Bool, not, _&&_}
 use mathlib.Core.List.{List}
 use Prim.Native.Nat.{ℕ, suc, _-_, _^_, _<_}
 use native.Mathlib.Omega.{arith}
@@ -17,7 +17,7 @@ use Rattle.words.proofs.Words.{bit-and, same-bits}
 use Rattle.words.proofs.Mirror.{mirror-bit, mirror-and, mirror-or, mirror-xor, mirror-power, mirror-zero, mirror-eq, mirror-ones}
 use Rattle.fleet.specs.declared.hearing.Values.{Values}
 use Rattle.fleet.specs.Sets.{Members, Sorted, heardSet, sentHere, wasHeard, valuesOf}
-use Rattle.truck.specs.declared.Event.the-variants.{Stop, Proposals, Vetoes}
+use Rattle.truck.specs.declared.Event.the-variants.{Proposals, Vetoes}
 use Rattle.fleet.specs.Rounds.{plainRows, proposalEvent, vetoEvent}
 use Rattle.fleet.specs.Grading.{truckVerdict}
 
@@ -93,17 +93,17 @@ module _ (n : ℕ) where
         (xor-lt n senders (bitAnd senders (mirrored n row)) below (omega (arith, and-le-l senders (mirrored n row))))
         (omega (arith, and-le-l senders (2 ^ i)))
 
-    pub proposal-packed : (stop mark : ℕ) (values : List ℕ) (e : ℕ)
-        → proposalEvent stop mark (mirrored n senders) row i (n - suc i) values e ≡ proposalEvent stop mark senders (mirrored n row) i i (plainRows n values) e
+    pub proposal-packed : (mark : ℕ) (values : List ℕ) (e : ℕ)
+        → proposalEvent mark (mirrored n senders) row i (n - suc i) values e ≡ proposalEvent mark senders (mirrored n row) i i (plainRows n values) e
     unfolding proposalEvent
-    proposal-packed stop mark values e =
-        ap (λ (v : Values). cond (bit stop i) Stop (Proposals (bit mark i) (v .heard) (v .least)))
+    proposal-packed mark values e =
+        ap (λ (v : Values). Proposals (bit mark i) (v .heard) (v .least))
         (ap (λ (h : ℕ). valuesOf values h e) (heard-packed senders row i l) ∙ values-packed values plainSet e plain-below)
 
-    pub veto-packed : (stop mark : ℕ) → vetoEvent stop mark (mirrored n senders) row i (n - suc i) ≡ vetoEvent stop mark senders (mirrored n row) i i
+    pub veto-packed : (mark : ℕ) → vetoEvent mark (mirrored n senders) row i (n - suc i) ≡ vetoEvent mark senders (mirrored n row) i i
     unfolding vetoEvent
-    veto-packed stop mark =
-        ap (λ (b : Bool). cond (bit stop i) Stop (Vetoes (bit mark i) (not b)))
+    veto-packed mark =
+        ap (λ (b : Bool). Vetoes (bit mark i) (not b))
         (ap (λ (h : ℕ). eqb h 0) (heard-packed senders row i l) ∙ mirror-zero n plainSet plain-below)
 
     pub verdict-packed : (m : Bool) → truckVerdict (mirrored n senders) (heardSet (mirrored n senders) row (n - suc i)) m ≡ truckVerdict senders plainSet m

@@ -22,6 +22,7 @@ use Rattle.protocol.specs.declared.Fleet.{Fleet}
 use Rattle.protocol.specs.Fleets.{nextFleet}
 use Rattle.words.proofs.Words.{bit-zero}
 use Rattle.truck.specs.declared.Event.{Event}
+use Rattle.truck.specs.declared.Event.the-variants.{Stop}
 use Rattle.truck.specs.Events.{happened, turned}
 use Rattle.fleet.specs.declared.hearing.Values.{Values}
 use Rattle.fleet.specs.Sets.{Members, heardSet, valuesOf, Sorted}
@@ -110,6 +111,21 @@ module _ (n k stop active mark : ℕ) (rows : List ℕ) (ts : List Truck) where
   pub truck-rule : (i : ℕ) → i < n → truck (filled rule n ts) i ≡ rule i
   truck-rule i l = getD-filled rule n ts i (opened 0) l
 
+  -- a truck whose stop bit is set
+  pub rule-stop : (i : ℕ) → bit stop i ≡ true → turned k Stop (truck ts i) ≡ rule i
+  rule-stop i h =
+      event-turn k (truck ts i .state) (stopBit w i) (truck ts i) (plays air k w ts i) Stop (λ e. refl) (λ e. absurd (true≢false (sym h ∙ e)))
+
+  -- one that runs is stopped
+  pub rule-stopped : (i : ℕ) → bit stop i ≡ true → runs (truck ts i) ≡ true → rule i ≡ stops k (truck ts i)
+  rule-stopped i h r = go (truck ts i .state) (stopBit w i) h r
+    where
+      go : (s : State) (b : Bool) → b ≡ true → isRunning s ≡ true → turn s b (stops k (truck ts i)) (plays air k w ts i) (truck ts i) ≡ stops k (truck ts i)
+      go Running true e f = refl
+      go Running false e f = absurd (false≢true e)
+      go (Stopped r) b e f = absurd (false≢true f)
+      go (Decided r) b e f = absurd (false≢true f)
+
   -- a truck that isn't running is left alone
   pub rule-idle : (i : ℕ) → runs (truck ts i) ≡ false → rule i ≡ truck ts i
   rule-idle i h = go (truck ts i .state) h
@@ -180,12 +196,12 @@ module _ (n k stop active mark : ℕ) (rows : List ℕ) (ts : List Truck) where
     unfolding airOf
     vetoed-is o = plays-veto n (activeBit w) k w ts i o ∙ ap (λ (b : Bool). vetoed k (markBit w i) b (truck ts i)) any-heard
 
-    pub proposal-turn : (values : List ℕ) → odd k ≡ true → Sorted values n senders (estimates ts) → ((j : ℕ) → j < n → estimates ts j < 16)
-        → turned k (proposalEvent stop mark senders row i i values (estimates ts i)) (truck ts i) ≡ rule i
+    pub proposal-turn : (values : List ℕ) → odd k ≡ true → Sorted values n senders (estimates ts) → ((j : ℕ) → j < n → estimates ts j < 16) → bit stop i ≡ false
+        → turned k (proposalEvent mark senders row i i values (estimates ts i)) (truck ts i) ≡ rule i
     unfolding proposalEvent
-    proposal-turn values o sorted small =
-        event-turn k (truck ts i .state) (stopBit w i) (truck ts i) (plays air k w ts i) (proposalEvent stop mark senders row i i values (estimates ts i)) (λ h. rw h)
-        (λ h. rw h (ap (λ (v : Values). proposed (markBit w i) (v .heard) (v .least) (truck ts i)) values-are ∙ sym (proposed-is o)))
+    proposal-turn values o sorted small on =
+        event-turn k (truck ts i .state) (stopBit w i) (truck ts i) (plays air k w ts i) (proposalEvent mark senders row i i values (estimates ts i)) (λ h. absurd (true≢false (sym h ∙ on)))
+        (λ h. (ap (λ (v : Values). proposed (markBit w i) (v .heard) (v .least) (truck ts i)) values-are ∙ sym (proposed-is o)))
       where
         js : List ℕ
         js = who (bit (heardSet senders row i)) n
@@ -196,11 +212,11 @@ module _ (n k stop active mark : ℕ) (rows : List ℕ) (ts : List Truck) where
             values-right values n senders (heardSet senders row i) (estimates ts i) (estimates ts) sorted (heard-is .below)
             (λ j h. sends-bit j (member-below heard-is j h) (hears-sends air i j (member-has heard-is j h))) (λ j lj s. small j lj)
 
-    pub veto-turn : odd k ≡ false → turned k (vetoEvent stop mark senders row i i) (truck ts i) ≡ rule i
+    pub veto-turn : odd k ≡ false → bit stop i ≡ false → turned k (vetoEvent mark senders row i i) (truck ts i) ≡ rule i
     unfolding vetoEvent
-    veto-turn o =
-        event-turn k (truck ts i .state) (stopBit w i) (truck ts i) (plays air k w ts i) (vetoEvent stop mark senders row i i) (λ h. rw h)
-        (λ h. rw h (sym (vetoed-is o)))
+    veto-turn o on =
+        event-turn k (truck ts i .state) (stopBit w i) (truck ts i) (plays air k w ts i) (vetoEvent mark senders row i i) (λ h. absurd (true≢false (sym h ∙ on)))
+        (λ h. sym (vetoed-is o))
 
   -- the fleet after the round, and its two sets
   abbrev pub played : Fleet

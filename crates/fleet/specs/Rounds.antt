@@ -6,12 +6,14 @@ use mathlib.Core.List.{List, _∷_, map}
 use lib.Dec.{eqb}
 use lib.ListN.{length, replicate}
 use Rattle.basics.specs.Bits.{bit}
+use Rattle.basics.specs.Lists.{filled}
 use Rattle.bitreader.specs.Bits.{mirrored}
 use Rattle.protocol.specs.declared.Truck.{Truck}
 use Rattle.protocol.specs.declared.Fleet.{Fleet}
 use Rattle.protocol.specs.Rules.{truck, runs, vetoes}
 use Rattle.protocol.specs.Fleets.{nextFleet}
 use Rattle.truck.specs.declared.Event.{Event}
+use Rattle.truck.specs.Events.{turned}
 use Rattle.truck.specs.declared.Event.the-variants.{Stop, Proposals, Vetoes}
 use Rattle.fleet.specs.declared.round.Roster.{Roster}
 use Rattle.fleet.specs.Sets.{Members, heardSet, valuesOf}
@@ -19,15 +21,22 @@ use Rattle.fleet.specs.Sets.{Members, heardSet, valuesOf}
 abbrev pub estimates : List Truck → ℕ → ℕ
 estimates ts j = truck ts j .estimate
 
--- what a proposal round is to truck i, where values holds the senders of each crusher, and the truck's own bit among senders, there and in its row stands at a place
-unfoldable pub proposalEvent : ℕ → ℕ → ℕ → ℕ → ℕ → ℕ → List ℕ → ℕ → Event
-proposalEvent stop mark senders row i place values e =
-    let v = valuesOf values (heardSet senders row place) e in
-    cond (bit stop i) Stop (Proposals (bit mark i) (v .heard) (v .least))
+-- what becomes of truck j where those of a set are stopped in round k
+abbrev pub stoppedTruck : ℕ → ℕ → List Truck → ℕ → Truck
+stoppedTruck k stopping ts j = cond (bit stopping j) (turned k Stop (truck ts j)) (truck ts j)
 
--- what a veto round is to truck i
-unfoldable pub vetoEvent : ℕ → ℕ → ℕ → ℕ → ℕ → ℕ → Event
-vetoEvent stop mark senders row i place = cond (bit stop i) Stop (Vetoes (bit mark i) (not (eqb (heardSet senders row place) 0)))
+unfoldable pub stoppedFleet : Fleet → ℕ → ℕ → Fleet
+stoppedFleet f k stopping = record { n = f .n; done = f .done; trucks = filled (stoppedTruck k stopping (f .trucks)) (f .n) (f .trucks) }
+
+-- what a proposal round is to truck i, which isn't stopped in it, where values holds the senders of each crusher, and the truck's own bit among senders, there and in its row stands at a place
+unfoldable pub proposalEvent : ℕ → ℕ → ℕ → ℕ → ℕ → List ℕ → ℕ → Event
+proposalEvent mark senders row i place values e =
+    let v = valuesOf values (heardSet senders row place) e in
+    Proposals (bit mark i) (v .heard) (v .least)
+
+-- what a veto round is to truck i, which isn't stopped in it
+unfoldable pub vetoEvent : ℕ → ℕ → ℕ → ℕ → ℕ → Event
+vetoEvent mark senders row i place = Vetoes (bit mark i) (not (eqb (heardSet senders row place) 0))
 
 -- the two sets of a roster are those that its name says
 pub record Kept (r : Roster) : Type 0 where

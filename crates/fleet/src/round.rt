@@ -12,9 +12,10 @@ use truck::Event;
 ghost use mathlib.Core.Path.{_≡_};
 ghost use mathlib.Core.Bool.{true, false};
 ghost use Prim.Native.Nat.{ℕ, suc, _<_, _≤_, _^_, _+_, _-_};
+ghost use lib.ListN.{length};
 ghost use Rattle.basics.specs.Bits.{odd};
 ghost use Rattle.fleet.specs.Sets.{Sorted};
-ghost use Rattle.fleet.specs.Rounds.{estimates, proposalEvent, vetoEvent, Kept, Ready, Played};
+ghost use Rattle.fleet.specs.Rounds.{estimates, stoppedFleet, proposalEvent, vetoEvent, Kept, Ready, Played};
 
 // A fleet with two sets of its trucks: who runs, and who of those sends a veto in the next veto round.
 pub struct Roster {
@@ -41,9 +42,8 @@ fn by_crusher(f: Fleet, senders: u32) -> [u32; 16]
     values
 }
 
-// What a proposal round is to truck i. The senders, those of each crusher and its row are in one order, in which its own bit stands at a place.
+// What a proposal round is to truck i, which isn't stopped in it. The senders, those of each crusher and its row are in one order, in which its own bit stands at a place.
 fn proposal_event(
-    stop: u32,
     mark: u32,
     senders: u32,
     row: u32,
@@ -53,11 +53,8 @@ fn proposal_event(
     estimate: u8,
 ) -> Event
     requires { ⌜ (i < 32) × (place < 32) ⌝ }
-    ensures { λ r. ⌜ r ≡ proposalEvent stop mark senders row i place (now (values .entry)) estimate ⌝ }
+    ensures { λ r. ⌜ r ≡ proposalEvent mark senders row i place (now (values .entry)) estimate ⌝ }
 {
-    if holds(stop, i) {
-        return Event::Stop;
-    }
     let v = values_of(values, heard_set(senders, row, place), estimate);
     let heard = v.heard;
     Event::Proposals {
@@ -67,18 +64,32 @@ fn proposal_event(
     }
 }
 
-// What a veto round is to truck i.
-fn veto_event(stop: u32, mark: u32, senders: u32, row: u32, i: usize, place: usize) -> Event
+// What a veto round is to truck i, which isn't stopped in it.
+fn veto_event(mark: u32, senders: u32, row: u32, i: usize, place: usize) -> Event
     requires { ⌜ (i < 32) × (place < 32) ⌝ }
-    ensures { λ r. ⌜ r ≡ vetoEvent stop mark senders row i place ⌝ }
+    ensures { λ r. ⌜ r ≡ vetoEvent mark senders row i place ⌝ }
 {
-    if holds(stop, i) {
-        return Event::Stop;
-    }
     Event::Vetoes {
         mark: holds(mark, i),
         veto: heard_set(senders, row, place) != 0,
     }
+}
+
+// The record with the trucks of a set stopped in a round.
+fn stopped(f: Fleet, round: u16, stopping: u32) -> Fleet
+    requires { ⌜ (f .n ≤ 32) × (length (f .trucks) ≡ 32) × (stopping < 2 ^ f .n) ⌝ }
+    ensures { λ r. ⌜ r ≡ stoppedFleet f round stopping ⌝ }
+{
+    let mut fleet = f;
+    let mut left = stopping;
+    while left != 0 {
+        let i = lowest(left);
+        let t = f.trucks[i];
+        let u = truck::after(t, round, Event::Stop);
+        fleet.trucks[i] = u;
+        left = without(left, i);
+    }
+    fleet
 }
 
 // A proposal round.
@@ -94,27 +105,23 @@ pub(crate) fn proposal_round(
 {
     let running = r.running;
     let going = running ^ (running & stop);
-    let mut fleet = r.fleet;
-    let n = fleet.n as usize;
-    let senders = bitreader::mirror(going & active, n);
-    let values = by_crusher(r.fleet, senders);
-    let round = fleet.done + 1;
+    let f = r.fleet;
+    let mut fleet = f;
+    let senders = bitreader::mirror(going & active, f.n as usize);
+    let values = by_crusher(f, senders);
+    let round = f.done + 1;
     fleet.done = round;
+    let stopping = running & stop;
+    if stopping != 0 {
+        fleet = stopped(fleet, round, stopping);
+    }
     let mut vetoing = 0;
-    let mut left = running;
+    let mut left = going;
     while left != 0 {
         let i = lowest(left);
+        let place = f.n as usize - 1 - i;
         let t = fleet.trucks[i];
-        let event = proposal_event(
-            stop,
-            mark,
-            senders,
-            rows[i],
-            i,
-            n - 1 - i,
-            &values,
-            t.estimate,
-        );
+        let event = proposal_event(mark, senders, rows[i], i, place, &values, t.estimate);
         let u = truck::after(t, round, event);
         fleet.trucks[i] = u;
         vetoing = joined(vetoing, i, truck::vetoes(u));
@@ -134,17 +141,22 @@ pub(crate) fn veto_round(r: Roster, stop: u32, mark: u32, rows: &[u32; 32]) -> R
 {
     let running = r.running;
     let going = running ^ (running & stop);
-    let mut fleet = r.fleet;
-    let n = fleet.n as usize;
-    let senders = bitreader::mirror(going & r.vetoing, n);
-    let round = fleet.done + 1;
+    let f = r.fleet;
+    let mut fleet = f;
+    let senders = bitreader::mirror(going & r.vetoing, f.n as usize);
+    let round = f.done + 1;
     fleet.done = round;
+    let stopping = running & stop;
+    if stopping != 0 {
+        fleet = stopped(fleet, round, stopping);
+    }
     let mut on = 0;
-    let mut left = running;
+    let mut left = going;
     while left != 0 {
         let i = lowest(left);
+        let place = f.n as usize - 1 - i;
         let t = fleet.trucks[i];
-        let event = veto_event(stop, mark, senders, rows[i], i, n - 1 - i);
+        let event = veto_event(mark, senders, rows[i], i, place);
         let u = truck::after(t, round, event);
         fleet.trucks[i] = u;
         on = joined(on, i, truck::runs(u));

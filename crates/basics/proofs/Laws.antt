@@ -236,3 +236,10 @@ module _ (p : ℕ → Bool) where
   pub none-someBelow : (m : ℕ) → ((k : ℕ) → k < m → p k ≡ false) → someBelow p m ≡ false
   unfolding someBelow
   none-someBelow m h = le-ltb (first p m) m (omega (arith, first-all m h))
+
+  -- a loop that looks for a number with p: it finds one, or has passed all of them
+  pub some-hit : (m k : ℕ) → k < m → p k ≡ true → true ≡ someBelow p m
+  some-hit m k l h = sym (someBelow-by m k l h)
+
+  pub some-end : (m k : ℕ) → m ≤ k → ((i : ℕ) → i < k → p i ≡ false) → false ≡ someBelow p m
+  some-end m k l h = sym (none-someBelow m (λ i e. h i (omega arith)))

@@ -203,15 +203,14 @@ text-fits t d = go (leb (length t) (length d)) refl
     go true e = leb-true (length t) (length d) e
     go false e = omega arith
 
-pub listed-fits : (s d d′ : List ℕ) (k : ℕ) → left (Text k) d′ ≡ listed s d → k ≤ length d
+pub listed-fits : (s d d′ : List ℕ) (r : Listed) (k : ℕ) → left r d′ ≡ listed s d → r ≡ Text k → k ≤ length d
 unfolding listed
-listed-fits s d d′ k e =
-    rw (ap (λ (l : Left). sizeOf (l .answer)) e) (go (ran s .outcome))
+listed-fits s d d′ r k e h = rw (ap sizeOf (sym h) ∙ ap (λ (l : Left). sizeOf (l .answer)) e) (go (ran s .outcome))
   where
     go : (o : Outcome) → sizeOf (listedFor o (ran s .fleet) d .answer) ≤ length d
     go outcome.Accepted = text-fits (listingOf (ran s .fleet)) d
     go (outcome.Refused r) = omega arith
 
-pub refusal-fits : (r : Refusal) (d d′ : List ℕ) (k : ℕ) → left (Text k) d′ ≡ refusalListed r d → k ≤ length d
+pub refusal-fits : (r : Refusal) (d d′ : List ℕ) (l : Listed) (k : ℕ) → left l d′ ≡ refusalListed r d → l ≡ Text k → k ≤ length d
 unfolding refusalListed
-refusal-fits r d d′ k e = rw (ap (λ (l : Left). sizeOf (l .answer)) e) (text-fits (refusalText r) d)
+refusal-fits r d d′ l k e h = rw (ap sizeOf (sym h) ∙ ap (λ (l : Left). sizeOf (l .answer)) e) (text-fits (refusalText r) d)

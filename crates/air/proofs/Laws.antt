@@ -8,9 +8,9 @@ use native.Mathlib.Omega.{arith}
 use borrow.Author.Tests.{ltb-true, lt-ltb, leb-false, eq-eqb, eqb-true, not-true}
 use lib.Dec.{ltb, leb, eqb}
 use lib.ListN.{length, length-append}
-use Rattle.basics.specs.Lists.{who, someBelow, first}
+use Rattle.basics.specs.Lists.{who, someBelow}
 use Rattle.basics.proofs.Laws.{and-left, and-right, and-both, allBelow-at, allBelow-all, someBelow-at, someBelow-by, someBelow-none, none-someBelow}
-use Rattle.air.specs.Air.{Air, implies, sent, hears, heardBy, heard, misses, missesAny, judged, complete, majorityComplete, zeroComplete, accurate, inFull, fewSenders, someRunning, calmRound}
+use Rattle.air.specs.Air.{Air, implies, sent, hears, heardBy, heard, misses, missesAny, judged, majorityComplete, zeroComplete, accurate, inFull, fewSenders, someRunning, calmRound}
 
 -- how many of the first m have p
 abbrev count : (ℕ → Bool) → ℕ → ℕ
@@ -96,7 +96,7 @@ unfolding judged
 judged-at a p h i l r =
     implies-mp (a .running i) (p i) (allBelow-at (λ k. implies (a .running k) (p k)) (a .trucks) h i l) r
 
-pub judged-by : (a : Air) (p : ℕ → Bool) → ((i : ℕ) → i < a .trucks → a .running i ≡ true → p i ≡ true) → judged a p ≡ true
+judged-by : (a : Air) (p : ℕ → Bool) → ((i : ℕ) → i < a .trucks → a .running i ≡ true → p i ≡ true) → judged a p ≡ true
 unfolding judged
 judged-by a p h =
     allBelow-all (λ k. implies (a .running k) (p k)) (a .trucks) (λ k l. implies-by (a .running k) (p k) (h k l))
@@ -105,21 +105,12 @@ module _ (a : Air) (i : ℕ) where
   -- nothing is heard that was not sent
   pub hears-sends : (j : ℕ) → hears a i j ≡ true → a .sends j ≡ true
   unfolding hears
-  hears-sends j h = and-left (a .sends j) (eqb i j || not (a .lost i j)) h
+  hears-sends j h = and-left (a .sends j) _ h
 
   -- a sender hears itself
   pub hears-itself : a .sends i ≡ true → hears a i i ≡ true
   unfolding hears
-  hears-itself h = rw (h, eq-eqb i i refl)
-
-  -- one who hears none hears nobody
-  pub heard-none : heard a i ≡ 0 → (j : ℕ) → j < a .trucks → hears a i j ≡ false
-  unfolding heard heardBy
-  heard-none e j l = count-none (hears a i) (a .trucks) e j l
-
-  pub heard-some : (j : ℕ) → j < a .trucks → hears a i j ≡ true → 0 < heard a i
-  unfolding heard heardBy
-  heard-some j l h = count-some (hears a i) (a .trucks) j l h
+  hears-itself h = and-both (a .sends i) _ h (ap (λ (b : Bool). b || not (a .lost i i)) (eq-eqb i i refl))
 
   -- who misses nothing hears all that was sent
   pub in-full : missesAny a i ≡ false → heardBy a i ≡ who (a .sends) (a .trucks)

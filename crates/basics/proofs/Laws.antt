@@ -1,9 +1,10 @@
 -- Laws of the definitions of specs/Lists.
 use mathlib.Core.Path.{_≡_, refl, ap, ap₂, sym, _∙_}
-use mathlib.Core.Bool.{Bool, true, false, cond, not, _&&_, true≢false, false≢true}
+use mathlib.Core.Bool.{Bool, true, false, cond, not, _&&_, _||_, true≢false, false≢true}
 use mathlib.Core.List.{List, [], _∷_, _++_, append-assoc}
 use Prim.Native.Nat.{ℕ, zero, suc, _+_, _-_, _%_, _≤_, _<_}
 use native.Mathlib.Nat.{add-zero}
+use native.Mathlib.Numerals.{add-one}
 use native.Mathlib.Decide.{decLt}
 use native.Mathlib.Omega.{arith}
 use borrow.Author.Tests.{ltb-true, ltb-false, lt-ltb, le-ltb, eq-eqb, ne-eqb, eqb-true, eqb-false}
@@ -91,6 +92,22 @@ module _ {ℓ} {A : Type ℓ} where
       ∙ getD-drop m d (k - m) z
       ∙ ap (λ (i : ℕ). getD d i z) (omega arith)
 
+  -- a loop that fills a list from the front: the list l after i stores
+  module _ (g : ℕ → A) (d l : List A) (i : ℕ) (now : l ≡ filled g i d) where
+    pub fill-length : i ≤ length d → length l ≡ length d
+    fill-length h = ap length now ∙ length-filled g i d h
+
+    pub fill-step : (a : A) → i < length d → a ≡ g i → set l i a ≡ filled g (i + 1) d
+    fill-step a h e = rw (now, add-one i) (filled-more g i d a h e)
+
+  -- a list that is filled with what it holds
+  pub filled-same : (z : A) (g : ℕ → A) (m : ℕ) (d : List A) → m ≤ length d → ((k : ℕ) → k < m → g k ≡ getD d k z) → filled g m d ≡ d
+  filled-same z g m d h e = ext-getD z (filled g m d) d (length-filled g m d h) (λ k l. at k (decLt k m))
+    where
+      at : (k : ℕ) → Dec (k < m) → getD (filled g m d) k z ≡ getD d k z
+      at k (yes l) = getD-filled g m d k z l ∙ e k l
+      at k (no l) = getD-filled-past g m d k z (omega arith)
+
   pub filled-ext : (f g : ℕ → A) (m : ℕ) (d : List A) → ((k : ℕ) → k < m → f k ≡ g k) → filled f m d ≡ filled g m d
   unfolding filled
   filled-ext f g m d h = ap (λ (l : List A). l ++ drop m d) (tab-ext f g m h)
@@ -115,15 +132,16 @@ and-right false b h = absurd (false≢true h)
 pub and-both : (a b : Bool) → a ≡ true → b ≡ true → (a && b) ≡ true
 and-both a b p q = rw (p, q)
 
+-- the two halves of a test that fails
+pub or-left : (a b : Bool) → (a || b) ≡ false → a ≡ false
+or-left true b h = h
+or-left false b h = refl
+
+pub or-right : (a b : Bool) → (a || b) ≡ false → b ≡ false
+or-right true b h = absurd (true≢false h)
+or-right false b h = h
+
 module _ (p : ℕ → Bool) where
-  pub allBelow-none : allBelow p 0 ≡ true
-  unfolding allBelow
-  allBelow-none = refl
-
-  pub allBelow-suc : (m : ℕ) → allBelow p (suc m) ≡ (allBelow p m && p m)
-  unfolding allBelow
-  allBelow-suc m = refl
-
   -- what a test over all says of each
   pub allBelow-at : (m : ℕ) → allBelow p m ≡ true → (k : ℕ) → k < m → p k ≡ true
   unfolding allBelow
@@ -218,3 +236,10 @@ module _ (p : ℕ → Bool) where
   pub none-someBelow : (m : ℕ) → ((k : ℕ) → k < m → p k ≡ false) → someBelow p m ≡ false
   unfolding someBelow
   none-someBelow m h = le-ltb (first p m) m (omega (arith, first-all m h))
+
+  -- a loop that looks for a number with p: it finds one, or has passed all of them
+  pub some-hit : (m k : ℕ) → k < m → p k ≡ true → true ≡ someBelow p m
+  some-hit m k l h = sym (someBelow-by m k l h)
+
+  pub some-end : (m k : ℕ) → m ≤ k → ((i : ℕ) → i < k → p i ≡ false) → false ≡ someBelow p m
+  some-end m k l h = sym (none-someBelow m (λ i e. h i (omega arith)))

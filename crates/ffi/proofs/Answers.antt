@@ -1,5 +1,5 @@
 -- What an exported function leaves, one law for each return of the code.
-use mathlib.Core.Path.{_≡_, refl, ap, sym, _∙_}
+use mathlib.Core.Path.{_≡_, refl, _∙_}
 use mathlib.Core.List.{List, [], _∷_}
 use Prim.Native.Nat.{ℕ, min, _≤_, _<_}
 use native.Mathlib.Omega.{arith}
@@ -19,11 +19,11 @@ use Rattle.plain.specs.declared.ReadOutcome.{ReadOutcome}
 use Rattle.plain.specs.declared.ReadOutcome.the-variants as read
 use Rattle.plain.specs.declared.WriteOutcome.{WriteOutcome}
 use Rattle.plain.specs.declared.WriteOutcome.the-variants as write
-use Rattle.plain.specs.Forms.{AfterRead, afterRead, readPlain, AfterWrite, afterWrite, writePlain}
+use Rattle.plain.specs.Forms.{afterRead, readPlain, afterWrite, writePlain}
 use Rattle.listing.specs.declared.Listed.{Listed}
 use Rattle.listing.specs.declared.Listed.the-variants as listing
-use Rattle.listing.specs.Listed.{Left, left, listed}
-use Rattle.ffi.specs.Calls.{listLeft, listAs, listCall, gradeLeft, gradeAs, gradeCall, openingLeft, openingAs, openingCall, readLeft, readAs, readCall, writeLeft, writeAs, writeCall}
+use Rattle.listing.specs.Listed.{left, listed}
+use Rattle.ffi.specs.Calls.{listLeft, listCall, gradeLeft, gradeCall, openingLeft, openingCall, readLeft, readCall, writeLeft, writeCall}
 use Rattle.ffi.proofs.Narrow.{narrow-write}
 
 -- ---- the opening crusher
@@ -31,53 +31,48 @@ use Rattle.ffi.proofs.Narrow.{narrow-write}
 module _ (lengths metres seconds : List ℕ) (crusher : ℕ) (o : Opening) (found : o ≡ openingOf lengths metres seconds) where
   pub opening-0 : (k : ℕ) → o ≡ opening.Crusher k → openingLeft 0 k ≡ openingCall lengths metres seconds crusher
   unfolding openingCall
-  opening-0 k h = ap (λ (x : Opening). openingAs x crusher) (sym h ∙ found)
+  opening-0 k h = rw (← found, h)
 
   pub opening-refused : (r : Refusal) (k : ℕ) → o ≡ opening.Refused r → k ≡ numberOf r → openingLeft k crusher ≡ openingCall lengths metres seconds crusher
   unfolding openingCall
-  opening-refused r k h e = ap (λ (x : ℕ). openingLeft x crusher) e ∙ ap (λ (x : Opening). openingAs x crusher) (sym h ∙ found)
+  opening-refused r k h e = rw (e, ← found, h)
 
 -- ---- reading
 
 module _ (bytes openings words : List ℕ) (trucks rounds : ℕ) (o : ReadOutcome) (left₁ left₂ : List ℕ) (done : afterRead o left₁ left₂ ≡ readPlain bytes openings words) where
-  read-as : readAs o left₁ left₂ trucks rounds ≡ readCall bytes openings words trucks rounds
-  unfolding readCall
-  read-as = ap (λ (a : AfterRead). readAs (a .answer) (a .openings) (a .words) trucks rounds) done
-
   pub read-0 : (n R : ℕ) → o ≡ read.Plain n R → readLeft 0 left₁ left₂ n R ≡ readCall bytes openings words trucks rounds
-  read-0 n R h = ap (λ (x : ReadOutcome). readAs x left₁ left₂ trucks rounds) (sym h) ∙ read-as
+  unfolding readCall
+  read-0 n R h = rw (← done, h)
 
   pub read-refused : (r : Refusal) (k : ℕ) → o ≡ read.Refused r → k ≡ numberOf r → readLeft k left₁ left₂ trucks rounds ≡ readCall bytes openings words trucks rounds
-  read-refused r k h e =
-      ap (λ (x : ℕ). readLeft x left₁ left₂ trucks rounds) e ∙ ap (λ (x : ReadOutcome). readAs x left₁ left₂ trucks rounds) (sym h) ∙ read-as
+  unfolding readCall
+  read-refused r k h e = rw (e, ← done, h)
 
 -- ---- writing
 
 module _ (n R m S : ℕ) (openings words bytes : List ℕ) (written : ℕ) (few : m ≡ min n 255) (short : S ≡ min R 65535) (o : WriteOutcome) (left₁ : List ℕ)
     (done : afterWrite o left₁ ≡ writePlain m S openings words bytes) where
-  write-as : writeAs o left₁ written ≡ writeCall n R openings words bytes written
-  unfolding writeCall
-  write-as = ap (λ (a : AfterWrite). writeAs (a .answer) (a .buffer) written) (done ∙ narrow-write openings words bytes n R m S few short)
+  written-as : afterWrite o left₁ ≡ writePlain n R openings words bytes
+  written-as = done ∙ narrow-write openings words bytes n R m S few short
 
   pub write-0 : (k : ℕ) → o ≡ write.Bytes k → writeLeft 0 left₁ k ≡ writeCall n R openings words bytes written
-  write-0 k h = ap (λ (x : WriteOutcome). writeAs x left₁ written) (sym h) ∙ write-as
+  unfolding writeCall
+  write-0 k h = rw (← written-as, h)
 
   pub write-refused : (r : Refusal) (k : ℕ) → o ≡ write.Refused r → k ≡ numberOf r → writeLeft k left₁ written ≡ writeCall n R openings words bytes written
-  write-refused r k h e =
-      ap (λ (x : ℕ). writeLeft x left₁ written) e ∙ ap (λ (x : WriteOutcome). writeAs x left₁ written) (sym h) ∙ write-as
+  unfolding writeCall
+  write-refused r k h e = rw (e, ← written-as, h)
 
 -- ---- a recording's listing
 
 module _ (bytes text : List ℕ) (written : ℕ) (o : Listed) (left₁ : List ℕ) (done : left o left₁ ≡ listed bytes text) where
-  list-as : listAs o left₁ written ≡ listCall bytes text written
-  unfolding listCall
-  list-as = ap (λ (a : Left). listAs (a .answer) (a .buffer) written) done
-
   pub list-0 : (k : ℕ) → o ≡ listing.Text k → listLeft 0 left₁ k ≡ listCall bytes text written
-  list-0 k h = ap (λ (x : Listed). listAs x left₁ written) (sym h) ∙ list-as
+  unfolding listCall
+  list-0 k h = rw (← done, h)
 
   pub list-refused : (r : Refusal) (k : ℕ) → o ≡ listing.Refused r → k ≡ numberOf r → listLeft k left₁ written ≡ listCall bytes text written
-  list-refused r k h e = ap (λ (x : ℕ). listLeft x left₁ written) e ∙ ap (λ (x : Listed). listAs x left₁ written) (sym h) ∙ list-as
+  unfolding listCall
+  list-refused r k h e = rw (e, ← done, h)
 
 -- ---- a recording's grading
 
@@ -89,24 +84,15 @@ four-put (x ∷ y ∷ z ∷ []) a b c e h = absurd (omega arith)
 four-put (x ∷ y ∷ z ∷ w ∷ d) a b c e h = refl
 
 module _ (bytes grades : List ℕ) (g : Grading) (judged : g ≡ graded bytes) where
-  grade-as : gradeAs g grades ≡ gradeCall bytes grades
-  unfolding gradeCall
-  grade-as = ap (λ (x : Grading). gradeAs x grades) judged
-
   pub grade-refused : (r : Refusal) (k : ℕ) → g ≡ grading.Refused r → k ≡ numberOf r → gradeLeft k grades ≡ gradeCall bytes grades
-  grade-refused r k h e = ap (λ (x : ℕ). gradeLeft x grades) e ∙ ap (λ (x : Grading). gradeAs x grades) (sym h) ∙ grade-as
+  unfolding gradeCall
+  grade-refused r k h e = rw (e, ← judged, h)
 
   pub grade-9 : (x : Grades) (k : ℕ) → g ≡ grading.Graded x → length grades < 4 → k ≡ numberOf ShortBuffer → gradeLeft k grades ≡ gradeCall bytes grades
-  grade-9 x k h l e =
-      let short : gradeAs (grading.Graded x) grades ≡ gradeLeft (numberOf ShortBuffer) grades = rw (lt-ltb (length grades) 4 l) in
-      ap (λ (y : ℕ). gradeLeft y grades) e ∙ sym short ∙ ap (λ (y : Grading). gradeAs y grades) (sym h) ∙ grade-as
+  unfolding gradeCall
+  grade-9 x k h l e = rw (e, ← judged, h, lt-ltb (length grades) 4 l)
 
   pub grade-0 : (x : Grades) → g ≡ grading.Graded x → 4 ≤ length grades
       → gradeLeft 0 (set (set (set (set grades 0 (x .complete)) 1 (x .majority)) 2 (x .zero)) 3 (x .accurate)) ≡ gradeCall bytes grades
-  grade-0 x h l =
-      let four = x .complete ∷ x .majority ∷ x .zero ∷ x .accurate ∷ drop 4 grades in
-      let room : gradeAs (grading.Graded x) grades ≡ gradeLeft 0 four = rw (le-ltb (length grades) 4 l) in
-      ap (λ (d : List ℕ). gradeLeft 0 d) (four-put grades (x .complete) (x .majority) (x .zero) (x .accurate) l)
-      ∙ sym room
-      ∙ ap (λ (y : Grading). gradeAs y grades) (sym h)
-      ∙ grade-as
+  unfolding gradeCall
+  grade-0 x h l = rw (four-put grades (x .complete) (x .majority) (x .zero) (x .accurate) l, ← judged, h, le-ltb (length grades) 4 l)

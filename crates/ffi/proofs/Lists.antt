@@ -1,22 +1,20 @@
 -- Lists of steps on bytes: the bytes hold the record that the same steps return, so that all that is proved of lists of steps holds of them.
-use mathlib.Core.Path.{_≡_, refl, ap, sym, _∙_}
-use mathlib.Core.Bool.{Bool, false, not}
+use mathlib.Core.Path.{_≡_, refl, ap, _∙_}
+use mathlib.Core.Bool.{Bool, false, true≢false}
 use mathlib.Core.List.{List, [], _∷_}
 use Prim.Native.Nat.{ℕ, suc, _+_, _≤_}
 use native.Mathlib.Omega.{arith}
-use lib.Dec.{eqb}
 use lib.ListN.{length}
 use borrow.Author.Tests.{le-ltb}
 use Rattle.basics.specs.Lists.{filled}
 use Rattle.basics.proofs.Laws.{length-tab, length-filled, getD-filled-past}
-use Rattle.refusals.specs.Numbers.{outcomeNumber}
+use Rattle.refusals.specs.Numbers.{outcomeNumber, accepted}
 use Rattle.refusals.specs.declared.Refusal.{Refusal}
-use Rattle.refusals.specs.declared.Refusal.the-variants.{Record, RoundsDone}
 use Rattle.refusals.specs.declared.Outcome.{Outcome}
 use Rattle.refusals.specs.declared.Outcome.the-variants.{Accepted, Refused}
 use Rattle.recording.specs.Packed.{trucksOf, roundsOf, openingAt, openingsOf, roundAt}
-use Rattle.recording.specs.Checks.{refuse, badTrucks, checkOf, roundCheck}
-use Rattle.recording.proofs.Accepted.{trucks-in, refuse-false, openings-in, bytes-good}
+use Rattle.recording.specs.Checks.{badTrucks, checkOf}
+use Rattle.recording.proofs.Accepted.{trucks-in, openings-in, bytes-good}
 use Rattle.air.specs.Round.{activeBit}
 use Rattle.air.specs.Runs.{stateAt}
 use Rattle.protocol.specs.declared.Truck.{Truck}
@@ -24,14 +22,15 @@ use Rattle.protocol.specs.declared.Fleet.{Fleet}
 use Rattle.protocol.specs.declared.Answer.{Answer}
 use Rattle.protocol.specs.Rules.{opened, after}
 use Rattle.protocol.specs.Runs.{openedTrucks, trucksAt}
-use Rattle.protocol.specs.Fleets.{answer, blank as blankFleet, startCheck, started, stepCheck, stepped, nextFleet, goodFleet, fleetAt, ran}
+use Rattle.protocol.specs.Fleets.{answer, blank as blankFleet, startCheck, started, stepCheck, stepped, nextFleet, fleetAt, ran}
 use Rattle.protocol.specs.Steps.{lastRecord}
+use Rattle.protocol.proofs.Opened.{length-opened, truck-unopened}
 use Rattle.protocol.proofs.Whole.{throughout}
-use Rattle.protocol.proofs.Steps.{start-by}
-use Rattle.record.specs.Layout.{sizeFor, recordByte, packCheck, packedRecord, packedWhole, unpacked}
-use Rattle.record.proofs.RoundTrip.{Tidy, past-openings, places-opened, record-tidy, whole-tidy, undamaged, taken-whole}
+use Rattle.protocol.proofs.Steps.{accepted-by, start-by}
+use Rattle.record.specs.Layout.{sizeFor, recordByte, packedRecord, packedWhole, unpacked}
+use Rattle.record.proofs.RoundTrip.{Tidy, record-tidy, whole-tidy, undamaged, taken-whole}
 use Rattle.ffi.specs.Calls.{recordAs, storeCall, startCall, stepCall, runCall, bytesAfter}
-use Rattle.ffi.proofs.Records.{refused-not, good-range, start-range, step-range, run-range}
+use Rattle.ffi.proofs.Records.{step-good, room-for, start-range, step-range, run-range}
 
 -- a round keeps the places n and above
 tidy-after : (n : ℕ) (active : ℕ → Bool) (k : ℕ) (w : List ℕ) (ts : List Truck) → n ≤ 32 → Tidy n ts → Tidy n (after n active k w ts)
@@ -49,10 +48,6 @@ record Holds (d : List ℕ) (f : Fleet) : Type 0 where
 
 -- ---- a whole record in a buffer with room for it
 
-room-for : (n : ℕ) (d : List ℕ) → badTrucks n ≡ false → sizeFor 32 ≤ length d → packCheck n (length d) ≡ Accepted
-unfolding packCheck
-room-for n d range room = rw (range, le-ltb (length d) (sizeFor 32) room)
-
 stored : (a : Answer) (d : List ℕ) → a .outcome ≡ Accepted → badTrucks (a .fleet .n) ≡ false → sizeFor 32 ≤ length d → Tidy (a .fleet .n) (a .fleet .trucks) → Holds (storeCall a d .bytes) (a .fleet)
 unfolding storeCall packedWhole
 stored a d h range room t =
@@ -61,29 +56,20 @@ stored a d h range room t =
 
 start-tidy : (n : ℕ) (openings : List ℕ) → started n openings .outcome ≡ Accepted → Tidy (started n openings .fleet .n) (started n openings .fleet .trucks)
 unfolding started
-start-tidy n openings h = go (startCheck n openings) refl h
-  where
-    f : Fleet
-    f = record { n = n; done = 0; trucks = openedTrucks openings }
-
-    go : (o : Outcome) → startCheck n openings ≡ o → answer o f blankFleet .outcome ≡ Accepted → Tidy (answer o f blankFleet .fleet .n) (answer o f blankFleet .fleet .trucks)
-    go Accepted e h =
-        record {
-          places = places-opened openings;
-          rest = λ i l. past-openings openings i (omega (arith, openings-in n openings (start-by n openings e .crushers) .count));
-        }
-    go (Refused r) e h = refused-not r h
+start-tidy n openings h =
+    let o = accepted-by (startCheck n openings) (record { n = n; done = 0; trucks = openedTrucks openings }) blankFleet h in
+    let few = openings-in n openings (start-by n openings (o .0) .crushers) .count in
+    rw (o .1) (record { places = length-opened openings; rest = λ i l. truck-unopened openings i (omega arith) })
 
 -- ---- a step
 
 step-tidy : (f : Fleet) (w : List ℕ) → Tidy (f .n) (f .trucks) → Tidy (stepped f w .fleet .n) (stepped f w .fleet .trucks)
-unfolding stepped stepCheck nextFleet
+unfolding stepped nextFleet
 step-tidy f w t = go (stepCheck f w) refl
   where
     go : (o : Outcome) → stepCheck f w ≡ o → Tidy (answer o (nextFleet f w) f .fleet .n) (answer o (nextFleet f w) f .fleet .trucks)
     go Accepted e =
-        let range = good-range f (refuse-false (not (goodFleet f)) Record (refuse (eqb (f .done) 400) RoundsDone (roundCheck (f .n) w)) e) in
-        tidy-after (f .n) (activeBit w) (f .done + 1) w (f .trucks) (trucks-in (f .n) range .1) t
+        tidy-after (f .n) (activeBit w) (f .done + 1) w (f .trucks) (trucks-in (f .n) (step-good f w e) .1) t
     go (Refused r) e = t
 
 -- a refused step returns the record it was given
@@ -92,7 +78,7 @@ unfolding stepped
 step-kept f w r h = go (stepCheck f w) h
   where
     go : (o : Outcome) → answer o (nextFleet f w) f .outcome ≡ Refused r → answer o (nextFleet f w) f .fleet ≡ f
-    go Accepted e = refused-not r (sym e)
+    go Accepted e = absurd (true≢false (ap accepted e))
     go (Refused q) e = refl
 
 module _ (d w : List ℕ) (f : Fleet) (holds : Holds d f) where
@@ -151,22 +137,17 @@ unfolding openingsOf trucksAt stateAt
 run-tidy s most =
     throughout (trucksOf s) (openingsOf s) (roundAt s) (λ k ts. Tidy (trucksOf s) ts) (roundsOf s)
     (record {
-      places = places-opened (openingsOf s);
-      rest = λ i l. past-openings (openingsOf s) i (omega (arith, length-tab (openingAt s) (trucksOf s)));
+      places = length-opened (openingsOf s);
+      rest = λ i l. truck-unopened (openingsOf s) i (omega (arith, length-tab (openingAt s) (trucksOf s)));
     })
     (λ k l b. tidy-after (trucksOf s) (activeBit (roundAt s k)) (suc k) (roundAt s k) (trucksAt (trucksOf s) (openingsOf s) (roundAt s) k) most b)
     (roundsOf s) (omega arith)
 
 run-clean : (s : List ℕ) → ran s .outcome ≡ Accepted → Tidy (ran s .fleet .n) (ran s .fleet .trucks)
 unfolding ran fleetAt
-run-clean s h = go (checkOf s) refl h
-  where
-    f : Fleet
-    f = fleetAt (trucksOf s) (openingsOf s) (roundAt s) (roundsOf s)
-
-    go : (o : Outcome) → checkOf s ≡ o → answer o f blankFleet .outcome ≡ Accepted → Tidy (answer o f blankFleet .fleet .n) (answer o f blankFleet .fleet .trucks)
-    go Accepted e h = run-tidy s (bytes-good s e .frame .most)
-    go (Refused r) e h = refused-not r h
+run-clean s h =
+    let o = accepted-by (checkOf s) (fleetAt (trucksOf s) (openingsOf s) (roundAt s) (roundsOf s)) blankFleet h in
+    rw (o .1) (run-tidy s (bytes-good s (o .0) .frame .most))
 
 -- the bytes that an accepted run leaves are the record that it returns
 pub run-holds : (s d : List ℕ) → ran s .outcome ≡ Accepted → sizeFor 32 ≤ length d → unpacked (runCall s d .bytes) ≡ record { outcome = Accepted; fleet = ran s .fleet }

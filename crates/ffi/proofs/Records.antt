@@ -1,10 +1,10 @@
 -- What is left of a lent record: after a start or a run, and after a step.
-use mathlib.Core.Path.{_≡_, refl, ap, ap₂, sym, _∙_}
+use mathlib.Core.Path.{_≡_, refl, ap, sym, _∙_}
 use mathlib.Core.Bool.{true, false, not, _&&_}
 use mathlib.Core.List.{List}
-use Prim.Native.Nat.{ℕ, min}
+use Prim.Native.Nat.{ℕ, min, _≤_}
 use native.Mathlib.Omega.{arith}
-use lib.Dec.{ltb, leb, eqb}
+use lib.Dec.{leb, eqb}
 use lib.ListN.{length}
 use borrow.Author.Tests.{le-ltb, not-true, not-false}
 use Rattle.basics.specs.Lists.{allBelow}
@@ -21,18 +21,15 @@ use Rattle.protocol.specs.declared.Fleet.{Fleet}
 use Rattle.protocol.specs.declared.Answer.{Answer}
 use Rattle.protocol.specs.Rules.{truck}
 use Rattle.protocol.specs.Runs.{openedTrucks}
-use Rattle.protocol.specs.Fleets.{answer, blank, startCheck, started, stepCheck, stepped, nextFleet, goodTruck, goodFleet, fleetAt, ran}
-use Rattle.protocol.proofs.Steps.{start-by}
+use Rattle.protocol.specs.Fleets.{blank, startCheck, started, stepCheck, stepped, nextFleet, goodTruck, goodFleet, fleetAt, ran}
+use Rattle.protocol.proofs.Steps.{accepted-by, start-by}
 use Rattle.record.proofs.RoundTrip.{undamaged, taken-whole}
 use Rattle.record.specs.Layout.{sizeFor, packCheck, packFor, packedRecord, packedWhole, unpacked}
 use Rattle.ffi.specs.Calls.{RecordLeft, recordLeft, recordAs, storeCall, runCall, startCall, stepCall}
 use Rattle.ffi.proofs.Narrow.{many-trucks, narrowed}
 
-pub refused-not : {A : Type 0} (r : Refusal) → Refused r ≡ Accepted → A
-refused-not r h = let z : _≡_ {A = ℕ} 0 1 = cc in absurd (omega arith)
-
 -- a record that refusal 7 lets pass has an n in range
-pub good-range : (f : Fleet) → not (goodFleet f) ≡ false → badTrucks (f .n) ≡ false
+good-range : (f : Fleet) → not (goodFleet f) ≡ false → badTrucks (f .n) ≡ false
 unfolding goodFleet
 good-range f h =
     let range = not (badTrucks (f .n)) in
@@ -40,36 +37,44 @@ good-range f h =
     let all = allBelow (λ i. goodTruck (f .done) (truck (f .trucks) i)) (f .n) in
     not-true (badTrucks (f .n)) (and-left range few (and-left (range && few) all (not-false (range && few && all) h)))
 
--- what a number and a buffer say together
-both : (o : Outcome) (m : ℕ) (f : Fleet) (d : List ℕ) → recordLeft (outcomeNumber o) (packFor o m f d) ≡ recordAs o m f d
-both Accepted m f d = refl
-both (Refused r) m f d = refl
+-- so has the record of an accepted step
+pub step-good : (f : Fleet) (w : List ℕ) → stepCheck f w ≡ Accepted → badTrucks (f .n) ≡ false
+unfolding stepCheck
+step-good f w h = good-range f (refuse-false (not (goodFleet f)) Record (refuse (eqb (f .done) 400) RoundsDone (roundCheck (f .n) w)) h)
+
+-- a buffer with room for a record of n trucks
+pub room-for : (n : ℕ) (d : List ℕ) → badTrucks n ≡ false → sizeFor 32 ≤ length d → packCheck n (length d) ≡ Accepted
+unfolding packCheck
+room-for n d range room = rw (range, le-ltb (length d) (sizeFor 32) room)
+
+-- the number and the buffer that packing m places leaves
+packed-as : (f : Fleet) (m : ℕ) (d l : List ℕ) (o : Outcome) (k : ℕ) → o ≡ packCheck (f .n) (length d) → l ≡ packFor (packCheck (f .n) (length d)) m f d → k ≡ outcomeNumber o
+    → recordLeft k l ≡ recordAs (packCheck (f .n) (length d)) m f d
+packed-as f m d l o k p q e = rw (e, p, q) (both (packCheck (f .n) (length d)))
+  where
+    both : (o : Outcome) → recordLeft (outcomeNumber o) (packFor o m f d) ≡ recordAs o m f d
+    both Accepted = refl
+    both (Refused r) = refl
 
 -- ---- a whole record
 
 module _ (a : Answer) (d : List ℕ) where
   pub store-refused : (r : Refusal) (k : ℕ) → a .outcome ≡ Refused r → k ≡ numberOf r → recordLeft k d ≡ storeCall a d
   unfolding storeCall
-  store-refused r k h e = ap (λ (x : ℕ). recordLeft x d) e ∙ rw h
+  store-refused r k h e = rw (e, h)
 
   pub store-0 : (a .outcome ≡ Accepted → badTrucks (a .fleet .n) ≡ false) → a .outcome ≡ Accepted → (o : Outcome) (l : List ℕ) (k : ℕ)
       → o ≡ packCheck (a .fleet .n) (length d) → l ≡ packedWhole (a .fleet) d → k ≡ outcomeNumber o → recordLeft k l ≡ storeCall a d
   unfolding storeCall packedWhole packCheck
-  store-0 range h o l k p q e =
-      ap₂ (λ (x : ℕ) (y : List ℕ). recordLeft x y) (e ∙ ap outcomeNumber p) q
-      ∙ both (packCheck (a .fleet .n) (length d)) 32 (a .fleet) d
-      ∙ rw (range h, h) refl
+  store-0 range h o l k p q e = packed-as (a .fleet) 32 d l o k p q e ∙ rw (range h, h)
 
 -- ---- a start
 
 pub start-range : (n : ℕ) (openings : List ℕ) (a : Answer) → a ≡ started n openings → a .outcome ≡ Accepted → badTrucks (a .fleet .n) ≡ false
 unfolding started
-start-range n openings a s h = rw s (go (startCheck n openings) refl (rw s at h))
-  where
-    go : (o : Outcome) → startCheck n openings ≡ o → answer o (record { n = n; done = 0; trucks = openedTrucks openings }) blank .outcome ≡ Accepted
-        → badTrucks (answer o (record { n = n; done = 0; trucks = openedTrucks openings }) blank .fleet .n) ≡ false
-    go Accepted e h = start-by n openings e .trucks
-    go (Refused r) e h = refused-not r h
+start-range n openings a s h =
+    let o = accepted-by (startCheck n openings) (record { n = n; done = 0; trucks = openedTrucks openings }) blank (rw s at h) in
+    rw (s, o .1) (start-by n openings (o .0) .trucks)
 
 start-2 : (n : ℕ) (openings : List ℕ) → badTrucks n ≡ true → started n openings ≡ record { outcome = Refused TruckCount; fleet = blank }
 unfolding started startCheck
@@ -89,39 +94,33 @@ start-stored n m openings d a x e h s = s ∙ ap (λ (a : Answer). storeCall a d
 -- ---- a step
 
 pub step-range : (f : Fleet) (w : List ℕ) → stepped f w .outcome ≡ Accepted → badTrucks (stepped f w .fleet .n) ≡ false
-unfolding stepped stepCheck goodFleet nextFleet
-step-range f w h = go (stepCheck f w) refl h
-  where
-    go : (o : Outcome) → stepCheck f w ≡ o → answer o (nextFleet f w) f .outcome ≡ Accepted → badTrucks (answer o (nextFleet f w) f .fleet .n) ≡ false
-    go Accepted e h = good-range f (refuse-false (not (goodFleet f)) Record (refuse (eqb (f .done) 400) RoundsDone (roundCheck (f .n) w)) e)
-    go (Refused r) e h = refused-not r h
+unfolding stepped nextFleet
+step-range f w h =
+    let o = accepted-by (stepCheck f w) (nextFleet f w) f h in
+    rw (o .1) (step-good f w (o .0))
 
 module _ (d w : List ℕ) (u : Answer) (read : u ≡ unpacked d) where
   pub step-7 : (r : Refusal) (k : ℕ) → u .outcome ≡ Refused r → k ≡ numberOf r → recordLeft k d ≡ stepCall d w
   unfolding stepCall
-  step-7 r k h e = ap (λ (x : ℕ). recordLeft x d) e ∙ rw (sym read, h)
+  step-7 r k h e = rw (e, ← read, h)
 
   module _ (whole : u .outcome ≡ Accepted) (a : Answer) (done : a ≡ stepped (u .fleet) w) where
     step-as : recordAs (a .outcome) (a .fleet .n) (a .fleet) d ≡ stepCall d w
     unfolding stepCall
-    step-as = rw (sym read, whole, sym done)
+    step-as = rw (← read, whole, ← done)
 
     pub step-refused : (r : Refusal) (k : ℕ) → a .outcome ≡ Refused r → k ≡ numberOf r → recordLeft k d ≡ stepCall d w
-    step-refused r k h e = ap (λ (x : ℕ). recordLeft x d) e ∙ ap (λ (o : Outcome). recordAs o (a .fleet .n) (a .fleet) d) (sym h) ∙ step-as
+    step-refused r k h e = rw (e, ← step-as, h)
 
     step-room : a .outcome ≡ Accepted → packCheck (a .fleet .n) (length d) ≡ Accepted
-    unfolding packCheck
     step-room h =
-        let range : badTrucks (a .fleet .n) ≡ false = rw done (step-range (u .fleet) w (rw done at h)) in
-        let room : ltb (length d) (sizeFor 32) ≡ false = le-ltb (length d) (sizeFor 32) (undamaged d (taken-whole d (rw read at whole)) .whole) in
-        rw (range, room)
+        room-for (a .fleet .n) d (rw done (step-range (u .fleet) w (rw done at h))) (undamaged d (taken-whole d (rw read at whole)) .whole)
 
     pub step-0 : a .outcome ≡ Accepted → (o : Outcome) (l : List ℕ) (k : ℕ)
         → o ≡ packCheck (a .fleet .n) (length d) → l ≡ packedRecord (a .fleet) d → k ≡ outcomeNumber o → recordLeft k l ≡ stepCall d w
     unfolding packedRecord
     step-0 h o l k p q e =
-        ap₂ (λ (x : ℕ) (y : List ℕ). recordLeft x y) (e ∙ ap outcomeNumber p) q
-        ∙ both (packCheck (a .fleet .n) (length d)) (a .fleet .n) (a .fleet) d
+        packed-as (a .fleet) (a .fleet .n) d l o k p q e
         ∙ ap (λ (o : Outcome). recordAs o (a .fleet .n) (a .fleet) d) (step-room h ∙ sym h)
         ∙ step-as
 
@@ -129,15 +128,11 @@ module _ (d w : List ℕ) (u : Answer) (read : u ≡ unpacked d) where
 
 pub run-range : (s : List ℕ) (a : Answer) → a ≡ ran s → a .outcome ≡ Accepted → badTrucks (a .fleet .n) ≡ false
 unfolding ran fleetAt
-run-range s a e h = rw e (go (checkOf s) refl (rw e at h))
-  where
-    f : Fleet
-    f = fleetAt (trucksOf s) (openingsOf s) (roundAt s) (roundsOf s)
-
-    go : (o : Outcome) → checkOf s ≡ o → answer o f blank .outcome ≡ Accepted → badTrucks (answer o f blank .fleet .n) ≡ false
-    go Accepted e h = let g = bytes-good s e .frame in in-trucks (trucksOf s) (g .some) (g .most)
-    go (Refused r) e h = refused-not r h
+run-range s a e h =
+    let o = accepted-by (checkOf s) (fleetAt (trucksOf s) (openingsOf s) (roundAt s) (roundsOf s)) blank (rw e at h) in
+    let g = bytes-good s (o .0) .frame in
+    rw (e, o .1) (in-trucks (trucksOf s) (g .some) (g .most))
 
 pub run-stored : (s d : List ℕ) (a : Answer) (x : RecordLeft) → a ≡ ran s → x ≡ storeCall a d → x ≡ runCall s d
 unfolding runCall
-run-stored s d a x e h = h ∙ ap (λ (a : Answer). storeCall a d) e
+run-stored s d a x e h = rw (← e) h

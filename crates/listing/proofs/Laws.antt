@@ -93,11 +93,11 @@ enough (suc f) k h = go (ltb k 10) refl (enough f (k / 10))
     go false e ih =
         more-in (suc f) k (ltb-false k 10 e) ∙ ap (λ (x : List ℕ). x ++ ((48 + k % 10) ∷ [])) (ih tenth) ∙ sym (more-in (suc (suc f)) k (ltb-false k 10 e))
 
-pub decimal-small : (k : ℕ) → k < 10 → decimal k ≡ (48 + k) ∷ []
+decimal-small : (k : ℕ) → k < 10 → decimal k ≡ (48 + k) ∷ []
 unfolding decimal
 decimal-small k h = small-in 4 k h
 
-pub decimal-more : (k : ℕ) → 10 ≤ k → k < 2 ^ 16 → decimal k ≡ decimal (k / 10) ++ ((48 + k % 10) ∷ [])
+decimal-more : (k : ℕ) → 10 ≤ k → k < 2 ^ 16 → decimal k ≡ decimal (k / 10) ++ ((48 + k % 10) ∷ [])
 unfolding decimal
 decimal-more k h l = more-in 4 k h ∙ ap (λ (x : List ℕ). x ++ ((48 + k % 10) ∷ [])) (enough 3 (k / 10) (omega arith))
 
@@ -111,7 +111,7 @@ length-in (suc f) k = go (ltb k 10) (length-in f (k / 10))
     go true h = omega arith
     go false h = omega (arith, length-append (decimalIn f (k / 10)) ((48 + k % 10) ∷ []))
 
-pub length-decimal : (k : ℕ) → length (decimal k) ≤ 5
+length-decimal : (k : ℕ) → length (decimal k) ≤ 5
 unfolding decimal
 length-decimal k = length-in 5 k
 
@@ -153,7 +153,7 @@ unfolding truckLines
 lines-more ts i a b = put-as (ap (truckLines ts) (sym (add-one i))) (put-join a b)
 
 -- a text that was put at the front of a buffer
-pub put-front : (d t d′ : List ℕ) (r : ℕ) → Put d 0 t d′ r → (r ≡ length t) × (d′ ≡ t ++ drop (length t) d) × (take r d′ ≡ t)
+put-front : (d t d′ : List ℕ) (r : ℕ) → Put d 0 t d′ r → (r ≡ length t) × (d′ ≡ t ++ drop (length t) d) × (take r d′ ≡ t)
 put-front d t d′ r p =
     let e : r ≡ length t = omega (arith, p .next) in
     (e, sym (take-append-drop r d′) ∙ ap₂ (λ (x y : List ℕ). x ++ y) (p .front) (p .rest ∙ ap (λ (k : ℕ). drop k d) e), p .front)
@@ -184,16 +184,10 @@ run-small s a e = rw e (go (checkOf s) refl)
     go outcome.Accepted h = bytes-good s h .frame .most
     go (outcome.Refused r) h = omega arith
 
--- the two answers of a listing
-pub listed-refused : (s d : List ℕ) (a : Answer) (r : Refusal) → a ≡ ran s → a .outcome ≡ outcome.Refused r → left (Refused r) d ≡ listed s d
+-- the answer of a listing, by the outcome of the run
+pub listed-by : (s d : List ℕ) (a : Answer) {o : Outcome} → a ≡ ran s → a .outcome ≡ o → listedFor o (a .fleet) d ≡ listed s d
 unfolding listed
-listed-refused s d a r e h =
-    sym (ap (λ (b : Answer). listedFor (b .outcome) (b .fleet) d) (sym e) ∙ ap (λ (o : Outcome). listedFor o (a .fleet) d) h)
-
-pub listed-accepted : (s d : List ℕ) (a : Answer) → a ≡ ran s → a .outcome ≡ outcome.Accepted → textIn (listingOf (a .fleet)) d ≡ listed s d
-unfolding listed
-listed-accepted s d a e h =
-    sym (ap (λ (b : Answer). listedFor (b .outcome) (b .fleet) d) (sym e) ∙ ap (λ (o : Outcome). listedFor o (a .fleet) d) h)
+listed-by s d a e h = rw (← e, h)
 
 -- an answer's text lies within the buffer
 abbrev sizeOf : Listed → ℕ
@@ -209,15 +203,14 @@ text-fits t d = go (leb (length t) (length d)) refl
     go true e = leb-true (length t) (length d) e
     go false e = omega arith
 
-pub listed-fits : (s d d′ : List ℕ) (k : ℕ) → left (Text k) d′ ≡ listed s d → k ≤ length d
+pub listed-fits : (s d d′ : List ℕ) (r : Listed) (k : ℕ) → left r d′ ≡ listed s d → r ≡ Text k → k ≤ length d
 unfolding listed
-listed-fits s d d′ k e =
-    rw (ap (λ (l : Left). sizeOf (l .answer)) e) (go (ran s .outcome))
+listed-fits s d d′ r k e h = rw (ap sizeOf (sym h) ∙ ap (λ (l : Left). sizeOf (l .answer)) e) (go (ran s .outcome))
   where
     go : (o : Outcome) → sizeOf (listedFor o (ran s .fleet) d .answer) ≤ length d
     go outcome.Accepted = text-fits (listingOf (ran s .fleet)) d
     go (outcome.Refused r) = omega arith
 
-pub refusal-fits : (r : Refusal) (d d′ : List ℕ) (k : ℕ) → left (Text k) d′ ≡ refusalListed r d → k ≤ length d
+pub refusal-fits : (r : Refusal) (d d′ : List ℕ) (l : Listed) (k : ℕ) → left l d′ ≡ refusalListed r d → l ≡ Text k → k ≤ length d
 unfolding refusalListed
-refusal-fits r d d′ k e = rw (ap (λ (l : Left). sizeOf (l .answer)) e) (text-fits (refusalText r) d)
+refusal-fits r d d′ l k e h = rw (ap sizeOf (sym h) ∙ ap (λ (l : Left). sizeOf (l .answer)) e) (text-fits (refusalText r) d)

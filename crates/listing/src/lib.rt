@@ -1,8 +1,8 @@
 // The text that is printed for a recording, in a lent buffer.
 ghost use mathlib.Core.Path.{_≡_};
 ghost use mathlib.Core.List.{_∷_, []};
-ghost use Prim.Native.Nat.{_+_, _*_, _<_, _≤_};
-ghost use lib.ListN.{length, take};
+ghost use Prim.Native.Nat.{_+_, _<_, _≤_};
+ghost use lib.ListN.{length};
 ghost use Rattle.listing.specs.Text.{decimal, stateText, truckLine, truckLines, listingOf, refusalText};
 ghost use Rattle.listing.specs.Listed.{left, textIn, listed, refusalListed};
 ghost use Rattle.listing.specs.Writing.{Put, openingText, endedText, headerText, spaced};

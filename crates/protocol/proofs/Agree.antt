@@ -1,15 +1,14 @@
 -- No two trucks decide differently: an invariant of one round under majority complete proposal rounds and zero complete veto rounds.
 use mathlib.Core.Path.{_≡_, refl, ap, sym, _∙_}
-use mathlib.Core.Bool.{Bool, true, false, cond, not, _||_, true≢false}
+use mathlib.Core.Bool.{Bool, true, false, cond, true≢false}
 use mathlib.Core.List.{List}
 use mathlib.Core.Logic.{_⊎_, inl, inr, ⊎-elim}
-use Prim.Native.Nat.{ℕ, zero, _<_}
+use Prim.Native.Nat.{ℕ, _<_}
 use Rattle.basics.specs.Lists.{someBelow}
 use Rattle.basics.specs.Bits.{odd}
-use Rattle.basics.proofs.Laws.{someBelow-at, someBelow-none}
+use Rattle.basics.proofs.Laws.{or-left, or-right, someBelow-at, someBelow-none}
 use Rattle.air.specs.Air.{Air, sent, heard, hears, majorityComplete, zeroComplete}
 use Rattle.air.proofs.Laws.{hears-sends, sent-some, sent-none, common, majority-hears, zero-silent}
-use Rattle.protocol.specs.declared.Heard.{Heard}
 use Rattle.protocol.specs.declared.Truck.{Truck}
 use Rattle.protocol.specs.Rules.{truck, isSeveral, isOne, runs, vetoes, different, leastOr, proposed, airOf, valuesHeard, plays}
 use Rattle.protocol.specs.Claims.{isDecided}
@@ -27,13 +26,8 @@ pub record Settled (n : ℕ) (ts : List Truck) : Type 0 where
   pub running : (i : ℕ) → i < n → runs (truck ts i) ≡ true → truck ts i .estimate ≡ crusher
   pub decided : (i : ℕ) → i < n → isDecided (truck ts i .state) ≡ true → truck ts i .estimate ≡ crusher
 
--- the parts of a truck that will not veto after a proposal round
-quiet : (m : Bool) (h : Heard) → (m || isSeveral h) ≡ false → (m ≡ false) × (isSeveral h ≡ false)
-quiet true h e = absurd (true≢false e)
-quiet false h e = (refl, e)
-
 -- truck i, which runs and will not veto after a proposal round
-pub record Quiet (a : Air) (ts ts′ : List Truck) (i : ℕ) : Type 0 where
+record Quiet (a : Air) (ts ts′ : List Truck) (i : ℕ) : Type 0 where
   pub running : a .running i ≡ true
   pub unmarked : a .marked i ≡ false
   pub few : isSeveral (different (valuesHeard a ts i)) ≡ false
@@ -55,18 +49,19 @@ module _ (n : ℕ) (active : ℕ → Bool) (k : ℕ) (w : List ℕ) (ts : List T
       (next-decided n active k w ts i l d)
 
   -- a truck that runs and will not veto after a proposal round had no mark, did not hear several values and took the least
-  pub quiet-next : (i : ℕ) → odd k ≡ true → i < n → runs (truck ts′ i) ≡ true → vetoes (truck ts′ i) ≡ false → Quiet a ts ts′ i
+  quiet-next : (i : ℕ) → odd k ≡ true → i < n → runs (truck ts′ i) ≡ true → vetoes (truck ts′ i) ≡ false → Quiet a ts ts′ i
   quiet-next i e l r v =
       let p = next-played n active k w ts i l r in
       let q : truck ts′ i ≡ played i = p .1 ∙ plays-proposal n active k w ts i e in
-      let z = quiet (a .marked i) (different (valuesHeard a ts i)) (rw q at v) in
+      let z : vetoes (played i) ≡ false = rw q at v in
+      let unmarked = or-left (a .marked i) (isSeveral (different (valuesHeard a ts i))) z in
       record {
         running = p .0;
-        unmarked = z .0;
-        few = z .1;
+        unmarked = unmarked;
+        few = or-right (a .marked i) (isSeveral (different (valuesHeard a ts i))) z;
         kinds = ap (λ (t : Truck). t .heard) q;
         took = ap (λ (t : Truck). t .estimate) q
-            ∙ ap (λ (m : Bool). cond m (truck ts i .estimate) (leastOr (truck ts i .estimate) (valuesHeard a ts i))) (z .0);
+            ∙ ap (λ (m : Bool). cond m (truck ts i .estimate) (leastOr (truck ts i .estimate) (valuesHeard a ts i))) unmarked;
       }
     where
       played : ℕ → Truck

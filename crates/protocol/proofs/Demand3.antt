@@ -1,34 +1,26 @@
 -- The whole of demand 3, for the definitions that the contracts of starting, stepping and running cite.
-use mathlib.Core.Path.{_≡_, refl, ap, sym, _∙_}
-use mathlib.Core.Bool.{false≢true}
+use mathlib.Core.Path.{_≡_, ap, sym, _∙_}
 use mathlib.Core.List.{List}
 use Prim.Native.Nat.{ℕ, _≤_}
 use native.Mathlib.Omega.{arith}
 use lib.ListN.{length}
-use Rattle.refusals.specs.declared.Outcome.{Outcome}
-use Rattle.refusals.specs.declared.Outcome.the-variants.{Accepted, Refused}
-use Rattle.refusals.specs.Numbers.{accepted}
+use Rattle.refusals.specs.declared.Outcome.the-variants.{Accepted}
 use Rattle.recording.specs.Packed.{trucksOf, roundsOf, openingsOf, roundAt}
 use Rattle.recording.specs.Checks.{checkOf}
 use Rattle.recording.proofs.Accepted.{bytes-good}
 use Rattle.protocol.specs.declared.Fleet.{Fleet}
-use Rattle.protocol.specs.Fleets.{answer, blank, startCheck, started, fleetAt, ran}
+use Rattle.protocol.specs.Fleets.{blank, startCheck, started, fleetAt, ran}
 use Rattle.protocol.specs.Steps.{taken, roundIn}
 use Rattle.protocol.specs.Runs.{openedTrucks}
 use Rattle.protocol.specs.Claims.{Claim, StepsClaim, RunClaim, Demand}
 use Rattle.protocol.proofs.Whole.{majority-agreed, decided-by}
-use Rattle.protocol.proofs.Steps.{Start, start-by, taken-few, step-outcome, steps-are, recording-run}
+use Rattle.protocol.proofs.Steps.{accepted-by, Start, start-by, taken-few, step-outcome, steps-are, recording-run}
 
 -- the claim for what R rounds leave of up to 32 trucks
-pub claim-at : (n : ℕ) (openings : List ℕ) (rounds : ℕ → List ℕ) (R : ℕ) → n ≤ 32 → Claim n openings rounds R (fleetAt n openings rounds R)
+claim-at : (n : ℕ) (openings : List ℕ) (rounds : ℕ → List ℕ) (R : ℕ) → n ≤ 32 → Claim n openings rounds R (fleetAt n openings rounds R)
 unfolding fleetAt
 claim-at n openings rounds R small =
     record { agreement = majority-agreed n openings rounds small R; deciding = λ S b h. decided-by n openings rounds small R S b h }
-
--- an accepted answer was given for an accepted outcome
-accepted-by : (o : Outcome) (f g : Fleet) → answer o f g .outcome ≡ Accepted → (o ≡ Accepted) × (answer o f g .fleet ≡ f)
-accepted-by Accepted f g h = (refl, refl)
-accepted-by (Refused r) f g h = absurd (false≢true (ap accepted h))
 
 steps-claim : (n : ℕ) (openings : List ℕ) (steps : List (List ℕ)) → started n openings .outcome ≡ Accepted → StepsClaim n openings steps
 unfolding started

@@ -1,3 +1,4 @@
+pub mod Opened
 pub mod OneRound
 pub mod Agree
 pub mod Settle

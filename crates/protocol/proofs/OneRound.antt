@@ -1,7 +1,7 @@
 -- What one round makes of the trucks, for any active bits.
 use mathlib.Core.Path.{_≡_, refl, ap, sym, subst, _∙_}
 use mathlib.Core.Bool.{Bool, true, false, cond, not, _&&_, true≢false, false≢true}
-use mathlib.Core.List.{List, [], _∷_, _++_, map, List·Memᴰ, List·Memᴰ·head, List·Memᴰ·tail, List·Memᴰ·not-nil, Memᴰ·append-left, Memᴰ·append-right, List·Memᴰ·append-cases, List·Memᴰ·eq-of-singleton}
+use mathlib.Core.List.{List, [], _∷_, _++_, map, map-append, List·Memᴰ, List·Memᴰ·head, List·Memᴰ·tail, List·Memᴰ·not-nil, Memᴰ·append-left, Memᴰ·append-right, List·Memᴰ·append-cases, List·Memᴰ·eq-of-singleton}
 use mathlib.Core.Logic.{_⊎_, inl, inr, ⊎-elim}
 use Prim.Native.Nat.{ℕ, zero, suc, _≤_, _<_, min}
 use native.Mathlib.Decide.{decLt, decLe}
@@ -23,14 +23,10 @@ use Rattle.protocol.specs.Rules.{opened, truck, isRunning, isSeveral, is
 
 -- the values of the numbers below m that have p
 module _ (f : ℕ → ℕ) (p : ℕ → Bool) where
-  map-append : (s t : List ℕ) → map f (s ++ t) ≡ map f s ++ map f t
-  map-append [] t = refl
-  map-append (x ∷ xs) t = ap (λ (l : List ℕ). f x ∷ l) (map-append xs t)
-
   pub value-of : (m j : ℕ) → j < m → p j ≡ true → List·Memᴰ (f j) (map f (who p m))
   unfolding who
   value-of zero j h e = absurd (omega arith)
-  value-of (suc m) j h e = rw (map-append (who p m) (cond (p m) (m ∷ []) [])) (go (decLt j m) (value-of m j))
+  value-of (suc m) j h e = rw (map-append f (who p m) (cond (p m) (m ∷ []) [])) (go (decLt j m) (value-of m j))
     where
       go : Dec (j < m) → (j < m → p j ≡ true → List·Memᴰ (f j) (map f (who p m)))
           → List·Memᴰ (f j) (map f (who p m) ++ map f (cond (p m) (m ∷ []) []))
@@ -44,7 +40,7 @@ module _ (f : ℕ → ℕ) (p : ℕ → Bool) where
   of-value zero u h = absurd (List·Memᴰ·not-nil h)
   of-value (suc m) u h =
       ⊎-elim (λ l. let r = of-value m u l in (r .0, omega (arith, r .1), r .2, r .3)) (last (p m) refl)
-      (List·Memᴰ·append-cases (map f (who p m)) (rw (map-append (who p m) (cond (p m) (m ∷ []) [])) at h))
+      (List·Memᴰ·append-cases (map f (who p m)) (rw (map-append f (who p m) (cond (p m) (m ∷ []) [])) at h))
     where
       last : (b : Bool) → p m ≡ b → List·Memᴰ u (map f (cond b (m ∷ []) [])) → (j : ℕ) × (j < suc m) × (p j ≡ true) × (u ≡ f j)
       last true e l = (m, omega arith, e, List·Memᴰ·eq-of-singleton l)
@@ -174,7 +170,7 @@ module _ (n : ℕ) (active : ℕ → Bool) (k : ℕ) (w : List ℕ) (ts : List T
   value-heard i j l h = value-of (λ j. truck ts j .estimate) (hears air i) n j l h
 
   -- what holds of a truck's estimate and of all that was sent holds of its estimate after the round
-  pub estimate-plays : (P : ℕ → Type 0) (i : ℕ) → P (truck ts i .estimate)
+  estimate-plays : (P : ℕ → Type 0) (i : ℕ) → P (truck ts i .estimate)
       → ((j : ℕ) → j < n → air .sends j ≡ true → P (truck ts j .estimate)) → P (plays air k w ts i .estimate)
   estimate-plays P i own sent = go (odd k) refl
     where

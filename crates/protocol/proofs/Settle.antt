@@ -40,7 +40,7 @@ module _ (n : ℕ) (active : ℕ → Bool) (k : ℕ) (w : List ℕ) (ts : List T
   sentValues = map (λ j. truck ts j .estimate) (who (a .sends) n)
 
   -- a truck that runs after a calm proposal round had no mark, and heard every value that was sent, at least one
-  pub heard-all : (b i : ℕ) → odd k ≡ true → calmRound b true a ≡ true → i < n → runs (truck ts′ i) ≡ true
+  heard-all : (b i : ℕ) → odd k ≡ true → calmRound b true a ≡ true → i < n → runs (truck ts′ i) ≡ true
       → (truck ts′ i ≡ proposed false (different sentValues) (leastOr (truck ts i .estimate) sentValues) (truck ts i))
       × ((u : ℕ) × List·Memᴰ u sentValues)
   unfolding airOf valuesHeard

@@ -68,6 +68,11 @@ taken-few n c (w ∷ ws) h = go (isTaken n c w) refl (taken-few n (suc c) ws) (t
     go true e f g = omega (arith, f (ltb-true c 400 (and-right (accepted (roundCheck n w)) (ltb c 400) e)))
     go false e f g = g
 
+-- an accepted answer was given for an accepted outcome
+pub accepted-by : (o : Outcome) (f g : Fleet) → answer o f g .outcome ≡ Accepted → (o ≡ Accepted) × (answer o f g .fleet ≡ f)
+accepted-by Accepted f g h = (refl, refl)
+accepted-by (Refused r) f g h = absurd (false≢true (ap accepted h))
+
 -- a start, by what it was given
 pub record Start (n : ℕ) (openings : List ℕ) : Type 0 where
   pub some : 0 < n
@@ -91,7 +96,7 @@ start-by n openings h =
 
 module _ (n : ℕ) (openings : List ℕ) (start : Start n openings) where
   -- every record on the way passes refusal 7
-  pub good-at : (rounds : ℕ → List ℕ) (k i : ℕ) → i < n → Good k (truck (trucksAt n openings rounds k) i)
+  good-at : (rounds : ℕ → List ℕ) (k i : ℕ) → i < n → Good k (truck (trucksAt n openings rounds k) i)
   good-at rounds k =
       throughout n openings rounds (λ k ts. (i : ℕ) → i < n → Good k (truck ts i)) k
       (λ i l.
@@ -120,7 +125,7 @@ module _ (n : ℕ) (openings : List ℕ) (start : Start n openings) where
       go (Refused r) = refl
 
   -- what a step makes of such a record: the next one where its round is taken, else the same
-  pub step-taken : (rounds : ℕ → List ℕ) (k : ℕ) (w : List ℕ) → k ≤ 400
+  step-taken : (rounds : ℕ → List ℕ) (k : ℕ) (w : List ℕ) → k ≤ 400
       → stepped (fleetAt n openings rounds k) w .fleet ≡ cond (isTaken n k w) (nextFleet (fleetAt n openings rounds k) w) (fleetAt n openings rounds k)
   unfolding stepped stepCheck isTaken fleetAt
   step-taken rounds k w l = rw (good-fleet rounds k l) (go (roundCheck n w) (eqb k 400) refl)

@@ -10,7 +10,7 @@ use lib.Dec.{leb, ltb}
 use lib.ListN.{getD}
 use Rattle.basics.specs.Lists.{allBelow}
 use Rattle.basics.specs.Bits.{odd}
-use Rattle.basics.proofs.Laws.{getD-tab, and-left, and-right, allBelow-at, odd-suc}
+use Rattle.basics.proofs.Laws.{and-left, and-right, allBelow-at, odd-suc}
 use Rattle.air.specs.Round.{activeBit, markBit}
 use Rattle.air.specs.Air.{heard, calmRound, calmFor}
 use Rattle.air.specs.Runs.{stateAt}
@@ -19,9 +19,10 @@ use Rattle.protocol.specs.declared.State.{State}
 use Rattle.protocol.specs.declared.State.the-variants.{Running, Stopped, Decided}
 use Rattle.protocol.specs.declared.Truck.{Truck}
 use Rattle.protocol.specs.Rules.{opened, truck, isRunning, isOne, runs, decides, plays, after, airOf}
-use Rattle.protocol.specs.Runs.{openedTrucks, trucksAt, airAt, calm}
+use Rattle.protocol.specs.Runs.{trucksAt, airAt, calm}
 use Rattle.protocol.specs.Fleets.{fleetAt}
 use Rattle.protocol.specs.Claims.{isDecided, EndedBy, Agreed, MajorityMarks, MixedMarks}
+use Rattle.protocol.proofs.Opened.{truck-opened}
 use Rattle.protocol.proofs.OneRound.{after-cases, plays-proposal, plays-veto, estimate-next, next-idle}
 use Rattle.protocol.proofs.Agree.{Open, Settled, open-proposal, open-veto, settled-next}
 use Rattle.protocol.proofs.Settle.{Ended, Same, Ready, calm-same, calm-ready, veto-same, calm-ended, ended-next}
@@ -46,8 +47,8 @@ module _ (n : ℕ) (openings : List ℕ) (rounds : ℕ → List ℕ) where
       ap (λ (j : ℕ). airOf n (activeBit (rounds j)) (suc k) (rounds j) (trucksAt n openings rounds j)) (let e : suc k - 1 ≡ k = omega arith in e)
 
   pub opened-truck : (i : ℕ) → i < 32 → truck (at 0) i ≡ opened (getD openings i 0)
-  unfolding trucksAt stateAt openedTrucks
-  opened-truck i l = getD-tab (λ i. opened (getD openings i 0)) 32 i (opened 0) l
+  unfolding trucksAt stateAt
+  opened-truck i l = truck-opened openings i l
 
   -- what holds at the start and after each round holds throughout
   pub throughout : (P : ℕ → List Truck → Type 0) (R : ℕ) → P 0 (at 0)

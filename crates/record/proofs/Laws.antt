@@ -1,19 +1,19 @@
 -- Laws of a record as bytes: one for each place of the code that they serve.
 use mathlib.Core.Path.{_≡_, refl, ap, ap₂, sym, _∙_}
-use mathlib.Core.Bool.{Bool, true, false, _&&_, _||_}
+use mathlib.Core.Bool.{Bool, true, false, cond, _&&_, _||_}
 use mathlib.Core.List.{List, [], _∷_}
 use Prim.Native.Nat.{ℕ, zero, suc, _+_, _*_, _-_, _/_, _%_, _≤_, _<_}
 use native.Mathlib.Nat.{add-zero}
-use native.Mathlib.Numerals.{add-one, towards-suc}
+use native.Mathlib.Numerals.{towards-suc}
 use native.Mathlib.Decide.{decLt}
 use native.Mathlib.Omega.{arith}
 use lib.Dec.{eqb, ltb}
 use lib.ListN.{length, getD, set}
 use lib.Seq.{ext-getD, sets}
 use mir.Val.{boolByte}
-use borrow.Author.Tests.{lt-ltb, le-ltb, ltb-false}
+use borrow.Author.Tests.{lt-ltb, le-ltb, ltb-false, eq-eqb, ne-eqb}
 use Rattle.basics.specs.Lists.{filled, someBelow}
-use Rattle.basics.proofs.Laws.{filled-none, filled-more, length-filled, getD-filled, getD-filled-past, length-tab}
+use Rattle.basics.proofs.Laws.{filled-none, filled-more, length-filled, getD-filled, getD-filled-past, fill-length}
 use Rattle.refusals.specs.declared.Refusal.{Refusal}
 use Rattle.refusals.specs.declared.Refusal.the-variants.{Record, ShortBuffer}
 use Rattle.refusals.specs.declared.Outcome.{Outcome}
@@ -25,10 +25,10 @@ use Rattle.protocol.specs.declared.State.{State}
 use Rattle.protocol.specs.declared.Truck.{Truck}
 use Rattle.protocol.specs.declared.Fleet.{Fleet}
 use Rattle.protocol.specs.declared.Answer.{Answer}
-use Rattle.protocol.specs.Rules.{truck, opened}
+use Rattle.protocol.specs.Rules.{truck}
 use Rattle.protocol.specs.Runs.{openedTrucks}
 use Rattle.protocol.specs.Fleets.{blank}
-use Rattle.record.specs.Layout.{markByte, heardByte, stateByte, roundOf, truckBytes, recordByte, sizeFor, packCheck, packFor, packedRecord, packedWhole, heardOf, stateOf, pairOf, placeByte, placeRound, truckAt, damagedAt, damaged, recordOf, noRecord, unpacked}
+use Rattle.record.specs.Layout.{markByte, heardByte, stateByte, roundOf, truckBytes, recordByte, sizeFor, packCheck, packFor, heardOf, stateOf, pairOf, placeByte, placeRound, truckAt, damagedAt, damaged, recordOf, noRecord, unpacked}
 
 -- ---- the bytes of a truck
 
@@ -41,14 +41,7 @@ truck-put d at t h s r eh es er = simp (mark-byte (t .mark), eh, es, er, towards
     mark-byte true = refl
     mark-byte false = refl
 
--- ---- a loop that fills a list from the front
-
-module _ {ℓ} {A : Type ℓ} (g : ℕ → A) (d l : List A) (i : ℕ) (now : l ≡ filled g i d) where
-  pub fill-length : i ≤ length d → length l ≡ length d
-  fill-length h = ap length now ∙ length-filled g i d h
-
-  pub fill-step : (v : A) → i < length d → v ≡ g i → set l i v ≡ filled g (i + 1) d
-  fill-step v h e = ap (λ (k : List A). set k i v) now ∙ filled-more g i d v h e ∙ ap (λ (k : ℕ). filled g k d) (sym (add-one i))
+-- ---- a list that is filled from the front
 
 -- a longer part written over a shorter one
 pub filled-over {ℓ} : {A : Type ℓ} (z : A) (g : ℕ → A) (d : List A) (k m : ℕ) → k ≤ m → m ≤ length d → filled g m (filled g k d) ≡ filled g m d
@@ -160,33 +153,35 @@ module _ (f : Fleet) (d : List ℕ) (o : Outcome) (checked : o ≡ packCheck (f 
     pub pack-refusal : Refused r ≡ packCheck (f .n) (length d)
     pack-refusal = sym kept ∙ checked
 
-    pub record-refused : d ≡ packedRecord f d
-    unfolding packedRecord
-    record-refused = ap (λ (x : Outcome). packFor x (f .n) f d) pack-refusal
-
-    pub whole-refused : d ≡ packedWhole f d
-    unfolding packedWhole
-    whole-refused = ap (λ (x : Outcome). packFor x 32 f d) pack-refusal
+    pub pack-kept : (m : ℕ) → d ≡ packFor (packCheck (f .n) (length d)) m f d
+    pack-kept m = ap (λ (x : Outcome). packFor x m f d) pack-refusal
 
   module _ (kept : o ≡ Accepted) where
     pub pack-accepted : Accepted ≡ packCheck (f .n) (length d)
     pack-accepted = sym kept ∙ checked
 
-    pub record-put : (l : List ℕ) → l ≡ filled (recordByte f) (sizeFor (f .n)) d → l ≡ packedRecord f d
-    unfolding packedRecord
-    record-put l e = e ∙ ap (λ (x : Outcome). packFor x (f .n) f d) pack-accepted
+    pub pack-put : (m : ℕ) (l : List ℕ) → l ≡ filled (recordByte f) (sizeFor m) d → l ≡ packFor (packCheck (f .n) (length d)) m f d
+    pack-put m l e = e ∙ ap (λ (x : Outcome). packFor x m f d) pack-accepted
 
-    pub whole-put : (l : List ℕ) → l ≡ filled (recordByte f) (sizeFor 32) d → l ≡ packedWhole f d
-    unfolding packedWhole
-    whole-put l e = e ∙ ap (λ (x : Outcome). packFor x 32 f d) pack-accepted
-
-    pub pack-range : f .n ≤ 32
-    pack-range = accepted-is (f .n) (length d) (sym pack-accepted) .1
+    pub pack-range : (m : ℕ) → (badTrucks (f .n) ≡ false → m ≤ 32) → m ≤ 32
+    pack-range m h = h (accepted-is (f .n) (length d) (sym pack-accepted) .0)
 
     pub pack-room : sizeFor 32 ≤ length d
     pack-room = accepted-is (f .n) (length d) (sym pack-accepted) .2
 
 -- ---- the truck of a place
+
+-- a byte that stands for one of three things
+module _ {A : Type 0} (b : ℕ) (x y z : A) where
+  pub byte-1 : b ≡ 1 → x ≡ cond (eqb b 1) x (cond (eqb b 2) y z)
+  byte-1 h = rw (eq-eqb b 1 h)
+
+  module _ (not-1 : b ≡ 1 → ⊥) where
+    pub byte-2 : b ≡ 2 → y ≡ cond (eqb b 1) x (cond (eqb b 2) y z)
+    byte-2 h = rw (ne-eqb b 1 not-1, eq-eqb b 2 h)
+
+    pub byte-0 : (b ≡ 2 → ⊥) → z ≡ cond (eqb b 1) x (cond (eqb b 2) y z)
+    byte-0 h = rw (ne-eqb b 1 not-1, ne-eqb b 2 h)
 
 pub truck-is : (d : List ℕ) (i a b m k s r : ℕ) (h : Heard) (t : State)
     → k ≡ placeByte d i 3 → h ≡ heardOf k → s ≡ placeByte d i 4 → r ≡ placeRound d i → t ≡ stateOf s r
@@ -205,10 +200,6 @@ damaged-is d i m h s r em eh es er = cc
 pub blank-trucks : blank .trucks ≡ openedTrucks []
 unfolding blank
 blank-trucks = refl
-
-pub places : length (openedTrucks []) ≡ 32
-unfolding openedTrucks
-places = length-tab (λ i. opened (getD [] i 0)) 32
 
 module _ (d : List ℕ) where
   pub record-is : (f : Fleet) (k : ℕ) → f .trucks ≡ filled (truckAt d) (getD d 0 0) (openedTrucks []) → k ≡ pairOf (getD d 1 0) (getD d 2 0)

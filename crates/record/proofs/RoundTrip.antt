@@ -1,16 +1,16 @@
 -- Bytes and records: the bytes of an undamaged record come back as they were, and a record that is put into a buffer is read out of it again.
 use mathlib.Core.Path.{_≡_, refl, ap, ap₂, sym, _∙_}
-use mathlib.Core.Bool.{Bool, true, false, cond, _&&_, _||_, true≢false}
+use mathlib.Core.Bool.{Bool, true, false, cond, _&&_, _||_}
 use mathlib.Core.List.{List, []}
 use Prim.Native.Nat.{ℕ, zero, suc, _+_, _*_, _/_, _%_, _≤_, _<_}
 use native.Mathlib.Decide.{decLt}
 use native.Mathlib.Omega.{arith}
 use lib.Dec.{eqb, ltb}
-use lib.ListN.{length, getD, List·getD-eq-default}
+use lib.ListN.{length, getD}
 use lib.Seq.{ext-getD}
 use borrow.Author.Tests.{le-ltb, ltb-false}
-use Rattle.basics.specs.Lists.{tab, filled, someBelow}
-use Rattle.basics.proofs.Laws.{length-tab, getD-tab, length-filled, getD-filled, getD-filled-past, someBelow-none, none-someBelow}
+use Rattle.basics.specs.Lists.{filled, someBelow}
+use Rattle.basics.proofs.Laws.{length-filled, getD-filled, getD-filled-past, filled-same, or-left, or-right, someBelow-none, none-someBelow}
 use Rattle.refusals.specs.declared.Outcome.{Outcome}
 use Rattle.refusals.specs.declared.Outcome.the-variants.{Accepted}
 use Rattle.recording.proofs.Accepted.{trucks-in}
@@ -23,18 +23,9 @@ use Rattle.protocol.specs.declared.Truck.{Truck}
 use Rattle.protocol.specs.declared.Fleet.{Fleet}
 use Rattle.protocol.specs.Rules.{truck, opened}
 use Rattle.protocol.specs.Runs.{openedTrucks}
+use Rattle.protocol.proofs.Opened.{length-opened, truck-unopened}
 use Rattle.record.specs.Layout.{sizeFor, markByte, heardByte, stateByte, roundOf, truckBytes, recordByte, packCheck, packFor, packedRecord, packedWhole, heardOf, stateOf, pairOf, placeByte, placeRound, truckAt, damagedAt, damaged, recordOf, noRecord, unpacked}
 use Rattle.record.proofs.Laws.{place-byte, byte-of-place, accepted-is, check-0}
-
--- ---- a test with an `or` that fails
-
-or-first : (a b : Bool) → (a || b) ≡ false → a ≡ false
-or-first true b h = h
-or-first false b h = refl
-
-or-second : (a b : Bool) → (a || b) ≡ false → b ≡ false
-or-second true b h = absurd (true≢false h)
-or-second false b h = h
 
 -- ---- numbers of two bytes
 
@@ -75,15 +66,6 @@ round-back (suc (suc (suc b))) k h e = absurd (omega (arith, ltb-false 2 (suc (s
 
 -- ---- bytes that are a record come back
 
--- a list that is filled with what it holds
-filled-same : (g : ℕ → ℕ) (m : ℕ) (d : List ℕ) → m ≤ length d → ((k : ℕ) → k < m → g k ≡ getD d k 0) → filled g m d ≡ d
-filled-same g m d h e =
-    ext-getD 0 (filled g m d) d (length-filled g m d h) (λ k l. at k (decLt k m))
-  where
-    at : (k : ℕ) → Dec (k < m) → getD (filled g m d) k 0 ≡ getD d k 0
-    at k (yes l) = getD-filled g m d k 0 l ∙ e k l
-    at k (no l) = getD-filled-past g m d k 0 (omega arith)
-
 -- what the bytes of an undamaged place are
 record Sound (d : List ℕ) (i : ℕ) : Type 0 where
   mark : ltb 1 (placeByte d i 2) ≡ false
@@ -98,13 +80,13 @@ sound d i h = go (ltb 1 (placeByte d i 2)) (ltb 2 (placeByte d i 3)) (ltb 2 (pla
     go : (a b c e : Bool) → ltb 1 (placeByte d i 2) ≡ a → ltb 2 (placeByte d i 3) ≡ b → ltb 2 (placeByte d i 4) ≡ c → (eqb (placeByte d i 4) 0 && ltb 0 (placeRound d i)) ≡ e
         → (a || b || c || e) ≡ false → Sound d i
     go a b c e p q r t h =
-        let abc = or-first (a || b || c) e h in
-        let ab = or-first (a || b) c abc in
+        let abc = or-left (a || b || c) e h in
+        let ab = or-left (a || b) c abc in
         record {
-          mark = p ∙ or-first a b ab;
-          heard = q ∙ or-second a b ab;
-          state = r ∙ or-second (a || b) c abc;
-          round = t ∙ or-second (a || b || c) e h;
+          mark = p ∙ or-left a b ab;
+          heard = q ∙ or-right a b ab;
+          state = r ∙ or-right (a || b) c abc;
+          round = t ∙ or-right (a || b || c) e h;
         }
 
 -- its seven bytes
@@ -134,11 +116,11 @@ pub record Undamaged (d : List ℕ) : Type 0 where
 pub undamaged : (d : List ℕ) → damaged d ≡ false → Undamaged d
 unfolding damaged
 undamaged d h =
-    let front : (ltb (length d) (sizeFor 32) || badTrucks (getD d 0 0)) ≡ false = or-first (ltb (length d) (sizeFor 32) || badTrucks (getD d 0 0)) (someBelow (damagedAt d) (getD d 0 0)) h in
+    let front : (ltb (length d) (sizeFor 32) || badTrucks (getD d 0 0)) ≡ false = or-left (ltb (length d) (sizeFor 32) || badTrucks (getD d 0 0)) (someBelow (damagedAt d) (getD d 0 0)) h in
     record {
-      whole = ltb-false (length d) (sizeFor 32) (or-first (ltb (length d) (sizeFor 32)) (badTrucks (getD d 0 0)) front);
-      range = or-second (ltb (length d) (sizeFor 32)) (badTrucks (getD d 0 0)) front;
-      places = λ i l. sound d i (someBelow-none (damagedAt d) (getD d 0 0) (or-second (ltb (length d) (sizeFor 32) || badTrucks (getD d 0 0)) (someBelow (damagedAt d) (getD d 0 0)) h) i l);
+      whole = ltb-false (length d) (sizeFor 32) (or-left (ltb (length d) (sizeFor 32)) (badTrucks (getD d 0 0)) front);
+      range = or-right (ltb (length d) (sizeFor 32)) (badTrucks (getD d 0 0)) front;
+      places = λ i l. sound d i (someBelow-none (damagedAt d) (getD d 0 0) (or-right (ltb (length d) (sizeFor 32) || badTrucks (getD d 0 0)) (someBelow (damagedAt d) (getD d 0 0)) h) i l);
     }
 
 module _ (d : List ℕ) (bytes : Bytes d) (u : Undamaged d) where
@@ -182,7 +164,7 @@ bytes-back d bytes h =
     let n = getD d 0 0 in
     let most : n ≤ 32 = trucks-in n (u .range) .1 in
     ap (λ (o : Outcome). packFor o n (recordOf d) d) (sym (check-0 n (length d) false (sym (u .range)) refl (u .whole)))
-    ∙ filled-same (recordByte (recordOf d)) (sizeFor n) d (omega (arith, u .whole)) (byte-back d bytes u)
+    ∙ filled-same 0 (recordByte (recordOf d)) (sizeFor n) d (omega (arith, u .whole)) (byte-back d bytes u)
 
 -- ---- a record that is put into a buffer is read out of it
 
@@ -229,28 +211,12 @@ pub record Tidy (n : ℕ) (ts : List Truck) : Type 0 where
   pub places : length ts ≡ 32
   pub rest : (i : ℕ) → n ≤ i → truck ts i ≡ opened 0
 
--- a start's places past the openings
-pub past-openings : (openings : List ℕ) (i : ℕ) → length openings ≤ i → truck (openedTrucks openings) i ≡ opened 0
-unfolding openedTrucks
-past-openings openings i h = go (decLt i 32)
-  where
-    g : ℕ → Truck
-    g k = opened (getD openings k 0)
-
-    go : Dec (i < 32) → truck (tab g 32) i ≡ opened 0
-    go (yes l) = getD-tab g 32 i (opened 0) l ∙ ap opened (List·getD-eq-default openings 0 h)
-    go (no l) = List·getD-eq-default (tab g 32) (opened 0) (let h : length (tab g 32) ≤ i = omega (arith, length-tab g 32) in h)
-
-pub places-opened : (openings : List ℕ) → length (openedTrucks openings) ≡ 32
-unfolding openedTrucks
-places-opened openings = length-tab (λ k. opened (getD openings k 0)) 32
-
 tidy-read : (d : List ℕ) → getD d 0 0 ≤ 32 → Tidy (recordOf d .n) (recordOf d .trucks)
 unfolding recordOf
 tidy-read d h =
     record {
-      places = length-filled (truckAt d) (getD d 0 0) (openedTrucks []) (omega (arith, places-opened [])) ∙ places-opened [];
-      rest = λ i l. getD-filled-past (truckAt d) (getD d 0 0) (openedTrucks []) i (opened 0) l ∙ past-openings [] i (omega arith);
+      places = length-filled (truckAt d) (getD d 0 0) (openedTrucks []) (omega (arith, length-opened [])) ∙ length-opened [];
+      rest = λ i l. getD-filled-past (truckAt d) (getD d 0 0) (openedTrucks []) i (opened 0) l ∙ truck-unopened [] i (omega arith);
     }
 
 tidy-same : (f g : Fleet) → Tidy (f .n) (f .trucks) → Tidy (g .n) (g .trucks) → Same f g → g ≡ f

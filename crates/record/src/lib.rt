@@ -1,13 +1,14 @@
 // A fleet record as 227 bytes, for callers in other languages. specs/Layout says which byte is what.
 ghost use mathlib.Core.Path.{_≡_};
+ghost use mathlib.Core.Bool.{false};
 ghost use mathlib.Core.List.{[]};
 ghost use Prim.Native.Nat.{_+_, _*_, _≤_, _<_};
 ghost use lib.ListN.{length, getD};
 ghost use lib.Seq.{sets};
 ghost use Rattle.basics.specs.Lists.{someBelow, filled};
+ghost use Rattle.recording.specs.Checks.{badTrucks};
 ghost use Rattle.protocol.specs.Runs.{openedTrucks};
-ghost use Rattle.protocol.specs.Fleets.{blank};
-ghost use Rattle.record.specs.Layout.{sizeFor, heardByte, stateByte, roundOf, truckBytes, recordByte, packCheck, packedRecord, packedWhole, heardOf, stateOf, pairOf, placeByte, placeRound, truckAt, damagedAt, recordOf, noRecord, unpacked};
+ghost use Rattle.record.specs.Layout.{sizeFor, heardByte, stateByte, roundOf, truckBytes, recordByte, packCheck, packFor, packedRecord, packedWhole, heardOf, stateOf, pairOf, placeByte, placeRound, truckAt, damagedAt, recordOf, unpacked};
 use protocol::Answer;
 use protocol::Fleet;
 use protocol::Heard;
@@ -92,20 +93,29 @@ fn check(n: u8, room: usize) -> Outcome
     Outcome::Accepted
 }
 
+// Puts the head and the first m places of a record, where 7 and 9 let it pass.
+fn pack_places(f: Fleet, m: usize, d: &mut [u8]) -> Outcome
+    requires { ⌜ (badTrucks (f .n) ≡ false → m ≤ 32) ⌝ }
+    ensures answer { λ r. ⌜ r ≡ packCheck (f .n) (length (now (d .entry))) ⌝ }
+    ensures buffer { λ r. ⌜ now (d .exit) ≡ packFor (packCheck (f .n) (length (now (d .entry)))) m f (now (d .entry)) ⌝ }
+{
+    let c = check(f.n, d.len());
+    match c {
+        Outcome::Refused(r) => Outcome::Refused(r),
+        Outcome::Accepted => {
+            put(f, m, d);
+            Outcome::Accepted
+        }
+    }
+}
+
 // Brings the bytes of a record up to date: places n and above stay as they are.
 pub fn pack(f: Fleet, d: &mut [u8]) -> Outcome
     ensures answer { λ r. ⌜ r ≡ packCheck (f .n) (length (now (d .entry))) ⌝ }
     ensures buffer { λ r. ⌜ now (d .exit) ≡ packedRecord f (now (d .entry)) ⌝ }
 {
     let n = f.n;
-    let c = check(n, d.len());
-    match c {
-        Outcome::Refused(r) => Outcome::Refused(r),
-        Outcome::Accepted => {
-            put(f, n as usize, d);
-            Outcome::Accepted
-        }
-    }
+    pack_places(f, n as usize, d)
 }
 
 // Puts a whole record, all 32 places.
@@ -113,15 +123,7 @@ pub fn pack_whole(f: Fleet, d: &mut [u8]) -> Outcome
     ensures answer { λ r. ⌜ r ≡ packCheck (f .n) (length (now (d .entry))) ⌝ }
     ensures buffer { λ r. ⌜ now (d .exit) ≡ packedWhole f (now (d .entry)) ⌝ }
 {
-    let n = f.n;
-    let c = check(n, d.len());
-    match c {
-        Outcome::Refused(r) => Outcome::Refused(r),
-        Outcome::Accepted => {
-            put(f, 32, d);
-            Outcome::Accepted
-        }
-    }
+    pack_places(f, 32, d)
 }
 
 fn heard_of(b: u8) -> Heard
@@ -212,31 +214,13 @@ fn some_damaged(d: &[u8], n: u8) -> bool
     false
 }
 
-// A record of no trucks.
-fn blank() -> Fleet
-    ensures { λ r. ⌜ r ≡ blank ⌝ }
-{
-    let t = Truck {
-        opening: 0,
-        estimate: 0,
-        mark: false,
-        heard: Heard::Nothing,
-        state: State::Running,
-    };
-    Fleet {
-        n: 0,
-        done: 0,
-        trucks: [t; 32],
-    }
-}
-
 // The trucks of the places below n, in a record of no trucks.
 fn with_trucks(d: &[u8], n: u8) -> Fleet
     requires { ⌜ (n ≤ 32) × (sizeFor 32 ≤ length (now d)) ⌝ }
     ensures { λ r. ⌜ r .trucks ≡ filled (truckAt (now (d .entry))) n (openedTrucks []) ⌝ }
 {
     let m = n as usize;
-    let mut f = blank();
+    let mut f = start::blank();
     let mut i = 0;
     while i < m {
         let t = truck_at(d, i);
@@ -257,29 +241,19 @@ fn record_of(d: &[u8]) -> Fleet
     f
 }
 
-fn no_record() -> Answer
-    ensures { λ r. ⌜ r ≡ noRecord ⌝ }
-{
-    let fleet = blank();
-    Answer {
-        outcome: Outcome::Refused(Refusal::Record),
-        fleet,
-    }
-}
-
 // Takes bytes for a record: refusal 7 where they are none.
 pub fn unpack(d: &[u8]) -> Answer
     ensures { λ r. ⌜ r ≡ unpacked (now (d .entry)) ⌝ }
 {
     if d.len() < 227 {
-        return no_record();
+        return start::refused(Refusal::Record);
     }
     let n = d[0];
     if recording::bad_trucks(n) {
-        return no_record();
+        return start::refused(Refusal::Record);
     }
     if some_damaged(d, n) {
-        return no_record();
+        return start::refused(Refusal::Record);
     }
     let fleet = record_of(d);
     Answer {

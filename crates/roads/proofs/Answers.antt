@@ -8,7 +8,7 @@ use lib.Dec.{ltb, eqb}
 use lib.ListN.{length, getD}
 use lib.Ieee.{Float}
 use Rattle.basics.specs.Lists.{allBelow}
-use Rattle.basics.proofs.Laws.{allBelow-at, allBelow-all}
+use Rattle.basics.proofs.Laws.{or-left, or-right, allBelow-at, allBelow-all}
 use Rattle.refusals.specs.declared.Refusal.the-variants.{RoadLists, Seconds, NoTime, AllIdle}
 use Rattle.rounding.proofs.Order.{Small}
 use Rattle.roads.specs.declared.Opening.{Opening}
@@ -31,10 +31,6 @@ unfolding openingOf
 opened l m s = refl
 
 -- ---- the lists, where 10 does not hold
-or-none : (a b : Bool) → (a || b) ≡ false → (a ≡ false) × (b ≡ false)
-or-none true b h = absurd (true≢false h)
-or-none false b h = (refl, h)
-
 pub record Right (lengths metres seconds : List ℕ) : Type 0 where
   pub few : length lengths ≤ 16
   pub as-metres : length metres ≡ length lengths
@@ -43,12 +39,12 @@ pub record Right (lengths metres seconds : List ℕ) : Type 0 where
 pub right : (lengths metres seconds : List ℕ) → badLists lengths metres seconds ≡ false → Right lengths metres seconds
 right l m s h =
     let n = length l in
-    let x = or-none (eqb n 0 || ltb 16 n || not (eqb (length m) n)) (not (eqb (length s) n)) h in
-    let y = or-none (eqb n 0 || ltb 16 n) (not (eqb (length m) n)) (x .0) in
+    let three = or-left (eqb n 0 || ltb 16 n || not (eqb (length m) n)) (not (eqb (length s) n)) h in
+    let two = or-left (eqb n 0 || ltb 16 n) (not (eqb (length m) n)) three in
     record {
-      few = ltb-false 16 n (or-none (eqb n 0) (ltb 16 n) (y .0) .1);
-      as-metres = eqb-true (length m) n (not-false (eqb (length m) n) (y .1));
-      as-seconds = eqb-true (length s) n (not-false (eqb (length s) n) (x .1));
+      few = ltb-false 16 n (or-right (eqb n 0) (ltb 16 n) two);
+      as-metres = eqb-true (length m) n (not-false (eqb (length m) n) (or-right (eqb n 0 || ltb 16 n) (not (eqb (length m) n)) three));
+      as-seconds = eqb-true (length s) n (not-false (eqb (length s) n) (or-right (eqb n 0 || ltb 16 n || not (eqb (length m) n)) (not (eqb (length s) n)) h));
     }
 
 -- ---- the road that the code chooses, of lists of 16-bit numbers

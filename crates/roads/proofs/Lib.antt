@@ -3,5 +3,4 @@ pub mod Least
 pub mod Estimates
 pub mod Choice
 pub mod Chosen
-pub mod Search
 pub mod Answers

@@ -7,7 +7,7 @@ use Prim.Native.Nat.{ℕ, _<_}
 use native.Mathlib.Omega.{arith}
 use lib.ListN.{length}
 use Rattle.basics.proofs.Laws.{allBelow-at, allBelow-all}
-use Rattle.refusals.specs.declared.Refusal.the-variants.{RoadLists, Seconds, NoTime, AllIdle}
+use Rattle.refusals.specs.declared.Refusal.the-variants.{AllIdle}
 use Rattle.roads.specs.declared.Opening.{Opening}
 use Rattle.roads.specs.declared.Opening.the-variants.{Crusher, Refused}
 use Rattle.roads.specs.Opening.{Road, roadAt, idle, numerator, denominator, badLists, secondsAbove, noTime, allIdle, leastRoad, openingOf, answerOf}
@@ -17,23 +17,23 @@ use Rattle.roads.proofs.Least.{LeastRoad, time-there, least-is, least-t
 abbrev number : Opening → ℕ
 number o = answerOf o .0
 
-differ : (p q : Opening) (x y : ℕ) → p ≡ q → number p ≡ x → number q ≡ y → (x ≡ y → ⊥) → ⊥
-differ p q x y e f g h = h (sym f ∙ ap number e ∙ g)
+apart : {A : Type 0} {p q : Opening} → p ≡ q → (number p ≡ number q → ⊥) → A
+apart e h = absurd (h (ap number e))
 
 -- the tests that lead to a crusher, and to 13
 at-road : (a b c d : Bool) (k j : ℕ) → answer a b c d k ≡ Crusher j → (d ≡ false) × (k ≡ j)
-at-road true b c d k j e = absurd (differ (Refused RoadLists) (Crusher j) 10 0 e refl refl (omega arith))
-at-road false true c d k j e = absurd (differ (Refused Seconds) (Crusher j) 11 0 e refl refl (omega arith))
-at-road false false true d k j e = absurd (differ (Refused NoTime) (Crusher j) 12 0 e refl refl (omega arith))
-at-road false false false true k j e = absurd (differ (Refused AllIdle) (Crusher j) 13 0 e refl refl (omega arith))
+at-road true b c d k j e = apart e (λ z. omega arith)
+at-road false true c d k j e = apart e (λ z. omega arith)
+at-road false false true d k j e = apart e (λ z. omega arith)
+at-road false false false true k j e = apart e (λ z. omega arith)
 at-road false false false false k j e = (refl, cc)
 
 at-13 : (a b c d : Bool) (k : ℕ) → answer a b c d k ≡ Refused AllIdle → (a ≡ false) × (b ≡ false) × (c ≡ false) × (d ≡ true)
-at-13 true b c d k e = absurd (differ (Refused RoadLists) (Refused AllIdle) 10 13 e refl refl (omega arith))
-at-13 false true c d k e = absurd (differ (Refused Seconds) (Refused AllIdle) 11 13 e refl refl (omega arith))
-at-13 false false true d k e = absurd (differ (Refused NoTime) (Refused AllIdle) 12 13 e refl refl (omega arith))
+at-13 true b c d k e = apart e (λ z. omega arith)
+at-13 false true c d k e = apart e (λ z. omega arith)
+at-13 false false true d k e = apart e (λ z. omega arith)
 at-13 false false false true k e = (refl, refl, refl, refl)
-at-13 false false false false k e = absurd (differ (Crusher k) (Refused AllIdle) 0 13 e refl refl (omega arith))
+at-13 false false false false k e = apart e (λ z. omega arith)
 
 numbers : (a b c d : Bool) (k : ℕ) → answerOf (answer a b c d k) ≡ cond a (10, []) (cond b (11, []) (cond c (12, []) (cond d (13, []) (0, k ∷ []))))
 numbers true b c d k = refl

@@ -1,6 +1,6 @@
 -- One product and one division of whole numbers, each rounded once: the product is exact, so the quotient is the exact fraction, rounded once.
 use mathlib.Core.Path.{_≡_, sym, ap, ap₂, _∙_, subst}
-use mathlib.Core.Bool.{Bool, true, false, cond, true≢false}
+use mathlib.Core.Bool.{Bool, false, cond}
 use Prim.Native.Nat.{ℕ, _*_, _^_, _≤_, _<_}
 use native.Mathlib.Nat.{le-of-lt, mul-one, mul-mul-mul-comm, mul-pos, mul-le-mul, zero-lt-suc}
 use native.Mathlib.Omega.{arith}
@@ -13,20 +13,7 @@ use lib.Ieee.Exact.{HasValue}
 use lib.Ieee.Scale.{round-same}
 use lib.Ieee.Back.{round-whole}
 use lib.Ieee.Positive.{positive-of-value}
-use Rattle.rounding.proofs.Values.{eq-values}
-
--- the product of a / c and b / d
-mul-value : (f : Format) (x y : Float) (a c b d : ℕ) → 0 < c → 0 < d → HasValue x false a c → HasValue y false b d → mul f x y ≡ round f false (a * b) (c * d)
-unfolding mul
-mul-value f nan y a c b d C D p q = absurd p
-mul-value f (inf s) y a c b d C D p q = absurd p
-mul-value f (fin true m e) y a c b d C D p q = absurd (true≢false (p .0))
-mul-value f (fin false m e) nan a c b d C D p q = absurd q
-mul-value f (fin false m e) (inf t) a c b d C D p q = absurd q
-mul-value f (fin false m e) (fin true n g) a c b d C D p q = absurd (true≢false (q .0))
-mul-value f (fin false m e) (fin false n g) a c b d C D p q =
-    round-same f false (m * up e * (n * up g)) (down e * down g) (a * b) (c * d) (mul-pos (down-pos e) (down-pos g)) (mul-pos C D)
-    (mul-mul-mul-comm (m * up e) (n * up g) c d ∙ ap₂ _*_ (p .1) (q .1) ∙ mul-mul-mul-comm a (down e) b (down g))
+use Rattle.rounding.proofs.Values.{of-finite, eq-values}
 
 -- x / y is a / c, and z / w is b / d, so their quotients are equal
 across : (x y z w a c b d : ℕ) → x * c ≡ a * y → z * d ≡ b * w → x * w * (b * c) ≡ a * d * (z * y)
@@ -35,20 +22,26 @@ across x y z w a c b d p q =
     let k : z * d * (a * y) ≡ b * w * (a * y) = ap (λ (k : ℕ). k * (a * y)) q in
     omega arith
 
--- the quotient of a / c by b / d
-div-value : (f : Format) (x y : Float) (a c b d : ℕ) → 0 < c → 0 < b → 0 < d → HasValue x false a c → HasValue y false b d → div f x y ≡ round f false (a * d) (b * c)
-unfolding div
-div-value f nan y a c b d C B D p q = absurd p
-div-value f (inf s) y a c b d C B D p q = absurd p
-div-value f (fin true m e) y a c b d C B D p q = absurd (true≢false (p .0))
-div-value f (fin false m e) nan a c b d C B D p q = absurd q
-div-value f (fin false m e) (inf t) a c b d C B D p q = absurd q
-div-value f (fin false m e) (fin true n g) a c b d C B D p q = absurd (true≢false (q .0))
-div-value f (fin false m e) (fin false n g) a c b d C B D p q =
-    let N : 0 < n = ltb→lt 0 n (positive-of-value (fin false n g) b d q B) in
-    ap (λ (t : Bool). cond t (cond (eqb m 0) nan (inf false)) (round f false (m * up e * down g) (n * up g * down e))) (ne-eqb n 0 (omega arith))
-    ∙ round-same f false (m * up e * down g) (n * up g * down e) (a * d) (b * c) (mul-pos (mul-pos N (up-pos g)) (down-pos e)) (mul-pos B C)
-    (across (m * up e) (down e) (n * up g) (down g) a c b d (p .1) (q .1))
+module _ (f : Format) (x y : Float) (a c b d : ℕ) (C : 0 < c) (D : 0 < d) (p : HasValue x false a c) (q : HasValue y false b d) where
+  -- the product of a / c and b / d
+  mul-value : mul f x y ≡ round f false (a * b) (c * d)
+  unfolding mul
+  mul-value =
+      of-finite (λ x y. mul f x y ≡ round f false (a * b) (c * d)) x y a c b d p q
+      (λ m n e g p q.
+      round-same f false (m * up e * (n * up g)) (down e * down g) (a * b) (c * d) (mul-pos (down-pos e) (down-pos g)) (mul-pos C D)
+      (mul-mul-mul-comm (m * up e) (n * up g) c d ∙ ap₂ _*_ (p .1) (q .1) ∙ mul-mul-mul-comm a (down e) b (down g)))
+
+  -- the quotient of a / c by b / d
+  div-value : 0 < b → div f x y ≡ round f false (a * d) (b * c)
+  unfolding div
+  div-value B =
+      of-finite (λ x y. div f x y ≡ round f false (a * d) (b * c)) x y a c b d p q
+      (λ m n e g p q.
+      let N : 0 < n = ltb→lt 0 n (positive-of-value (fin false n g) b d q B) in
+      ap (λ (t : Bool). cond t (cond (eqb m 0) nan (inf false)) (round f false (m * up e * down g) (n * up g * down e))) (ne-eqb n 0 (omega arith))
+      ∙ round-same f false (m * up e * down g) (n * up g * down e) (a * d) (b * c) (mul-pos (mul-pos N (up-pos g)) (down-pos e)) (mul-pos B C)
+      (across (m * up e) (down e) (n * up g) (down g) a c b d (p .1) (q .1)))
 
 -- ---- of whole numbers
 
@@ -81,5 +74,5 @@ pub quotient : (l m s : ℕ) → l < 2 ^ 16 → m < 2 ^ 16 → s < 2 ^ 16 → 0 
 quotient l m s L M S P =
     let h : l * s ≤ 2 ^ 16 * 2 ^ 16 = mul-le-mul (le-of-lt L) (le-of-lt S) in
     ap (λ (x : Float). div binary64 x (ofInt binary64 (pos m))) (product l s L S)
-    ∙ div-value binary64 (ofInt binary64 (pos (l * s))) (ofInt binary64 (pos m)) (l * s) 1 m 1 (zero-lt-suc 0) P (zero-lt-suc 0) (whole (l * s) (omega arith)) (whole m (omega arith))
+    ∙ div-value binary64 (ofInt binary64 (pos (l * s))) (ofInt binary64 (pos m)) (l * s) 1 m 1 (zero-lt-suc 0) (zero-lt-suc 0) (whole (l * s) (omega arith)) (whole m (omega arith)) P
     ∙ ap₂ (round binary64 false) (mul-one (l * s)) (mul-one m)

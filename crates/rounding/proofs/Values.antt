@@ -7,6 +7,7 @@ use native.Mathlib.Decide.{decLt, ℕ-discrete}
 use native.Mathlib.Omega.{arith}
 use borrow.Author.Tests.{lt-ltb, le-ltb, eq-eqb, ne-eqb}
 use lib.Dec.{ltb, eqb}
+use lib.IntN.{ℤ}
 use lib.Ieee.{Float, nan, inf, fin, up, down, lt, eq}
 use lib.Ieee.Fits.{down-pos}
 use lib.Ieee.Exact.{HasValue}
@@ -34,25 +35,28 @@ cross test scales p q r s g h l Q S L e f =
     ∙ ap₂ test (mul-right-comm p s l ∙ ap (λ (z : ℕ). z * s) e ∙ mul-assoc g q s) (mul-right-comm r q l ∙ ap (λ (z : ℕ). z * q) f ∙ mul-assoc h s q ∙ ap (λ (z : ℕ). h * z) (mul-comm s q))
     ∙ scales g h (q * s) (mul-pos Q S)
 
-pub lt-values : (x y : Float) (g h l : ℕ) → 0 < l → HasValue x false g l → HasValue y false h l → lt x y ≡ ltb g h
-unfolding lt
-lt-values nan y g h l L p q = absurd p
-lt-values (inf s) y g h l L p q = absurd p
-lt-values (fin true m e) y g h l L p q = absurd (true≢false (p .0))
-lt-values (fin false m e) nan g h l L p q = absurd q
-lt-values (fin false m e) (inf t) g h l L p q = absurd q
-lt-values (fin false m e) (fin true n d) g h l L p q = absurd (true≢false (q .0))
-lt-values (fin false m e) (fin false n d) g h l L p q =
-    cross ltb ltb-scales (m * up e) (down e) (n * up d) (down d) g h l (down-pos e) (down-pos d) L (p .1) (q .1)
+-- two floats with values that are not negative are finite, with the sign of such a value
+pub of-finite : (P : Float → Float → Type 0) (x y : Float) (a c b d : ℕ) → HasValue x false a c → HasValue y false b d
+    → ((m n : ℕ) (e g : ℤ) → HasValue (fin false m e) false a c → HasValue (fin false n g) false b d → P (fin false m e) (fin false n g)) → P x y
+of-finite P nan y a c b d p q h = absurd p
+of-finite P (inf s) y a c b d p q h = absurd p
+of-finite P (fin true m e) y a c b d p q h = absurd (true≢false (p .0))
+of-finite P (fin false m e) nan a c b d p q h = absurd q
+of-finite P (fin false m e) (inf t) a c b d p q h = absurd q
+of-finite P (fin false m e) (fin true n g) a c b d p q h = absurd (true≢false (q .0))
+of-finite P (fin false m e) (fin false n g) a c b d p q h = h m n e g p q
 
-pub eq-values : (x y : Float) (g h l : ℕ) → 0 < l → HasValue x false g l → HasValue y false h l → eq x y ≡ eqb g h
-unfolding eq
-eq-values nan y g h l L p q = absurd p
-eq-values (inf s) y g h l L p q = absurd p
-eq-values (fin true m e) y g h l L p q = absurd (true≢false (p .0))
-eq-values (fin false m e) nan g h l L p q = absurd q
-eq-values (fin false m e) (inf t) g h l L p q = absurd q
-eq-values (fin false m e) (fin true n d) g h l L p q = absurd (true≢false (q .0))
-eq-values (fin false m e) (fin false n d) g h l L p q =
-    and-true (eqb (m * up e * down d) (n * up d * down e))
-    ∙ cross eqb eqb-scales (m * up e) (down e) (n * up d) (down d) g h l (down-pos e) (down-pos d) L (p .1) (q .1)
+module _ (x y : Float) (g h l : ℕ) (L : 0 < l) (p : HasValue x false g l) (q : HasValue y false h l) where
+  pub lt-values : lt x y ≡ ltb g h
+  unfolding lt
+  lt-values =
+      of-finite (λ x y. lt x y ≡ ltb g h) x y g l h l p q
+      (λ m n e d p q. cross ltb ltb-scales (m * up e) (down e) (n * up d) (down d) g h l (down-pos e) (down-pos d) L (p .1) (q .1))
+
+  pub eq-values : eq x y ≡ eqb g h
+  unfolding eq
+  eq-values =
+      of-finite (λ x y. eq x y ≡ eqb g h) x y g l h l p q
+      (λ m n e d p q.
+      and-true (eqb (m * up e * down d) (n * up d * down e))
+      ∙ cross eqb eqb-scales (m * up e) (down e) (n * up d) (down d) g h l (down-pos e) (down-pos d) L (p .1) (q .1))

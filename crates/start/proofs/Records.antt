@@ -1,17 +1,17 @@
 -- Fleet records: a fleet that opens, and what refusal 7 asks.
-use mathlib.Core.Path.{_≡_, ap, sym, _∙_}
+use mathlib.Core.Path.{_≡_, sym, _∙_, refl}
 use mathlib.Core.Bool.{true, false}
 use mathlib.Core.List.{List, []}
 use Prim.Native.Nat.{ℕ, _+_, _≤_, _<_}
 use native.Mathlib.Decide.{decLt}
 use native.Mathlib.Omega.{arith}
-use native.Mathlib.Numerals.{add-one}
 use borrow.Author.Tests.{le-leb, lt-leb}
-use lib.ListN.{length, getD, set, List·getD-eq-default}
+use lib.ListN.{length, getD, set}
 use lib.Seq.{ext-getD}
 use Rattle.basics.specs.Lists.{filled, allBelow}
-use Rattle.basics.proofs.Laws.{length-tab, getD-tab, length-filled, getD-filled, getD-filled-past, filled-none, filled-more}
+use Rattle.basics.proofs.Laws.{length-filled, getD-filled, getD-filled-past, filled-none, fill-step}
 use Rattle.recording.specs.Checks.{badTrucks}
+use Rattle.protocol.proofs.Opened.{length-opened, truck-opened, truck-unopened}
 use Rattle.protocol.specs.declared.Truck.{Truck}
 use Rattle.protocol.specs.declared.Fleet.{Fleet}
 use Rattle.protocol.specs.Rules.{opened, truck}
@@ -20,18 +20,10 @@ use Rattle.protocol.specs.Runs.{openedTrucks, trucksAt}
 use Rattle.protocol.specs.Fleets.{blank, goodTruck, goodFleet}
 use Rattle.start.specs.Opens.{openFleet}
 
-length-opened : (openings : List ℕ) → length (openedTrucks openings) ≡ 32
-unfolding openedTrucks
-length-opened openings = length-tab (λ i. opened (getD openings i 0)) 32
-
 -- a run before round 1
 pub length-start : (n : ℕ) (openings : List ℕ) (rounds : ℕ → List ℕ) → length (trucksAt n openings rounds 0) ≡ 32
 unfolding trucksAt stateAt
 length-start n openings rounds = length-opened openings
-
-truck-opened : (openings : List ℕ) (i : ℕ) → i < 32 → truck (openedTrucks openings) i ≡ opened (getD openings i 0)
-unfolding openedTrucks
-truck-opened openings i l = getD-tab (λ i. opened (getD openings i 0)) 32 i (opened 0) l
 
 module _ (openings : List ℕ) where
   abbrev each : ℕ → Truck
@@ -52,8 +44,8 @@ module _ (openings : List ℕ) where
       go i h (yes o) = getD-filled each m (openedTrucks []) i (opened 0) o ∙ sym (truck-opened openings i h)
       go i h (no o) =
           getD-filled-past each m (openedTrucks []) i (opened 0) (omega arith)
-          ∙ truck-opened [] i h
-          ∙ sym (truck-opened openings i h ∙ ap opened (List·getD-eq-default openings 0 (let z : length openings ≤ i = omega arith in z)))
+          ∙ truck-unopened [] i (omega arith)
+          ∙ sym (truck-unopened openings i (omega arith))
 
 -- a fleet of which i trucks have opened
 abbrev pub openingFleet : ℕ → List ℕ → ℕ → Fleet
@@ -66,7 +58,7 @@ module _ (n : ℕ) (openings : List ℕ) where
 
   pub open-more : (f : Fleet) (i : ℕ) (t : Truck) → f ≡ openingFleet n openings i → t ≡ each openings i → i < 32
       → record { n = f .n; done = f .done; trucks = set (f .trucks) i t } ≡ openingFleet n openings (i + 1)
-  open-more f i t e h l = rw (e, add-one i, filled-more (each openings) i (openedTrucks []) t (omega (arith, length-opened [])) h)
+  open-more f i t e h l = rw (e, fill-step (each openings) (openedTrucks []) (opening openings i) i refl t (omega (arith, length-opened [])) h)
 
   pub open-done : (f : Fleet) (i : ℕ) → f ≡ openingFleet n openings i → i ≡ length openings → length openings ≤ 32 → f ≡ openFleet n openings
   open-done f i e h l = e ∙ rw (opened-filled openings i (sym h) (omega arith))

@@ -10,49 +10,44 @@ use borrow.Author.Tests.{eq-eqb, ne-eqb}
 use lib.Dec.{eqb, lit<}
 use lib.Bits.{bitAnd, bitOr, bitXor, differ, and-step, or-step, xor-step, and-shr, or-shr, xor-shr, xor-add-and, and-le-r}
 use lib.Count.{ones, ones-cat, ones-ones, trailingZeros, under}
-use lib.Pow.{pow-pos, pow-mono, pow-lt, pow-add, split, high, field, mod-mod-pow}
+use lib.Pow.{pow-pos, pow-mono, pow-lt, pow-add, split, high}
 use lib.ListN.{length, length-append}
 use Rattle.basics.specs.Bits.{digit, bit}
 use Rattle.basics.specs.Lists.{who}
 use Rattle.air.proofs.Laws.{who-ext}
+use Rattle.bitreader.proofs.Digits.{digit-lt, digit-mod, same-digits}
+
+-- two binary digits
+digits : (P : ℕ → ℕ → Type 0) → P 0 0 → P 0 1 → P 1 0 → P 1 1 → (x y : ℕ) → x < 2 → y < 2 → P x y
+digits P a b c d zero zero p q = a
+digits P a b c d zero (suc zero) p q = b
+digits P a b c d (suc zero) zero p q = c
+digits P a b c d (suc zero) (suc zero) p q = d
+digits P a b c d zero (suc (suc y)) p q = absurd (omega arith)
+digits P a b c d (suc zero) (suc (suc y)) p q = absurd (omega arith)
+digits P a b c d (suc (suc x)) y p q = absurd (omega arith)
 
 -- an operation that works digit by digit works bit by bit
-module _ (op f : ℕ → ℕ → ℕ) (g : Bool → Bool → Bool)
-    (shr : (a b k : ℕ) → op a b / 2 ^ k ≡ op (a / 2 ^ k) (b / 2 ^ k))
-    (step : (a b : ℕ) → op a b ≡ op (a / 2) (b / 2) * 2 + f (a % 2) (b % 2))
-    (one : (x y : ℕ) → x < 2 → y < 2 → (f x y < 2) × (eqb (f x y) 1 ≡ g (eqb x 1) (eqb y 1))) where
-  bit-op : (a b j : ℕ) → bit (op a b) j ≡ g (bit a j) (bit b j)
-  bit-op a b j =
+module _ (op f : ℕ → ℕ → ℕ) (g : Bool → Bool → Bool) where
+  -- of one digit
+  abbrev One : ℕ → ℕ → Type 0
+  One x y = (f x y < 2) × (eqb (f x y) 1 ≡ g (eqb x 1) (eqb y 1))
+
+  bit-op : ((a b k : ℕ) → op a b / 2 ^ k ≡ op (a / 2 ^ k) (b / 2 ^ k)) → ((a b : ℕ) → op a b ≡ op (a / 2) (b / 2) * 2 + f (a % 2) (b % 2))
+      → One 0 0 → One 0 1 → One 1 0 → One 1 1 → (a b j : ℕ) → bit (op a b) j ≡ g (bit a j) (bit b j)
+  bit-op shr step zz zo oz oo a b j =
       let x : ℕ = a / 2 ^ j in
       let y : ℕ = b / 2 ^ j in
-      let p = one (x % 2) (y % 2) (mod-lt x (lit< tt)) (mod-lt y (lit< tt)) in
+      let p = digits One zz zo oz oo (x % 2) (y % 2) (mod-lt x (lit< tt)) (mod-lt y (lit< tt)) in
       ap (λ (d : ℕ). eqb (d % 2) 1) (shr a b j ∙ step x y)
       ∙ ap (λ (d : ℕ). eqb d 1) (let e : (op (x / 2) (y / 2) * 2 + f (x % 2) (y % 2)) % 2 ≡ f (x % 2) (y % 2) = omega (arith, p .0) in e)
       ∙ p .1
 
 pub bit-and : (a b j : ℕ) → bit (bitAnd a b) j ≡ (bit a j && bit b j)
-bit-and = bit-op bitAnd min _&&_ and-shr and-step one
-  where
-    one : (x y : ℕ) → x < 2 → y < 2 → (min x y < 2) × (eqb (min x y) 1 ≡ (eqb x 1 && eqb y 1))
-    one zero zero p q = (lit< tt, refl)
-    one zero (suc zero) p q = (lit< tt, refl)
-    one zero (suc (suc y)) p q = absurd (omega arith)
-    one (suc zero) zero p q = (lit< tt, refl)
-    one (suc zero) (suc zero) p q = (lit< tt, refl)
-    one (suc zero) (suc (suc y)) p q = absurd (omega arith)
-    one (suc (suc x)) y p q = absurd (omega arith)
+bit-and = bit-op bitAnd min _&&_ and-shr and-step (lit< tt, refl) (lit< tt, refl) (lit< tt, refl) (lit< tt, refl)
 
 pub bit-or : (a b j : ℕ) → bit (bitOr a b) j ≡ (bit a j || bit b j)
-bit-or = bit-op bitOr max _||_ or-shr or-step one
-  where
-    one : (x y : ℕ) → x < 2 → y < 2 → (max x y < 2) × (eqb (max x y) 1 ≡ (eqb x 1 || eqb y 1))
-    one zero zero p q = (lit< tt, refl)
-    one zero (suc zero) p q = (lit< tt, refl)
-    one zero (suc (suc y)) p q = absurd (omega arith)
-    one (suc zero) zero p q = (lit< tt, refl)
-    one (suc zero) (suc zero) p q = (lit< tt, refl)
-    one (suc zero) (suc (suc y)) p q = absurd (omega arith)
-    one (suc (suc x)) y p q = absurd (omega arith)
+bit-or = bit-op bitOr max _||_ or-shr or-step (lit< tt, refl) (lit< tt, refl) (lit< tt, refl) (lit< tt, refl)
 
 -- exactly one of the two
 abbrev pub oneOf : Bool → Bool → Bool
@@ -60,16 +55,7 @@ oneOf true b = not b
 oneOf false b = b
 
 pub bit-xor : (a b j : ℕ) → bit (bitXor a b) j ≡ oneOf (bit a j) (bit b j)
-bit-xor = bit-op bitXor differ oneOf xor-shr xor-step one
-  where
-    one : (x y : ℕ) → x < 2 → y < 2 → (differ x y < 2) × (eqb (differ x y) 1 ≡ oneOf (eqb x 1) (eqb y 1))
-    one zero zero p q = (lit< tt, refl)
-    one zero (suc zero) p q = (lit< tt, refl)
-    one zero (suc (suc y)) p q = absurd (omega arith)
-    one (suc zero) zero p q = (lit< tt, refl)
-    one (suc zero) (suc zero) p q = (lit< tt, refl)
-    one (suc zero) (suc (suc y)) p q = absurd (omega arith)
-    one (suc (suc x)) y p q = absurd (omega arith)
+bit-xor = bit-op bitXor differ oneOf xor-shr xor-step (lit< tt, refl) (lit< tt, refl) (lit< tt, refl) (lit< tt, refl)
 
 -- the members of a that b lacks
 pub bit-without : (a b j : ℕ) → bit (bitXor a (bitAnd a b)) j ≡ (bit a j && not (bit b j))
@@ -100,35 +86,13 @@ bit-power i j = go (decLt i j) (decLt j i)
         let s : i ≡ j = omega arith in
         eq-eqb (digit (2 ^ i) j) 1 (ap (λ (x : ℕ). 2 ^ x / 2 ^ j % 2) s ∙ ap (λ (x : ℕ). x % 2) (div-self (pow-pos j))) ∙ sym (eq-eqb i j s)
 
--- numbers below 2 to the k are their bits
-low-digit : (w k : ℕ) → w < 2 ^ suc k → (w % 2 ^ k < 2 ^ k) × (w ≡ digit w k * 2 ^ k + w % 2 ^ k)
-low-digit w k h =
-    let q : w / 2 ^ k < 2 = div-lt-iff-lt-mul (pow-pos k) .1 (let s : w < 2 * 2 ^ k = omega (arith, pow-suc 2 k) in s) in
-    (mod-lt w (pow-pos k), sym (split w k) ∙ ap (λ (d : ℕ). d * 2 ^ k + w % 2 ^ k) (sym (mod-eq-of-lt q)))
-
-pub bit-mod : (w k j : ℕ) → j < k → bit (w % 2 ^ k) j ≡ bit w j
-bit-mod w k j h =
-    let d : ℕ = k - j - 1 in
-    ap (λ (x : ℕ). eqb (w % 2 ^ x / 2 ^ j % 2) 1) (let e : k ≡ d + 1 + j = omega arith in e)
-    ∙ ap (λ (x : ℕ). eqb (x % 2) 1) (field w (d + 1) j)
-    ∙ ap (λ (x : ℕ). eqb x 1) (mod-mod-pow (w / 2 ^ j) d 1)
-
 eqb-digit : (x y : ℕ) → x < 2 → y < 2 → eqb x 1 ≡ eqb y 1 → x ≡ y
-eqb-digit zero zero p q e = refl
-eqb-digit zero (suc zero) p q e = absurd (false≢true e)
-eqb-digit zero (suc (suc y)) p q e = absurd (omega arith)
-eqb-digit (suc zero) zero p q e = absurd (true≢false e)
-eqb-digit (suc zero) (suc zero) p q e = refl
-eqb-digit (suc zero) (suc (suc y)) p q e = absurd (omega arith)
-eqb-digit (suc (suc x)) y p q e = absurd (omega arith)
+eqb-digit =
+    digits (λ x y. eqb x 1 ≡ eqb y 1 → x ≡ y) (λ e. refl) (λ e. absurd (false≢true e)) (λ e. absurd (true≢false e)) (λ e. refl)
 
+-- numbers below 2 to the k are their bits
 pub same-bits : (v w k : ℕ) → v < 2 ^ k → w < 2 ^ k → ((j : ℕ) → j < k → bit v j ≡ bit w j) → v ≡ w
-same-bits v w zero p q h = omega arith
-same-bits v w (suc k) p q h =
-    low-digit v k p .1
-    ∙ ap₂ (λ (d r : ℕ). d * 2 ^ k + r) (eqb-digit (digit v k) (digit w k) (mod-lt (v / 2 ^ k) (lit< tt)) (mod-lt (w / 2 ^ k) (lit< tt)) (h k (omega arith)))
-    (same-bits (v % 2 ^ k) (w % 2 ^ k) k (mod-lt v (pow-pos k)) (mod-lt w (pow-pos k)) (λ j l. bit-mod v k j l ∙ h j (omega arith) ∙ sym (bit-mod w k j l)))
-    ∙ sym (low-digit w k q .1)
+same-bits v w k p q h = same-digits v w k p q (λ j l. eqb-digit (digit v j) (digit w j) (digit-lt v j) (digit-lt w j) (h j l))
 
 pub bit-zero : (j : ℕ) → bit 0 j ≡ false
 bit-zero j = bit-high 0 0 j (lit< tt) (omega arith)
@@ -185,6 +149,16 @@ and-power w i h =
 pub removed-lt : (w i : ℕ) → bit w i ≡ true → bitXor w (2 ^ i) < w
 removed-lt w i h = omega (arith, xor-add-and w (2 ^ i), and-power w i h, pow-pos i)
 
+-- the bits below the k-th
+pub bit-mod : (w k j : ℕ) → j < k → bit (w % 2 ^ k) j ≡ bit w j
+bit-mod w k j h = ap (λ (d : ℕ). eqb d 1) (digit-mod w k j h)
+
+-- the digit worth most, and the rest
+low-digit : (w k : ℕ) → w < 2 ^ suc k → (w % 2 ^ k < 2 ^ k) × (w ≡ digit w k * 2 ^ k + w % 2 ^ k)
+low-digit w k h =
+    let q : w / 2 ^ k < 2 = div-lt-iff-lt-mul (pow-pos k) .1 (let s : w < 2 * 2 ^ k = omega (arith, pow-suc 2 k) in s) in
+    (mod-lt w (pow-pos k), sym (split w k) ∙ ap (λ (d : ℕ). d * 2 ^ k + w % 2 ^ k) (sym (mod-eq-of-lt q)))
+
 -- how many members a word has
 pub ones-count : (w k : ℕ) → w < 2 ^ k → ones w ≡ length (who (bit w) k)
 unfolding who
@@ -194,7 +168,7 @@ ones-count w (suc k) h =
     ap ones (d .1)
     ∙ ones-cat k (digit w k) (w % 2 ^ k) (d .0)
     ∙ ap₂ (λ (x y : ℕ). x + y) (top (digit w k) (mod-lt (w / 2 ^ k) (lit< tt)))
-    (ones-count (w % 2 ^ k) k (d .0) ∙ ap length (who-ext (bit (w % 2 ^ k)) (bit w) k (λ j l. bit-mod w k j l)))
+    (ones-count (w % 2 ^ k) k (d .0) ∙ ap length (who-ext (bit (w % 2 ^ k)) (bit w) k (bit-mod w k)))
     ∙ add-comm (length (cond (bit w k) (k ∷ []) [])) (length (who (bit w) k))
     ∙ sym (length-append (who (bit w) k) (cond (bit w k) (k ∷ []) []))
   where

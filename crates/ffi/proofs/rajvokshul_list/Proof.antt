@@ -1,13 +1,8 @@
+-- `rajvokshul_list` meets its contract: a law for each return.
 use borrow.Author.Needs.{needs}
 use Rattle.ffi.proofs.Answers.{list-0, list-refused}
 use Rattle.ffi.proofs.rajvokshul_list.Statement.{statement}
 use Rattle.ffi.proofs.rajvokshul_list.Tie as tie
-
-returns : tie.Need-returns
-returns c = search list-0
-
-returns-2 : tie.Need-returns-2
-returns-2 c = search list-refused
 
 pub rajvokshul-list-spec : {M : Type 1} → statement M
 rajvokshul-list-spec =
@@ -18,6 +13,6 @@ rajvokshul-list-spec =
     (λ c. search needs)
     (λ c κs. search needs)
     (λ c. search needs)
-    returns
+    (λ c. search list-0)
     (λ c. search needs)
-    returns-2)
+    (λ c. search list-refused))

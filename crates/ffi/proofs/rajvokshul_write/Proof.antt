@@ -1,13 +1,8 @@
+-- `rajvokshul_write` meets its contract: a law for each return.
 use borrow.Author.Needs.{needs}
 use Rattle.ffi.proofs.Answers.{write-0, write-refused}
 use Rattle.ffi.proofs.rajvokshul_write.Statement.{statement}
 use Rattle.ffi.proofs.rajvokshul_write.Tie as tie
-
-returns : tie.Need-returns
-returns c = search write-0
-
-returns-2 : tie.Need-returns-2
-returns-2 c = search write-refused
 
 pub rajvokshul-write-spec : {M : Type 1} → statement M
 rajvokshul-write-spec =
@@ -20,6 +15,6 @@ rajvokshul-write-spec =
     (λ c. search needs)
     (λ c κs. search needs)
     (λ c. search needs)
-    returns
+    (λ c. search write-0)
     (λ c. search needs)
-    returns-2)
+    (λ c. search write-refused))

@@ -1,13 +1,8 @@
+-- `store` meets its contract: a law for each return.
 use borrow.Author.Needs.{needs}
 use Rattle.ffi.proofs.Records.{store-refused, store-0}
 use Rattle.ffi.proofs.store.Statement.{statement}
 use Rattle.ffi.proofs.store.Tie as tie
-
-returns : tie.Need-returns
-returns c = search store-refused
-
-returns-2 : tie.Need-returns-2
-returns-2 c = search store-0
 
 pub store-spec : {M : Type 1} → statement M
 store-spec =
@@ -18,6 +13,6 @@ store-spec =
     (λ c. search needs)
     (λ c κs. search needs)
     (λ c κs. search needs)
-    returns
+    (λ c. search store-refused)
     (λ c. search needs)
-    returns-2)
+    (λ c. search store-0))

@@ -23,98 +23,20 @@ abbrev put-number-below : ℕ → In 1 put-number-kinds.ps
 put-number-below t =
     and 1 put-number-kinds.ps (falls 1 put-number-kinds.ps _<_ μ-put-number t) put-number.Pre
 
-put-number-cast-digit : (t : ℕ) → put-number-lts.Need-cast-digit (
-  put-byte-reads.Asked,
-  put-byte-reads.Learnt,
-  put-number-below t,
-  put-number.Post,
-) (put-number-at t) put-number.Post
-put-number-cast-digit t c = search needs
-
-put-number-add-digit : (t : ℕ) → put-number-lts.Need-add-digit (
-  put-byte-reads.Asked,
-  put-byte-reads.Learnt,
-  put-number-below t,
-  put-number.Post,
-) (put-number-at t) put-number.Post
-put-number-add-digit t c = search needs
-
-put-number-put-byte-requires : (t : ℕ) → put-number-lts.Need-put-byte-requires (
-  put-byte-reads.Asked,
-  put-byte-reads.Learnt,
-  put-number-below t,
-  put-number.Post,
-) (put-number-at t) put-number.Post
-put-number-put-byte-requires t c κs = search needs
-
-put-number-put-number-requires : (t : ℕ) → put-number-lts.Need-put-number-requires (
-  put-byte-reads.Asked,
-  put-byte-reads.Learnt,
-  put-number-below t,
-  put-number.Post,
-) (put-number-at t) put-number.Post
-put-number-put-number-requires t c κs = search needs
-
-put-number-put-byte-requires-2 : (t : ℕ) → put-number-lts.Need-put-byte-requires-2 (
-  put-byte-reads.Asked,
-  put-byte-reads.Learnt,
-  put-number-below t,
-  put-number.Post,
-) (put-number-at t) put-number.Post
-put-number-put-byte-requires-2 t c κs =
-    let s = c .before .before .before .before .before .before .before in
-    omega (arith, length-tenth (s .args .k) (s .fits .k .fits), c .before .before .before .put-number .ensures .0 .next, s .pre)
-
-put-number-same-length : (t : ℕ) → put-number-lts.Need-same-length (
-  put-byte-reads.Asked,
-  put-byte-reads.Learnt,
-  put-number-below t,
-  put-number.Post,
-) (put-number-at t) put-number.Post
-put-number-same-length t c = search needs
-
-put-number-returns : (t : ℕ) → put-number-lts.Need-returns (
-  put-byte-reads.Asked,
-  put-byte-reads.Learnt,
-  put-number-below t,
-  put-number.Post,
-) (put-number-at t) put-number.Post
-put-number-returns t c =
-    put-last (c .before .before .before .before .before .before .args .k) (omega arith) (c .before .before .put-byte .ensures)
-
-put-number-same-length-2 : (t : ℕ) → put-number-lts.Need-same-length-2 (
-  put-byte-reads.Asked,
-  put-byte-reads.Learnt,
-  put-number-below t,
-  put-number.Post,
-) (put-number-at t) put-number.Post
-put-number-same-length-2 t c = search needs
-
-put-number-returns-2 : (t : ℕ) → put-number-lts.Need-returns-2 (
-  put-byte-reads.Asked,
-  put-byte-reads.Learnt,
-  put-number-below t,
-  put-number.Post,
-) (put-number-at t) put-number.Post
-put-number-returns-2 t c =
-    let s = c .before .before .before .before .before .before .before .before .before .before in
-    put-digits (s .args .k) (omega arith) (s .fits .k .fits) (c .before .before .before .before .before .before .put-number .ensures .0) (c .before .before .put-byte2 .ensures)
-
 pub +put-number-spec : {M : Type 1} → statement M
-+put-number-spec = close μ-put-number λ t. put-number-lts.spec (
-  put-byte-reads.Asked,
-  put-byte-reads.Learnt,
-  put-number-below t,
-  put-number.Post,
-)
-    (put-number-at t)
-    put-number.Post
-    (put-number-cast-digit t)
-    (put-number-add-digit t)
-    (put-number-put-byte-requires t)
-    (put-number-put-number-requires t)
-    (put-number-put-byte-requires-2 t)
-    (put-number-same-length t)
-    (put-number-returns t)
-    (put-number-same-length-2 t)
-    (put-number-returns-2 t)
++put-number-spec = close μ-put-number λ t.
+    put-number-lts.spec (put-byte-reads.Asked, put-byte-reads.Learnt, put-number-below t, put-number.Post) (put-number-at t) put-number.Post
+    (λ c. search needs)
+    (λ c. search needs)
+    (λ c κs. search needs)
+    (λ c κs. search needs)
+    (λ c κs.
+    let s = c .before .before .before .before .before .before .before in
+    omega (arith, length-tenth (s .args .k) (s .fits .k .fits), c .before .before .before .put-number .ensures .0 .next, s .pre))
+    (λ c. search needs)
+    (λ c. put-last (c .before .before .before .before .before .before .args .k) (omega arith) (c .before .before .put-byte .ensures))
+    (λ c. search needs)
+    (λ c.
+    let tens = c .before .before .before .before .before .before in
+    let s = tens .before .before .before .before in
+    put-digits (s .args .k) (omega arith) (s .fits .k .fits) (tens .put-number .ensures .0) (c .before .before .put-byte2 .ensures))

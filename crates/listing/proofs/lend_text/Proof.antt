@@ -5,12 +5,6 @@ use borrow.Author.Needs.{needs}
 use Rattle.listing.proofs.lend_text.Statement.{statement}
 use Rattle.listing.proofs.lend_text.Tie as tie
 
-put-requires : tie.Need-put-requires
-put-requires c κs = search needs
-
-same-length : tie.Need-same-length
-same-length c = search needs
-
 returns : tie.Need-returns
 returns c =
     let a = c .before .before .before .before .before .before .before .args in
@@ -22,4 +16,4 @@ returns-2 c =
     not-lent (now (a .buf)) (now (a .t)) (c .if1 .left)
 
 pub lend-text-spec : {M : Type 1} → statement M
-lend-text-spec = tie.close (tie.spec put-requires same-length returns returns-2)
+lend-text-spec = tie.close (tie.spec (λ c κs. search needs) (λ c. search needs) returns returns-2)

@@ -1,10 +1,8 @@
+-- `damaged_at` meets its contract.
 use borrow.Author.Needs.{needs}
 use Rattle.record.proofs.Laws.{damaged-is}
 use Rattle.record.proofs.damaged_at.Statement.{statement}
 use Rattle.record.proofs.damaged_at.Tie as tie
-
-returns : tie.Need-returns
-returns c = search damaged-is
 
 pub damaged-at-spec : {M : Type 1} → statement M
 damaged-at-spec =
@@ -14,4 +12,4 @@ damaged-at-spec =
     (λ c κs. search needs)
     (λ c κs. search needs)
     (λ c κs. search needs)
-    returns)
+    (λ c. search damaged-is))

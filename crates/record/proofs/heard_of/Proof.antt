@@ -1,16 +1,7 @@
-use mathlib.Core.Path.{refl}
-use borrow.Author.Tests.{eq-eqb, ne-eqb}
+-- `heard_of` meets its contract.
+use Rattle.record.proofs.Laws.{byte-1, byte-2, byte-0}
 use Rattle.record.proofs.heard_of.Statement.{statement}
 use Rattle.record.proofs.heard_of.Tie as tie
 
-returns : tie.Need-returns
-returns c = simp (eq-eqb _ _ (c .if1 .taken)) refl
-
-returns-2 : tie.Need-returns-2
-returns-2 c = simp (ne-eqb _ _ (c .before .if1 .left), eq-eqb _ _ (c .if2 .taken)) refl
-
-returns-3 : tie.Need-returns-3
-returns-3 c = simp (ne-eqb _ _ (c .before .if1 .left), ne-eqb _ _ (c .if2 .left)) refl
-
 pub heard-of-spec : {M : Type 1} → statement M
-heard-of-spec = tie.close (tie.spec returns returns-2 returns-3)
+heard-of-spec = tie.close (tie.spec (λ c. search byte-1) (λ c. search byte-2) (λ c. search byte-0))

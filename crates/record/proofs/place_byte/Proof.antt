@@ -1,3 +1,4 @@
+-- `place_byte` meets its contract.
 use mathlib.Core.Path.{refl}
 use borrow.Author.Needs.{needs}
 use Rattle.record.specs.Layout.{placeByte}

@@ -1,12 +1,10 @@
+-- `put_truck` meets its contract.
 use native.Mathlib.Omega.{arith}
 use lib.ListN.{length-set}
 use borrow.Author.Needs.{needs}
 use Rattle.record.proofs.Laws.{truck-put}
 use Rattle.record.proofs.put_truck.Statement.{statement}
 use Rattle.record.proofs.put_truck.Tie as tie
-
-returns : tie.Need-returns
-returns c = search truck-put
 
 pub put-truck-spec : {M : Type 1} → statement M
 put-truck-spec =
@@ -32,4 +30,4 @@ put-truck-spec =
     (λ c. search needs)
     (λ c. simp length-set (omega arith))
     (λ c. simp length-set)
-    returns)
+    (λ c. search truck-put))

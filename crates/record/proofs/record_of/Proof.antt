@@ -1,10 +1,8 @@
+-- `record_of` meets its contract.
 use borrow.Author.Needs.{needs}
 use Rattle.record.proofs.Laws.{record-is}
 use Rattle.record.proofs.record_of.Statement.{statement}
 use Rattle.record.proofs.record_of.Tie as tie
-
-returns : tie.Need-returns
-returns c = search record-is
 
 pub record-of-spec : {M : Type 1} → statement M
 record-of-spec =
@@ -15,4 +13,4 @@ record-of-spec =
     (λ c. search needs)
     (λ c. search needs)
     (λ c κs. search needs)
-    returns)
+    (λ c. search record-is))

@@ -5,7 +5,7 @@ use Prim.Native.Nat.{ℕ, _-_, _≤_, _<_}
 use native.Mathlib.Omega.{arith}
 use borrow.Author.Needs.{needs}
 use borrow.Author.Count.{below-none, below-more}
-use Rattle.basics.proofs.Laws.{someBelow-by, none-someBelow}
+use Rattle.basics.proofs.Laws.{some-hit, some-end}
 use Rattle.record.specs.Layout.{damagedAt}
 use Rattle.record.proofs.some_damaged.Statement.{statement}
 use Rattle.record.proofs.some_damaged.Tie as tie
@@ -21,8 +21,9 @@ loop-holds c = (omega arith, below-none (λ k. damagedAt (c .before .args .d .no
 
 returns : tie.Need-returns Inv-loop μ-loop
 returns c =
-    let p = damagedAt (c .before .before .before .before .before .args .d .now) in
-    sym (someBelow-by p (c .before .before .before .before .before .args .n) (c .before .before .before .loop .i) (c .before .before .loop-test .taken) (sym (c .before .damaged-at .ensures) ∙ c .if1 .taken))
+    let loop = c .before .before .before in
+    let a = loop .before .before .args in
+    some-hit (damagedAt (a .d .now)) (a .n) (loop .loop .i) (c .before .before .loop-test .taken) (sym (c .before .damaged-at .ensures) ∙ c .if1 .taken)
 
 loop-again : tie.Need-loop-again Inv-loop μ-loop
 loop-again c = (search needs, below-more _ _ (c .before .before .before .loop .inv .1) (sym (c .before .damaged-at .ensures) ∙ c .if1 .left))
@@ -30,7 +31,7 @@ loop-again c = (search needs, below-more _ _ (c .before .before .before .loop .i
 returns-2 : tie.Need-returns-2 Inv-loop μ-loop
 returns-2 c =
     let a = c .before .before .before .args in
-    sym (none-someBelow (damagedAt (a .d .now)) (a .n) (λ k e. c .before .loop .inv .1 k (omega arith)))
+    some-end (damagedAt (a .d .now)) (a .n) (c .before .loop .i) (c .loop-test .left) (c .before .loop .inv .1)
 
 pub some-damaged-spec : {M : Type 1} → statement M
 some-damaged-spec =

@@ -1,10 +1,8 @@
+-- `truck_at` meets its contract.
 use borrow.Author.Needs.{needs}
 use Rattle.record.proofs.Laws.{truck-is}
 use Rattle.record.proofs.truck_at.Statement.{statement}
 use Rattle.record.proofs.truck_at.Tie as tie
-
-returns : tie.Need-returns
-returns c = search truck-is
 
 pub truck-at-spec : {M : Type 1} → statement M
 truck-at-spec =
@@ -18,4 +16,4 @@ truck-at-spec =
     (λ c κs. search needs)
     (λ c κs. search needs)
     (λ c κs. search needs)
-    returns)
+    (λ c. search truck-is))

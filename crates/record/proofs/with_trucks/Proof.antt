@@ -1,13 +1,15 @@
+-- `with_trucks` meets its contract. The invariant: the places passed are filled.
 use mathlib.Core.Path.{_≡_, ap, sym, _∙_}
 use mathlib.Core.List.{[]}
 use Prim.Native.Nat.{ℕ, _-_, _≤_}
 use native.Mathlib.Omega.{arith}
 use borrow.Author.Needs.{needs}
-use Rattle.basics.proofs.Laws.{filled-none}
+use Rattle.basics.proofs.Laws.{filled-none, fill-step}
 use Rattle.basics.specs.Lists.{filled}
 use Rattle.protocol.specs.declared.Fleet.{Fleet}
 use Rattle.protocol.specs.Runs.{openedTrucks}
-use Rattle.record.proofs.Laws.{blank-trucks, places, fill-step}
+use Rattle.protocol.proofs.Opened.{length-opened}
+use Rattle.record.proofs.Laws.{blank-trucks}
 use Rattle.record.specs.Layout.{truckAt}
 use Rattle.record.proofs.with_trucks.Statement.{statement}
 use Rattle.record.proofs.with_trucks.Tie as tie
@@ -25,7 +27,7 @@ loop-again : tie.Need-loop-again Inv-loop μ-loop
 loop-again c =
     let a = c .before .before .before .before .before .args in
     let l = c .before .before .loop in
-    (omega arith, fill-step (truckAt (a .d .now)) (openedTrucks []) (l .f .trucks) (l .i) (l .inv .1) (c .truck-at .result) (omega (arith, places)) (c .truck-at .ensures))
+    (omega arith, fill-step (truckAt (a .d .now)) (openedTrucks []) (l .f .trucks) (l .i) (l .inv .1) (c .truck-at .result) (omega (arith, length-opened [])) (c .truck-at .ensures))
 
 returns : tie.Need-returns Inv-loop μ-loop
 returns c =

@@ -10,7 +10,7 @@ use denote.Ref.{now}
 use borrow.Author.Needs.{needs}
 use borrow.Author.Tests.{lt-ltb, le-ltb}
 use borrow.Author.Count.{below-none, below-more}
-use Rattle.roads.proofs.Search.{some-hit, some-end}
+use Rattle.basics.proofs.Laws.{some-hit, some-end}
 use Rattle.roads.proofs.above_limit.Statement.{statement}
 use Rattle.roads.proofs.above_limit.Tie as tie
 
@@ -27,23 +27,11 @@ abbrev μ-loop : tie.MeasureT-loop
 loop-holds : tie.Need-loop-holds Inv-loop μ-loop
 loop-holds c = (omega arith, below-none (λ i. above (now (c .args .seconds)) i ≡ false))
 
-mul-if1 : tie.Need-mul-if1 Inv-loop μ-loop
-mul-if1 c = search needs
-
-shared-slice-read-if1 : tie.Need-shared-slice-read-if1 Inv-loop μ-loop
-shared-slice-read-if1 c = search needs
-
 returns : tie.Need-returns Inv-loop μ-loop
 returns c =
     let s = now (c .before .before .before .before .args .seconds) in
     let k = c .before .before .before .loop .k in
     some-hit (above s) (length s) k (c .before .before .loop-test .taken) (lt-ltb 3600 (getD s k 0) (c .if1 .taken))
-
-add-k : tie.Need-add-k Inv-loop μ-loop
-add-k c = search needs
-
-loop-less : tie.Need-loop-less Inv-loop μ-loop
-loop-less c = search needs
 
 loop-again : tie.Need-loop-again Inv-loop μ-loop
 loop-again c = (search needs, below-more _ _ (c .before .before .before .loop .inv .1) (le-ltb 3600 _ (c .if1 .left)))
@@ -58,10 +46,10 @@ above-limit-spec =
     Inv-loop
     μ-loop
     loop-holds
-    mul-if1
-    shared-slice-read-if1
+    (λ c. search needs)
+    (λ c. search needs)
     returns
-    add-k
-    loop-less
+    (λ c. search needs)
+    (λ c. search needs)
     loop-again
     returns-2)

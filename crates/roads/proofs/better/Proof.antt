@@ -4,39 +4,15 @@ use Rattle.roads.proofs.Choice.{better-idle, better-first, better-less,
 use Rattle.roads.proofs.better.Statement.{statement}
 use Rattle.roads.proofs.better.Tie as tie
 
-enum-told : tie.Need-enum-told
-enum-told c = search needs
-
-enum-known-estimate : tie.Need-enum-known-estimate
-enum-known-estimate c = search needs
-
-enum-told-2 : tie.Need-enum-told-2
-enum-told-2 c = search needs
-
-enum-known-best : tie.Need-enum-known-best
-enum-known-best c = search needs
-
-returns : tie.Need-returns
-returns c = search better-idle
-
-returns-2 : tie.Need-returns-2
-returns-2 c = search better-first
-
-returns-3 : tie.Need-returns-3
-returns-3 c = search better-less
-
-returns-4 : tie.Need-returns-4
-returns-4 c = search better-kept
-
 pub better-spec : {M : Type 1} → statement M
 better-spec =
     tie.close
     (tie.spec
-    enum-told
-    enum-known-estimate
-    enum-told-2
-    enum-known-best
-    returns
-    returns-2
-    returns-3
-    returns-4)
+    (λ c. search needs)
+    (λ c. search needs)
+    (λ c. search needs)
+    (λ c. search needs)
+    (λ c. search better-idle)
+    (λ c. search better-first)
+    (λ c. search better-less)
+    (λ c. search better-kept))

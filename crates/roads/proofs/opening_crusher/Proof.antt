@@ -60,14 +60,8 @@ module _ (c : tie.Else3) where
     chosen-road : (k : ℕ) (t : Float) → best ≡ Road k t → Crusher k ≡ openingOf (lengths first) (metres first) (seconds first)
     chosen-road k t f = opening-road (lengths first) (metres first) (seconds first) (not-10 first) (not-11 (c .before .before)) (not-12 c) L M S best e k t f
 
-bad-lists-requires : tie.Need-bad-lists-requires
-bad-lists-requires c κs = search needs
-
 returns : tie.Need-returns
 returns c = opening-10 _ _ _ (sym (c .before .bad-lists .ensures) ∙ c .if1 .taken)
-
-above-limit-requires : tie.Need-above-limit-requires
-above-limit-requires c κs = search needs
 
 returns-2 : tie.Need-returns-2
 returns-2 c = opening-11 _ _ _ (not-10 (c .before .before)) (sym (c .before .above-limit .ensures) ∙ c .if2 .taken)
@@ -83,12 +77,6 @@ fastest-road-requires c κs =
     let e = equal (c .before .before .before .before) in
     (e .as-metres, e .as-seconds, e .few)
 
-enum-told : tie.Need-enum-told
-enum-told c = search needs
-
-enum-known-best : tie.Need-enum-known-best
-enum-known-best c = search needs
-
 returns-4 : tie.Need-returns-4
 returns-4 c = chosen-13 (c .before .before .before) (c .before .before .fastest-road .result) (c .before .before .fastest-road .ensures) (c .enum-told .given .1)
 
@@ -99,14 +87,14 @@ pub opening-crusher-spec : {M : Type 1} → statement M
 opening-crusher-spec =
     tie.close
     (tie.spec
-    bad-lists-requires
+    (λ c κs. search needs)
     returns
-    above-limit-requires
+    (λ c κs. search needs)
     returns-2
     without-time-requires
     returns-3
     fastest-road-requires
-    enum-told
-    enum-known-best
+    (λ c. search needs)
+    (λ c. search needs)
     returns-4
     returns-5)

@@ -163,6 +163,14 @@ byte-more s b i v x h e g =
     ∙ sym (numAt-add (bitAt s) (8 * b) (8 * i) 8)
     ∙ ap (numAt (bitAt s) (8 * b)) (let o : 8 * i + 8 ≡ 8 * (i + 1) = omega arith in o)
 
+-- five bytes one after the other
+pub five-bytes : (s : List ℕ) (b : ℕ) → ((i : ℕ) → getD s i 0 < 256)
+    → (((getD s b 0 * 256 + getD s (b + 1) 0) * 256 + getD s (b + 2) 0) * 256 + getD s (b + 3) 0) * 256 + getD s (b + 4) 0 ≡ numAt (bitAt s) (8 * b) (8 * 5)
+five-bytes s b h = more 4 _ (more 3 _ (more 2 _ (more 1 _ (sym (byte-is s b (h b))))))
+  where
+    more : (i v : ℕ) → v ≡ numAt (bitAt s) (8 * b) (8 * i) → v * 256 + getD s (b + i) 0 ≡ numAt (bitAt s) (8 * b) (8 * (i + 1))
+    more i v e = byte-more s b i v (getD s (b + i) 0) (h (b + i)) e refl
+
 -- k bits from any place, out of m bytes in which they stand
 pub gathered : (s : List ℕ) (at k m : ℕ) → at % 8 + k ≤ 8 * m
     → numAt (bitAt s) (8 * (at / 8)) (8 * m) / 2 ^ (8 * m - at % 8 - k) % 2 ^ k ≡ numAt (bitAt s) at k

@@ -131,6 +131,13 @@ rowAt-add f p a (suc b) =
     ∙ ap₂ (λ (x y : ℕ). x + y) (rowAt-add f p a b) (ap₂ (λ (x y : ℕ). f x * y) (let e : p + (a + b) ≡ p + a + b = omega arith in e) (pow-add 2 a b))
     ∙ omega arith
 
+-- the first k of more bits
+pub rowAt-low : (f : ℕ → ℕ) → ((i : ℕ) → f i < 2) → (p k m : ℕ) → k ≤ m → rowAt f p m % 2 ^ k ≡ rowAt f p k
+rowAt-low f bits p k m h =
+    ap (λ (x : ℕ). rowAt f p x % 2 ^ k) (let e : m ≡ k + (m - k) = omega arith in e)
+    ∙ ap (λ (x : ℕ). x % 2 ^ k) (rowAt-add f p k (m - k) ∙ add-comm (rowAt f p k) (rowAt f (p + k) (m - k) * 2 ^ k))
+    ∙ low (rowAt f (p + k) (m - k)) k (rowAt-lt f bits p k)
+
 -- the middle one of three parts
 pub numAt-part : (f : ℕ → ℕ) → ((i : ℕ) → f i < 2) → (p a b c : ℕ) → numAt f p (a + b + c) / 2 ^ c % 2 ^ b ≡ numAt f (p + a) b
 numAt-part f bits p a b c =

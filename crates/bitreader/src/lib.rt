@@ -89,9 +89,9 @@ pub fn bits_at(s: &[u8], at: usize, k: usize) -> u32
     let w = bits_read(k);
     let skipped = at % 8;
     let b = at / 8;
-    // A bit or two mostly stand in one byte.
-    if skipped + w <= 8 && b < s.len() {
-        return cut(wide(s[b]), 1, skipped, w);
+    // One bit stands in one byte.
+    if w == 1 {
+        return cut(byte_at(s, b), 1, skipped, w);
     }
     // Five bytes hold any 32 bits. A fixed number of them is faster to gather, where they are there.
     if b + 5 <= s.len() {
@@ -185,10 +185,11 @@ pub fn read_at(s: &[u8], at: usize, k: usize) -> Taken
     }
 }
 
-// The same bits as a word of plain form.
+// The same bits as a word of plain form, out of the word of 32 bits: a fixed number of them is faster to gather and to turn.
 pub fn row_at(s: &[u8], at: usize, k: usize) -> u32
     ensures { λ r. ⌜ r ≡ rowAt (bitAt (now (s .entry))) at (bitsRead k) ⌝ }
 {
-    let t = read_at(s, at, k);
-    mirror(t.value, k)
+    let t = read_at(s, at, 32);
+    let all = mirror(t.value, 32) as u64;
+    low_bits(all, bits_read(k)) as u32
 }

@@ -16,11 +16,11 @@ cut s at k w m v r q h e g = g ∙ ap (λ (x : ℕ). x / 2 ^ (8 * m - at % 8 - w
 
 returns : tie.Need-returns
 returns c =
-    let a = c .before .before .before .before .before .before .before .args in
-    let read = c .before .before .before .before .before .bits-read in
+    let a = c .before .before .before .before .before .args in
+    let read = c .before .before .before .bits-read in
     let b : ℕ = a .at / 8 in
-    cut (a .s .now) (a .at) (a .k) (read .result) 1 (c .before .wide .result) (c .cut .result) (read .ensures) (omega arith)
-    (c .before .wide .ensures ∙ sym (byte-is (a .s .now) b (omega (arith, c .before .before .shared-slice-known2 .given b)))) (c .cut .ensures)
+    cut (a .s .now) (a .at) (a .k) (read .result) 1 (c .before .byte-at .result) (c .cut .result) (read .ensures) (omega arith)
+    (c .before .byte-at .ensures ∙ sym (byte-is (a .s .now) b (omega (arith, c .before .before .before .before .shared-slice-known .given b)))) (c .cut .ensures)
 
 returns-2 : tie.Need-returns-2
 returns-2 c =
@@ -39,8 +39,6 @@ bits-at-spec =
     tie.close
     (tie.spec
     (λ c κs. search needs)
-    (λ c. search needs)
-    (λ c. search needs)
     (λ c κs. search needs)
     (λ c κs. search needs)
     returns

@@ -89,9 +89,12 @@ pub fn bits_at(s: &[u8], at: usize, k: usize) -> u32
     let w = bits_read(k);
     let skipped = at % 8;
     let b = at / 8;
-    // One bit stands in one byte.
+    // One bit stands in one byte. That it is 0 past the end is answered at once, which keeps a search for a bit short.
     if w == 1 {
-        return cut(byte_at(s, b), 1, skipped, w);
+        if s.len() <= b {
+            return 0;
+        }
+        return cut(wide(s[b]), 1, skipped, w);
     }
     // Five bytes hold any 32 bits. A fixed number of them is faster to gather, where they are there.
     if b + 5 <= s.len() {

@@ -131,6 +131,13 @@ rowAt-add f p a (suc b) =
     ∙ ap₂ (λ (x y : ℕ). x + y) (rowAt-add f p a b) (ap₂ (λ (x y : ℕ). f x * y) (let e : p + (a + b) ≡ p + a + b = omega arith in e) (pow-add 2 a b))
     ∙ omega arith
 
+-- the first k of more bits
+pub rowAt-low : (f : ℕ → ℕ) → ((i : ℕ) → f i < 2) → (p k m : ℕ) → k ≤ m → rowAt f p m % 2 ^ k ≡ rowAt f p k
+rowAt-low f bits p k m h =
+    ap (λ (x : ℕ). rowAt f p x % 2 ^ k) (let e : m ≡ k + (m - k) = omega arith in e)
+    ∙ ap (λ (x : ℕ). x % 2 ^ k) (rowAt-add f p k (m - k) ∙ add-comm (rowAt f p k) (rowAt f (p + k) (m - k) * 2 ^ k))
+    ∙ low (rowAt f (p + k) (m - k)) k (rowAt-lt f bits p k)
+
 -- the middle one of three parts
 pub numAt-part : (f : ℕ → ℕ) → ((i : ℕ) → f i < 2) → (p a b c : ℕ) → numAt f p (a + b + c) / 2 ^ c % 2 ^ b ≡ numAt f (p + a) b
 numAt-part f bits p a b c =
@@ -162,6 +169,14 @@ byte-more s b i v x h e g =
     (g ∙ sym (byte-is s (b + i) (rw (← g) h)) ∙ ap (λ (p : ℕ). numAt (bitAt s) p 8) (let o : 8 * (b + i) ≡ 8 * b + 8 * i = omega arith in o))
     ∙ sym (numAt-add (bitAt s) (8 * b) (8 * i) 8)
     ∙ ap (numAt (bitAt s) (8 * b)) (let o : 8 * i + 8 ≡ 8 * (i + 1) = omega arith in o)
+
+-- five bytes one after the other
+pub five-bytes : (s : List ℕ) (b : ℕ) → ((i : ℕ) → getD s i 0 < 256)
+    → (((getD s b 0 * 256 + getD s (b + 1) 0) * 256 + getD s (b + 2) 0) * 256 + getD s (b + 3) 0) * 256 + getD s (b + 4) 0 ≡ numAt (bitAt s) (8 * b) (8 * 5)
+five-bytes s b h = more 4 _ (more 3 _ (more 2 _ (more 1 _ (sym (byte-is s b (h b))))))
+  where
+    more : (i v : ℕ) → v ≡ numAt (bitAt s) (8 * b) (8 * i) → v * 256 + getD s (b + i) 0 ≡ numAt (bitAt s) (8 * b) (8 * (i + 1))
+    more i v e = byte-more s b i v (getD s (b + i) 0) (h (b + i)) e refl
 
 -- k bits from any place, out of m bytes in which they stand
 pub gathered : (s : List ℕ) (at k m : ℕ) → at % 8 + k ≤ 8 * m

@@ -1,7 +1,7 @@
 // Numbers of up to 32 bits at any place of a slice of bytes, by a reader and on plain parameters.
 ghost use mathlib.Core.Path.{_≡_};
 ghost use Prim.Native.Nat.{_+_, _*_, _-_, _<_, _≤_, _^_, _/_, _%_};
-ghost use lib.ListN.{getD};
+ghost use lib.ListN.{getD, length};
 ghost use Rattle.bitreader.specs.Bits.{bitAt, numAt, rowAt, bitsRead, placeAfter, mirrored, movedBy};
 
 fn wide(b: u8) -> u64
@@ -58,6 +58,30 @@ pub fn low_bits(v: u64, k: usize) -> u64
     v
 }
 
+// Five bytes as a number. The first four make one sum of 32 bits, which the compiler gathers by one load.
+fn joined(a: u8, b: u8, c: u8, d: u8, e: u8) -> u64
+    ensures { λ r. ⌜ r ≡ (((a * 256 + b) * 256 + c) * 256 + d) * 256 + e ⌝ }
+{
+    let four = a as u32 * 16777216 + b as u32 * 65536 + c as u32 * 256 + d as u32;
+    four as u64 * 256 + e as u64
+}
+
+// The number of five bytes that are there.
+fn five_at(s: &[u8], b: usize) -> u64
+    requires { ⌜ b + 5 ≤ length (now s) ⌝ }
+    ensures { λ r. ⌜ r ≡ numAt (bitAt (now (s .entry))) (8 * b) (8 * 5) ⌝ }
+{
+    joined(s[b], s[b + 1], s[b + 2], s[b + 3], s[b + 4])
+}
+
+// The w bits after the first `skipped` of m bytes.
+fn cut(v: u64, m: usize, skipped: usize, w: usize) -> u32
+    requires { ⌜ (m ≤ 5) × ((skipped + w ≤ 8 * m) × (w ≤ 32)) ⌝ }
+    ensures { λ r. ⌜ r ≡ v / 2 ^ (8 * m - skipped - w) % 2 ^ w ⌝ }
+{
+    low_bits(v >> (8 * m - skipped - w), w) as u32
+}
+
 // The leaf that gathers bits: everything reads through it.
 pub fn bits_at(s: &[u8], at: usize, k: usize) -> u32
     ensures { λ r. ⌜ r ≡ numAt (bitAt (now (s .entry))) at (bitsRead k) ⌝ }
@@ -65,14 +89,19 @@ pub fn bits_at(s: &[u8], at: usize, k: usize) -> u32
     let w = bits_read(k);
     let skipped = at % 8;
     let b = at / 8;
+    // One bit stands in one byte. That it is 0 past the end is answered at once, which keeps a search for a bit short.
+    if w == 1 {
+        if s.len() <= b {
+            return 0;
+        }
+        return cut(wide(s[b]), 1, skipped, w);
+    }
     // Five bytes hold any 32 bits. A fixed number of them is faster to gather, where they are there.
     if b + 5 <= s.len() {
-        let v = bytes_at(s, b, 5);
-        return low_bits(v >> (40 - skipped - w), w) as u32;
+        return cut(five_at(s, b), 5, skipped, w);
     }
     let m = (skipped + w + 7) / 8;
-    let v = bytes_at(s, b, m);
-    low_bits(v >> (8 * m - skipped - w), w) as u32
+    cut(bytes_at(s, b, m), m, skipped, w)
 }
 
 // Digits in reverse, by halves.
@@ -159,10 +188,11 @@ pub fn read_at(s: &[u8], at: usize, k: usize) -> Taken
     }
 }
 
-// The same bits as a word of plain form.
+// The same bits as a word of plain form, out of the word of 32 bits: a fixed number of them is faster to gather and to turn.
 pub fn row_at(s: &[u8], at: usize, k: usize) -> u32
     ensures { λ r. ⌜ r ≡ rowAt (bitAt (now (s .entry))) at (bitsRead k) ⌝ }
 {
-    let t = read_at(s, at, k);
-    mirror(t.value, k)
+    let t = read_at(s, at, 32);
+    let all = mirror(t.value, 32) as u64;
+    low_bits(all, bits_read(k)) as u32
 }

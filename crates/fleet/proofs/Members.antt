@@ -25,6 +25,10 @@ set-below set n below j h = go (decLt j n)
     go (yes l) = l
     go (no l) = absurd (true≢false (sym h ∙ bit-high set n j below (omega arith)))
 
+-- a set without its lowest truck
+pub taken-out : (set i t rest : ℕ) → rest ≡ bitXor set (2 ^ t) → i ≡ t → rest ≡ bitXor set (2 ^ i)
+taken-out set i t rest e h = e ∙ ap (λ (x : ℕ). bitXor set (2 ^ x)) (sym h)
+
 module _ {set n : ℕ} {p : ℕ → Bool} (m : Members set n p) where
   pub member-below : (j : ℕ) → bit set j ≡ true → j < n
   member-below = set-below set n (m .below)

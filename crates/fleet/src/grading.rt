@@ -2,7 +2,7 @@
 use crate::hearing::heard_set;
 use crate::hearing::holds;
 use crate::hearing::lowest;
-use crate::hearing::without;
+use crate::hearing::rest;
 use protocol::Grades;
 ghost use mathlib.Core.Path.{_≡_};
 ghost use Prim.Native.Nat.{_≤_, _<_, _^_};
@@ -65,7 +65,7 @@ fn round_verdict(n: usize, going: u32, sends: u32, mark: u32, rows: &[u32; 32]) 
             holds(mark, i),
         );
         all = both(all, one);
-        left = without(left, i);
+        left = rest(left);
     }
     all
 }

@@ -4,15 +4,16 @@ ghost use mathlib.Core.Path.{_≡_};
 ghost use mathlib.Core.Bool.{true, cond};
 ghost use Prim.Native.Nat.{_<_, _^_};
 ghost use lib.Bits.{bitOr, bitXor};
+ghost use lib.Count.{trailingZeros};
 ghost use lib.Dec.{eqb};
 ghost use Rattle.basics.specs.Bits.{bit};
 ghost use Rattle.protocol.specs.declared.Heard.the-variants.{One, Several};
 ghost use Rattle.fleet.specs.Sets.{heardSet, valuesOf};
 
-// A truck of a set that isn't empty.
+// The lowest truck of a set that isn't empty.
 pub(crate) fn lowest(set: u32) -> usize
     requires { ⌜ 0 < set ⌝ }
-    ensures { λ r. ⌜ (r < 32) × (bit set r ≡ true) ⌝ }
+    ensures { λ r. ⌜ (r < 32) × (bit set r ≡ true) × (r ≡ trailingZeros 32 set) ⌝ }
 {
     u32::trailing_zeros(set) as usize
 }
@@ -40,12 +41,12 @@ pub(crate) fn joined(set: u32, i: usize, joins: bool) -> u32
     if joins { set | only(i) } else { set }
 }
 
-// A set without truck i, which is in it.
-pub(crate) fn without(set: u32, i: usize) -> u32
-    requires { ⌜ i < 32 ⌝ }
-    ensures { λ r. ⌜ r ≡ bitXor set (2 ^ i) ⌝ }
+// A set that isn't empty, without its lowest truck.
+pub(crate) fn rest(set: u32) -> u32
+    requires { ⌜ 0 < set ⌝ }
+    ensures { λ r. ⌜ r ≡ bitXor set (2 ^ trailingZeros 32 set) ⌝ }
 {
-    set ^ only(i)
+    set & (set - 1)
 }
 
 // The senders that a truck hears, whose own bit stands at a place.

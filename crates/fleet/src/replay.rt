@@ -1,7 +1,7 @@
 // A recording run from its bytes: proposal rounds and veto rounds hand on to each other, each with one round fewer left.
 use crate::grading::graded;
 use crate::hearing::lowest;
-use crate::hearing::without;
+use crate::hearing::rest;
 use crate::round::Roster;
 use crate::round::proposal_round;
 use crate::round::roster_of;
@@ -47,7 +47,7 @@ fn rows_at(s: &[u8], at: usize, n: usize, among: u32) -> [u32; 32]
         let i = lowest(left);
         let t = bitreader::read_at(s, at + i * n, n);
         rows[i] = t.value;
-        left = without(left, i);
+        left = rest(left);
     }
     rows
 }

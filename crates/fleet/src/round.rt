@@ -5,8 +5,8 @@ use crate::hearing::holds;
 use crate::hearing::joined;
 use crate::hearing::lowest;
 use crate::hearing::only;
+use crate::hearing::rest;
 use crate::hearing::values_of;
-use crate::hearing::without;
 use protocol::Fleet;
 use truck::Event;
 ghost use mathlib.Core.Path.{_≡_};
@@ -37,7 +37,7 @@ fn by_crusher(f: Fleet, senders: u32) -> [u32; 16]
         let t = f.trucks[n - 1 - place];
         let c = t.estimate as usize;
         values[c] = values[c] | only(place);
-        left = without(left, place);
+        left = rest(left);
     }
     values
 }
@@ -87,7 +87,7 @@ fn stopped(f: Fleet, round: u16, stopping: u32) -> Fleet
         let t = f.trucks[i];
         let u = truck::after(t, round, Event::Stop);
         fleet.trucks[i] = u;
-        left = without(left, i);
+        left = rest(left);
     }
     fleet
 }
@@ -125,7 +125,7 @@ pub(crate) fn proposal_round(
         let u = truck::after(t, round, event);
         fleet.trucks[i] = u;
         vetoing = joined(vetoing, i, truck::vetoes(u));
-        left = without(left, i);
+        left = rest(left);
     }
     Roster {
         fleet,
@@ -160,7 +160,7 @@ pub(crate) fn veto_round(r: Roster, stop: u32, mark: u32, rows: &[u32; 32]) -> R
         let u = truck::after(t, round, event);
         fleet.trucks[i] = u;
         on = joined(on, i, truck::runs(u));
-        left = without(left, i);
+        left = rest(left);
     }
     Roster {
         fleet,

@@ -8,7 +8,7 @@ use native.Mathlib.Decide.{decLt, ℕ-discrete}
 use native.Mathlib.Omega.{arith}
 use borrow.Author.Tests.{eq-eqb, ne-eqb}
 use lib.Dec.{eqb, lit<}
-use lib.Bits.{bitAnd, bitOr, bitXor, differ, and-step, or-step, xor-step, and-shr, or-shr, xor-shr, xor-add-and, and-le-r}
+use lib.Bits.{bitAnd, bitOr, bitXor, differ, and-step, or-step, xor-step, and-shr, or-shr, xor-shr, xor-add-and, and-le-r, and-self, xor-zero-r}
 use lib.Count.{ones, ones-cat, ones-ones, trailingZeros, under}
 use lib.Pow.{pow-pos, pow-mono, pow-lt, pow-add, split, high}
 use lib.ListN.{length, length-append}
@@ -119,6 +119,33 @@ trailing-bit (suc k) w p h = go (w % 2) refl (trailing-bit k (w / 2))
         )
     go (suc d) e ih =
         (omega arith, ap (λ (x : ℕ). eqb (x % 2) 1) (div-one w) ∙ eq-eqb (w % 2) 1 (omega (arith, mod-lt w (let z : 0 < 2 = lit< tt in z))))
+
+-- the word without it
+pub trailing-rest : (k w : ℕ) → 0 < w → w < 2 ^ k → bitAnd w (w - 1) ≡ bitXor w (2 ^ trailingZeros k w)
+unfolding trailingZeros
+trailing-rest zero w p h = absurd (omega arith)
+trailing-rest (suc k) w p h = go (w % 2) refl (trailing-rest k (w / 2))
+  where
+    t : ℕ
+    t = trailingZeros k (w / 2)
+
+    go : (d : ℕ) → w % 2 ≡ d → (0 < w / 2 → w / 2 < 2 ^ k → bitAnd (w / 2) (w / 2 - 1) ≡ bitXor (w / 2) (2 ^ t)) → bitAnd w (w - 1) ≡ bitXor w (2 ^ under d t)
+    go zero e ih =
+        and-step w (w - 1)
+        ∙ ap₂ (λ (x y : ℕ). x * 2 + y)
+        (ap (bitAnd (w / 2)) (let s : (w - 1) / 2 ≡ w / 2 - 1 = omega arith in s) ∙ ih (omega arith) (omega (arith, pow-suc 2 k)))
+        (let s : min (w % 2) ((w - 1) % 2) ≡ 0 = omega arith in s)
+        ∙ sym (xor-step w (2 ^ suc t)
+        ∙ ap₂ (λ (x y : ℕ). x * 2 + y)
+        (ap (bitXor (w / 2)) (let s : 2 ^ suc t / 2 ≡ 2 ^ t = omega (arith, pow-suc 2 t) in s))
+        (ap₂ differ e (let s : 2 ^ suc t % 2 ≡ 0 = omega (arith, pow-suc 2 t) in s)))
+    go (suc d) e ih =
+        let one : w % 2 ≡ 1 = omega (arith, mod-lt w (let z : 0 < 2 = lit< tt in z)) in
+        and-step w (w - 1)
+        ∙ ap₂ (λ (x y : ℕ). x * 2 + y)
+        (ap (bitAnd (w / 2)) (let s : (w - 1) / 2 ≡ w / 2 = omega arith in s) ∙ and-self (w / 2))
+        (let s : min (w % 2) ((w - 1) % 2) ≡ 0 = omega arith in s)
+        ∙ sym (xor-step w 1 ∙ ap₂ (λ (x y : ℕ). x * 2 + y) (xor-zero-r (w / 2)) (ap₂ differ one refl))
 
 -- a member is taken out
 pub bit-removed : (w i j : ℕ) → bit w i ≡ true → bit (bitXor w (2 ^ i)) j ≡ (bit w j && not (eqb i j))

@@ -1,5 +1,5 @@
 -- `round_verdict` meets its contract.
-use mathlib.Core.Path.{_≡_, ap, ap₂, _∙_}
+use mathlib.Core.Path.{_≡_, ap, ap₂, sym, _∙_}
 use mathlib.Core.Bool.{true}
 use Prim.Native.Nat.{ℕ, suc, _-_, min}
 use native.Mathlib.Omega.{arith}
@@ -9,7 +9,7 @@ use Rattle.air.specs.Air.{Air}
 use Rattle.words.proofs.Words.{removed-lt}
 use Rattle.fleet.specs.Grading.{Described, bothOf, truckVerdict}
 use Rattle.bitreader.specs.Bits.{mirrored}
-use Rattle.fleet.proofs.Members.{set-below, within-removed}
+use Rattle.fleet.proofs.Members.{taken-out, set-below, within-removed}
 use Rattle.fleet.proofs.Verdicts.{soFar, verdict-starts, verdict-more, verdict-done}
 use Rattle.fleet.proofs.grading.round_verdict.Statement.{statement}
 use Rattle.fleet.proofs.grading.round_verdict.Tie as tie
@@ -38,10 +38,11 @@ heard-set-requires : tie.Need-heard-set-requires Inv-loop μ-loop
 heard-set-requires c κs = omega (arith, c .before .before .before .before .before .pre .0)
 
 loop-less : tie.Need-loop-less Inv-loop μ-loop
-loop-less c = rw (c .without .ensures) (removed-lt _ _ (c .before .before .before .before .before .before .lowest .ensures .1))
+loop-less c = rw (c .rest .ensures, sym (c .before .before .before .before .before .before .lowest .ensures .2)) (removed-lt _ _ (c .before .before .before .before .before .before .lowest .ensures .1))
 
 loop-again : tie.Need-loop-again Inv-loop μ-loop
 loop-again c =
+    let out = taken-out (c .before .before .before .before .before .before .before .before .loop .left) (c .before .before .before .before .before .before .lowest .result) _ (c .rest .result) (c .rest .ensures) (c .before .before .before .before .before .before .lowest .ensures .2) in
     let s = c .before .before .before .before .before .before .before .before .before .before in
     let m = c .before .before .before .before .before .before .before .before .before .mirror in
     let i = c .before .before .before .before .before .before .lowest .result in
@@ -50,11 +51,11 @@ loop-again c =
     let l = set-below (s .args .going) (s .args .n) (s .pre .1) i (o .inv .0 i h) in
     let packed = m .ensures ∙ ap (λ (k : ℕ). mirrored k (s .args .sends)) (let e : min (s .args .n) 32 ≡ s .args .n = omega (arith, s .pre .0) in e) in
     let place : s .args .n - 1 - i ≡ s .args .n - suc i = omega arith in (
-      (λ j e. o .inv .0 j (within-removed (o .left) i h j (rw (c .without .ensures) at e))),
+      (λ j e. o .inv .0 j (within-removed (o .left) i h j (rw out at e))),
       λ a d.
           c .before .both .ensures
           ∙ ap₂ bothOf (o .inv .1 a d) (c .before .before .truck-verdict .ensures ∙ ap₂ (truckVerdict (m .result)) (c .before .before .before .before .heard-set .ensures) (c .before .before .before .holds .ensures))
-          ∙ rw (packed, place) (verdict-more a _ _ _ _ _ d i (o .inv .0 i h) (o .left) h (c .without .result) (c .without .ensures)),
+          ∙ rw (packed, place) (verdict-more a _ _ _ _ _ d i (o .inv .0 i h) (o .left) h (c .rest .result) out),
     )
 
 returns : tie.Need-returns Inv-loop μ-loop

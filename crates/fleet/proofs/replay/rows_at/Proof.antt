@@ -1,7 +1,9 @@
 -- `rows_at` meets its contract.
+use mathlib.Core.Path.{sym}
 use native.Mathlib.Omega.{arith}
 use borrow.Author.Needs.{needs}
 use Rattle.words.proofs.Words.{removed-lt}
+use Rattle.fleet.proofs.Members.{taken-out}
 use Rattle.fleet.proofs.Reading.{product, Rows, rows-start, rows-below, rows-more, rows-done}
 use Rattle.fleet.proofs.replay.rows_at.Statement.{statement}
 use Rattle.fleet.proofs.replay.rows_at.Tie as tie
@@ -22,7 +24,7 @@ add-read-at : tie.Need-add-read-at Inv-loop μ-loop
 add-read-at c = omega (arith, product (c .lowest .result) (c .before .before .before .before .args .n) (c .lowest .ensures .0) (c .before .before .before .before .pre .0), c .before .before .before .before .pre .1)
 
 loop-less : tie.Need-loop-less Inv-loop μ-loop
-loop-less c = rw (c .without .ensures) (removed-lt _ _ (c .before .before .lowest .ensures .1))
+loop-less c = rw (c .rest .ensures, sym (c .before .before .lowest .ensures .2)) (removed-lt _ _ (c .before .before .lowest .ensures .1))
 
 loop-again : tie.Need-loop-again Inv-loop μ-loop
 loop-again c =
@@ -31,7 +33,7 @@ loop-again c =
     let i = c .before .before .lowest in
     let inv = c .before .before .before .before .loop .inv in
     rows-more (a .s .now) (a .at) (a .n) (a .among) inv (s .pre .0) (i .result) (c .before .read-at .result .value)
-    (rows-below (a .s .now) (a .at) (a .n) (a .among) inv (s .pre .2) (i .result) (i .ensures .1)) (i .ensures .1) (c .before .read-at .ensures .0) (c .without .result) (c .without .ensures)
+    (rows-below (a .s .now) (a .at) (a .n) (a .among) inv (s .pre .2) (i .result) (i .ensures .1)) (i .ensures .1) (c .before .read-at .ensures .0) (c .rest .result) (taken-out (c .before .before .before .before .loop .left) (c .before .before .lowest .result) _ (c .rest .result) (c .rest .ensures) (c .before .before .lowest .ensures .2))
 
 returns : tie.Need-returns Inv-loop μ-loop
 returns c =

@@ -1,11 +1,12 @@
 -- `by_crusher` meets its contract.
-use mathlib.Core.Path.{_≡_, ap}
+use mathlib.Core.Path.{_≡_, ap, sym}
 use Prim.Native.Nat.{ℕ, suc, _-_}
 use native.Mathlib.Omega.{arith}
 use borrow.Author.Needs.{needs}
 use Rattle.words.proofs.Words.{removed-lt}
 use Rattle.protocol.specs.declared.Fleet.{Fleet}
 use Rattle.fleet.specs.Rounds.{estimates}
+use Rattle.fleet.proofs.Members.{taken-out}
 use Rattle.fleet.proofs.Loops.{Sorting, sorting-starts, sorting-below, sorting-more, sorting-done}
 use Rattle.fleet.proofs.round.by_crusher.Statement.{statement}
 use Rattle.fleet.proofs.round.by_crusher.Tie as tie
@@ -49,7 +50,7 @@ array-write-values c =
     s .pre .2 (s .args .t1 .n - 1 - i) (omega (arith, sorting-below (s .args .t1 .n) (s .args .senders) (sent (s .args .t1)) (c .before .before .before .before .before .loop .inv) (s .pre .1) i (c .before .before .before .lowest .ensures .1)))
 
 loop-less : tie.Need-loop-less Inv-loop μ-loop
-loop-less c = rw (c .without .ensures) (removed-lt _ _ (c .before .before .before .before .lowest .ensures .1))
+loop-less c = rw (c .rest .ensures, sym (c .before .before .before .before .lowest .ensures .2)) (removed-lt _ _ (c .before .before .before .before .lowest .ensures .1))
 
 loop-again : tie.Need-loop-again Inv-loop μ-loop
 loop-again c =
@@ -59,7 +60,7 @@ loop-again c =
     let inv = c .before .before .before .before .before .before .loop .inv in
     let l = sorting-below (f .n) (s .args .senders) (sent f) inv (s .pre .1) (i .result) (i .ensures .1) in
     rw (c .before .only .ensures, let e : f .n - 1 - i .result ≡ f .n - suc (i .result) = omega arith in e)
-    (sorting-more (f .n) (s .args .senders) (sent f) inv (i .result) l (i .ensures .1) (s .pre .2 (f .n - suc (i .result)) (omega (arith, l))) (c .without .result) (c .without .ensures))
+    (sorting-more (f .n) (s .args .senders) (sent f) inv (i .result) l (i .ensures .1) (s .pre .2 (f .n - suc (i .result)) (omega (arith, l))) (c .rest .result) (taken-out (c .before .before .before .before .before .before .loop .left) (c .before .before .before .before .lowest .result) _ (c .rest .result) (c .rest .ensures) (c .before .before .before .before .lowest .ensures .2)))
 
 returns : tie.Need-returns Inv-loop μ-loop
 returns c =

@@ -1,5 +1,5 @@
 -- `veto_round` meets its contract.
-use mathlib.Core.Path.{_≡_, refl, _∙_}
+use mathlib.Core.Path.{_≡_, refl, sym, _∙_}
 use mathlib.Core.Bool.{true}
 use mathlib.Core.Logic.{⊎-elim}
 use Prim.Native.Nat.{ℕ}
@@ -9,7 +9,7 @@ use Rattle.basics.specs.Bits.{bit}
 use Rattle.words.proofs.Words.{removed-lt}
 use Rattle.protocol.specs.Rules.{runs}
 use Rattle.fleet.specs.Rounds.{plainRows}
-use Rattle.fleet.proofs.Members.{within-removed}
+use Rattle.fleet.proofs.Members.{taken-out, within-removed}
 use Rattle.fleet.proofs.Turns.{rule}
 use Rattle.fleet.proofs.Loops.{Going, round-starts, round-starts-on, round-below, goes-on, stopping-below, veto-more, veto-ends}
 use Rattle.fleet.proofs.round.veto_round.Statement.{statement}
@@ -55,20 +55,21 @@ veto-event-requires : tie.Need-veto-event-requires Inv-loop μ-loop
 veto-event-requires c κs = (c .before .before .before .lowest .ensures .0, omega (arith, c .before .before .before .before .before .before .before .before .before .before .before .before .pre .0 .most))
 
 loop-less : tie.Need-loop-less Inv-loop μ-loop
-loop-less c = rw (c .without .ensures) (removed-lt _ _ (c .before .before .before .before .before .before .before .before .lowest .ensures .1))
+loop-less c = rw (c .rest .ensures, sym (c .before .before .before .before .before .before .before .before .lowest .ensures .2)) (removed-lt _ _ (c .before .before .before .before .before .before .before .before .lowest .ensures .1))
 
 loop-again : tie.Need-loop-again Inv-loop μ-loop
 loop-again c =
+    let out = taken-out (c .before .before .before .before .before .before .before .before .before .before .loop .left) (c .before .before .before .before .before .before .before .before .lowest .result) _ (c .rest .result) (c .rest .ensures) (c .before .before .before .before .before .before .before .before .lowest .ensures .2) in
     let s = c .before .before .before .before .before .before .before .before .before .before .before .before .before .before .before .before .before in
     let a = s .args in
     let i = c .before .before .before .before .before .before .before .before .lowest in
     let m = c .before .before .before .before .before .before .before .before .before .before .before .before .before .mirror in
     let e = c .before .before .before .before .veto-event in
     let o = c .before .before .before .before .before .before .before .before .before .before .loop in (
-      veto-more (a .r) (a .stop) 0 (a .mark) (a .rows .now) (s .pre .0) runs (λ t. refl) (o .inv .0) (i .result) (i .ensures .1) (c .before .before .before .after .result) (c .before .before .runs .result) (c .before .joined .result) (c .without .result)
-          (c .before .before .runs .ensures) (c .before .joined .ensures) (c .without .ensures) (goes-on (a .r) (a .stop) 0 (a .mark) (a .rows .now) (s .pre .0) (i .result) (o .inv .1 (i .result) (i .ensures .1)))
+      veto-more (a .r) (a .stop) 0 (a .mark) (a .rows .now) (s .pre .0) runs (λ t. refl) (o .inv .0) (i .result) (i .ensures .1) (c .before .before .before .after .result) (c .before .before .runs .result) (c .before .joined .result) (c .rest .result)
+          (c .before .before .runs .ensures) (c .before .joined .ensures) out (goes-on (a .r) (a .stop) 0 (a .mark) (a .rows .now) (s .pre .0) (i .result) (o .inv .1 (i .result) (i .ensures .1)))
           (m .result) (e .result) (c .before .before .before .after .ensures) (s .pre .1) (m .ensures) (e .ensures),
-      λ j h. o .inv .1 j (within-removed (o .left) (i .result) (i .ensures .1) j (rw (c .without .ensures) at h)),
+      λ j h. o .inv .1 j (within-removed (o .left) (i .result) (i .ensures .1) j (rw out at h)),
     )
 
 returns : tie.Need-returns Inv-loop μ-loop

@@ -2,7 +2,7 @@
 use mathlib.Core.Path.{_≡_, refl, ap, ap₂, sym, subst, subst₂, _∙_}
 use mathlib.Core.Bool.{Bool, true, false, cond, true≢false, false≢true}
 use mathlib.Core.List.{List, []}
-use Prim.Native.Nat.{ℕ, zero, suc, _+_, _*_, _^_, _≤_, _<_, min}
+use Prim.Native.Nat.{ℕ, zero, suc, _+_, _*_, _-_, _^_, _≤_, _<_, min}
 use native.Mathlib.Nat.{add-zero, add-mul, mul-le-mul}
 use native.Mathlib.Numerals.{add-one}
 use native.Mathlib.Omega.{arith}
@@ -302,9 +302,23 @@ idle-rest (suc left) s at judging c reached none rest =
     })) (let e : c .roster .fleet .done + 1 + left ≡ c .roster .fleet .done + suc left = omega arith in e)
     (idle-rest left s _ judging (counted c 1) (idle-done s at judging c reached (omega arith) none .next) none (omega arith))
 
--- the size of a round
-pub round-size : (n : ℕ) → n ≤ 32 → (3 + n) * n ≤ 35 * 32
-round-size n m = mul-le-mul (let z : 3 + n ≤ 35 = omega arith in z) m
+-- a run that has come to c, with some rounds left
+module _ (s : List ℕ) (at left : ℕ) (judging : Bool) (c : Course) (reached : Reached s at judging c) (rest : c .roster .fleet .done + left ≡ roundsOf s) where
+  pub rest-few : c .roster .fleet .done + left ≤ 400
+  rest-few = omega (arith, bytes-good s (reached .good) .frame .rounds)
+
+  module _ (some : left ≡ 0 → ⊥) where
+    pub rest-less : c .roster .fleet .done < roundsOf s
+    rest-less = omega arith
+
+    -- the round after this one begins at a place that is a number of the machine
+    pub rest-place : (c .roster .fleet .n ≤ 32) × ((3 + c .roster .fleet .n) * c .roster .fleet .n ≤ 35 * 32) × (at < 450000)
+    rest-place =
+        let few = few-trucks s at judging c reached in
+        (few, mul-le-mul (let z : 3 + c .roster .fleet .n ≤ 35 = omega arith in z) few, place-low s at judging c reached rest-less)
+
+    pub rest-next : (q : Course) → Moved s at judging c q → q .roster .fleet .done + (left - 1) ≡ roundsOf s
+    rest-next q m = omega (arith, m .one)
 
 -- ---- before round 1
 first-openings : (s : List ℕ) → take (trucksOf s) (filled (openingAt s) (trucksOf s) (replicate 32 0)) ≡ openingsOf s

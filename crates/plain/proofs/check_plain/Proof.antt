@@ -1,3 +1,4 @@
+-- `check_plain` meets its contract: one law for each return.
 use borrow.Author.Needs.{needs}
 use Rattle.plain.proofs.Outcomes.{plain-2, plain-3, plain-7, plain-rest}
 use Rattle.plain.proofs.check_plain.Statement.{statement}

@@ -1,3 +1,4 @@
+-- `check_rounds` meets its contract: one law for each return.
 use borrow.Author.Needs.{needs}
 use Rattle.plain.proofs.Outcomes.{rounds-8, words-counted, rounds-6, rounds-0}
 use Rattle.plain.proofs.check_rounds.Statement.{statement}

@@ -1,3 +1,4 @@
+-- `read` meets its contract: one law for each return.
 use borrow.Author.Needs.{needs}
 use native.Mathlib.Omega.{arith}
 use Rattle.plain.proofs.Answers.{read-refused, read-most, read-9, openings-room, words-room, read-0}

@@ -1,3 +1,4 @@
+-- `write` meets its contract: one law for each return.
 use borrow.Author.Needs.{needs}
 use Rattle.plain.proofs.Answers.{write-refused, write-9, plain-kept, bytes-room, write-0}
 use Rattle.plain.proofs.write.Statement.{statement}

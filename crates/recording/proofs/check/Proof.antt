@@ -1,3 +1,4 @@
+-- `check` meets its contract: one law for each return.
 use borrow.Author.Needs.{needs}
 use Rattle.recording.proofs.Searches.{trucks-fit, rounds-fit, check-refused, check-6, check-0}
 use Rattle.recording.proofs.check.Statement.{statement}

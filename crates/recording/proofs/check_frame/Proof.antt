@@ -1,3 +1,4 @@
+-- `check_frame` meets its contract: one law for each return.
 use borrow.Author.Needs.{needs}
 use Rattle.recording.proofs.Searches.{frame-1, frame-2, frame-3, frame-4, end-fits, frame-5, frame-0}
 use Rattle.recording.proofs.check_frame.Statement.{statement}

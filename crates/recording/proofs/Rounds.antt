@@ -5,6 +5,7 @@ use mathlib.Core.List.{List, [], _∷_, _++_}
 use Prim.Native.Nat.{ℕ, zero, suc, _+_, _*_, _/_, _%_, _^_, _≤_, _<_, min}
 use native.Mathlib.Nat.{min-eq-left, mul-le-mul-right, div-lt-iff-lt-mul, div-add-mod', mod-lt}
 use native.Mathlib.Omega.{arith}
+use lib.Arith.{digits-lt}
 use lib.ListN.{length, getD, take, drop, length-append, length-drop, List·getD-append}
 use lib.Seq.{ext-getD, getD-append-add, getD-take, getD-drop, length-take-le}
 use Rattle.refusals.specs.declared.Outcome.the-variants.{Accepted}
@@ -56,12 +57,6 @@ good-round n words g =
           ∙ g .own k o;
     })
 
--- word w of round r is a word of the rounds
-pub word-of : (m R r w : ℕ) → r < R → w < m → r * m + w < R * m
-word-of m R r w h l =
-    let s : suc r * m ≤ R * m = mul-le-mul-right m h in
-    omega arith
-
 module _ (s : List ℕ) where
   pub length-round : (k : ℕ) → length (roundAt s k) ≡ 3 + trucksOf s
   unfolding roundAt
@@ -87,7 +82,7 @@ module _ (s : List ℕ) where
       (λ w l.
       let u : w < m = omega (arith, length-round k) in
       word-round k w u
-      ∙ sym (getD-take m d w 0 u ∙ getD-drop (k * m) (wordsOf s) w 0 ∙ word-read s (k * m + w) (word-of m (roundsOf s) k w h u)))
+      ∙ sym (getD-take m d w 0 u ∙ getD-drop (k * m) (wordsOf s) w 0 ∙ word-read s (k * m + w) (digits-lt h u)))
 
   -- each round of an accepted recording is accepted
   pub round-accepted : checkOf s ≡ Accepted → (k : ℕ) → k < roundsOf s → roundCheck (trucksOf s) (roundAt s k) ≡ Accepted
@@ -100,7 +95,7 @@ module _ (s : List ℕ) where
         own = λ i u.
             ap (λ (w : ℕ). bit w i) (word-round k (3 + i) (omega arith))
             ∙ sym (own-at (wordAt s) n k i u)
-            ∙ bytes-good s h .own (k * n + i) (word-of n (roundsOf s) k i l u);
+            ∙ bytes-good s h .own (k * n + i) (digits-lt l u);
       })
 
 -- ---- words by their places
@@ -207,7 +202,7 @@ module _ (n : ℕ) (rs : List (List ℕ)) (rounds : (k : ℕ) → k < length rs 
         ext-getD 0 (roundAt s k) (getD rs k []) (e ∙ sym (long k l))
         (λ w u.
         let i : w < m = omega arith in
-        let j : k * m + w < roundsOf s * (3 + trucksOf s) = rw (r, t) (word-of m (length rs) k w l i) in
+        let j : k * m + w < roundsOf s * (3 + trucksOf s) = rw (r, t) (digits-lt l i) in
         word-round s k w (omega (arith, t))
         ∙ ap (λ (a : ℕ). wordAt s (k * (3 + a) + w)) t
         ∙ sym (word-read s (k * m + w) j)

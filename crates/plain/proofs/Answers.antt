@@ -1,5 +1,5 @@
 -- What reading and writing answer, one law for each return of the code.
-use mathlib.Core.Path.{_≡_, refl, ap, ap₂, sym, _∙_}
+use mathlib.Core.Path.{_≡_, ap, ap₂, sym, _∙_}
 use mathlib.Core.Bool.{Bool, true, false, _||_}
 use mathlib.Core.List.{List}
 use Prim.Native.Nat.{ℕ, _+_, _*_, _≤_, _<_}
@@ -14,19 +14,11 @@ use Rattle.refusals.specs.declared.Outcome.the-variants.{Accepted, Refused}
 use Rattle.basics.specs.Lists.{filled}
 use Rattle.recording.specs.Packed.{trucksOf, roundsOf, openingAt, wordAt, bytesFor, pack, packed}
 use Rattle.recording.specs.Checks.{refuse, andThen, checkOf, plainCheck}
-use Rattle.recording.proofs.Accepted.{bytes-good}
+use Rattle.recording.proofs.Accepted.{or-left, or-right, bytes-good}
 use Rattle.plain.specs.declared.ReadOutcome.the-variants.{Plain, Refused as NotRead}
 use Rattle.plain.specs.declared.WriteOutcome.the-variants.{Bytes, Refused as NotWritten}
 use Rattle.plain.specs.Forms.{afterRead, shortBuffers, readCheck, readAs, readPlain, afterWrite, writeCheck, writeAs, writePlain}
 use Rattle.plain.specs.Steps.{packedByte}
-
-or-first : (a b : Bool) → (a || b) ≡ false → a ≡ false
-or-first true b h = h
-or-first false b h = refl
-
-or-second : (a b : Bool) → (a || b) ≡ false → b ≡ false
-or-second true b h = let z : _≡_ {A = ℕ} 0 1 = cc in absurd (omega arith)
-or-second false b h = h
 
 -- ---- reading
 pub read-refused : (s openings words : List ℕ) (f : Outcome) (r : Refusal) → f ≡ checkOf s → f ≡ Refused r → afterRead (NotRead r) openings words ≡ readPlain s openings words
@@ -49,10 +41,10 @@ module _ (s openings words : List ℕ) (f : Outcome) (n R : ℕ) (checked : f �
 
   module _ (room : (ltb (length openings) n || ltb (length words) (R * (3 + n))) ≡ false) where
     pub openings-room : n ≤ length openings
-    openings-room = ltb-false (length openings) n (or-first (ltb (length openings) n) (ltb (length words) (R * (3 + n))) room)
+    openings-room = ltb-false (length openings) n (or-left (ltb (length openings) n) (ltb (length words) (R * (3 + n))) room)
 
     pub words-room : R * (3 + n) ≤ length words
-    words-room = ltb-false (length words) (R * (3 + n)) (or-second (ltb (length openings) n) (ltb (length words) (R * (3 + n))) room)
+    words-room = ltb-false (length words) (R * (3 + n)) (or-right (ltb (length openings) n) (ltb (length words) (R * (3 + n))) room)
 
     pub read-0 : (o w : List ℕ) → o ≡ filled (openingAt s) n openings → w ≡ filled (wordAt s) (R * (3 + n)) words → afterRead (Plain n R) o w ≡ readPlain s openings words
     read-0 o w p q =

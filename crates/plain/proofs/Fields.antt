@@ -7,14 +7,13 @@ use native.Mathlib.Decide.{decLt}
 use native.Mathlib.Nat.{mul-le-mul-right}
 use native.Mathlib.Omega.{arith}
 use borrow.Author.Tests.{lt-ltb, le-ltb}
-use lib.Arith.{digits-div, digits-mod}
 use lib.ListN.{length, getD}
 use Rattle.basics.specs.Bits.{digit}
 use Rattle.bitreader.specs.Bits.{mirrored}
 use Rattle.bitreader.proofs.Digits.{numAt-is, numAt-add, num-mirrored}
-use Rattle.recording.specs.Packed.{numAt, packBit, openingBit, roundBit, bitsFor, bytesFor}
+use Rattle.recording.specs.Packed.{numAt, packBit, bitsFor, bytesFor}
 use Rattle.recording.proofs.Accepted.{GoodPlain}
-use Rattle.recording.proofs.Packing.{packBit-lt, bit-trucks, bit-rounds, bit-openings, bit-words, bit-end, bits-flat, word-ends}
+use Rattle.recording.proofs.Packing.{packBit-lt, bit-trucks, bit-rounds, bit-opening, bit-word, bit-end, bits-flat}
 use Rattle.recording.proofs.Searches.{numAt-zero}
 use Rattle.plain.specs.Steps.{fieldWidth, fieldValue}
 
@@ -49,25 +48,18 @@ module _ (n R : ℕ) (openings words : List ℕ) (good : GoodPlain n R openings 
       (λ i l. bit-rounds n R openings words (0 + 6 + i) (omega arith) (omega arith) ∙ ap (digit R) (omega arith))))
 
   opening-number : (j : ℕ) → j < n → getD openings j 0 ≡ numAt (packBit n R openings words) (16 + 4 * j) 4
-  unfolding f openingBit
+  unfolding f
   opening-number j h =
       sym
       (numAt-is f (packBit-lt n R openings words) (16 + 4 * j) 4 (getD openings j 0) (omega (arith, good .openings-good .opening j h))
-      (λ i l.
-      bit-openings n R openings words (16 + 4 * j + i) (omega arith) (omega arith)
-      ∙ ap₂ (λ (a b : ℕ). digit (getD openings a 0) b) (omega arith) (omega arith)))
+      (λ i l. bit-opening n R openings words j i h l))
 
   word-number : (w : ℕ) → w < R * (3 + n) → mirrored n (getD words w 0) ≡ numAt (packBit n R openings words) (16 + 4 * n + w * n) n
-  unfolding f roundBit
+  unfolding f
   word-number w h =
       sym
       (num-mirrored f (packBit-lt n R openings words) (16 + 4 * n + w * n) n (getD words w 0)
-      (λ i l.
-      let p : ℕ = 16 + 4 * n + w * n + i in
-      let q : p - (16 + 4 * n) ≡ w * n + i = omega arith in
-      bit-words n R openings words p (omega arith) (word-ends n R w i h l)
-      ∙ ap (λ (a : ℕ). digit (getD words (a / n) 0) (a % n)) q
-      ∙ ap₂ (λ (a b : ℕ). digit (getD words a 0) b) (digits-div w l) (digits-mod w l)))
+      (λ i l. bit-word n R openings words w i h l))
 
   pub field-number : (j : ℕ) → j < n + length words → fieldValue n openings words j ≡ numAt (packBit n R openings words) (fieldPlace n j) (fieldWidth n j)
   unfolding f

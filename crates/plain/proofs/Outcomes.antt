@@ -12,6 +12,7 @@ use Rattle.refusals.specs.declared.Refusal.the-variants.{TruckCount, RoundCount
 use Rattle.refusals.specs.declared.Outcome.{Outcome}
 use Rattle.refusals.specs.declared.Outcome.the-variants.{Accepted, Refused}
 use Rattle.basics.specs.Lists.{someBelow}
+use Rattle.recording.proofs.Accepted.{or-left}
 use Rattle.recording.specs.Checks.{refuse, badTrucks, badRounds, badOpenings, badWords, ownLoss, highBit, roundsCheck, plainCheck}
 
 -- ---- 8 and 6
@@ -26,11 +27,7 @@ module _ (n R : ℕ) (words : List ℕ) (a : Bool) (tested : a ≡ badWords n R 
 
   pub words-counted : a ≡ false → length words ≡ R * (3 + n)
   unfolding badWords
-  words-counted h = eqb-true (length words) (R * (3 + n)) (not-false (eqb (length words) (R * (3 + n))) (first-part (not (eqb (length words) (R * (3 + n)))) (someBelow (λ w. highBit n (getD words w 0)) (length words)) (sym tested ∙ h)))
-    where
-      first-part : (x y : Bool) → mathlib.Core.Bool._||_ x y ≡ false → x ≡ false
-      first-part true y e = e
-      first-part false y e = refl
+  words-counted h = eqb-true (length words) (R * (3 + n)) (not-false (eqb (length words) (R * (3 + n))) (or-left (not (eqb (length words) (R * (3 + n)))) (someBelow (λ w. highBit n (getD words w 0)) (length words)) (sym tested ∙ h)))
 
   module _ (b : Bool) (good : a ≡ false) (owned : b ≡ ownLoss (λ w. getD words w 0) n R) where
     pub rounds-6 : b ≡ true → Refused OwnLoss ≡ roundsCheck n R words
@@ -64,7 +61,7 @@ module _ (n R : ℕ) (openings words : List ℕ) (a : Bool) (trucks : a ≡ badT
       plain-rest o h e = plain-by n R openings words false false false o (sym trucks ∙ good) (le-ltb 400 R few) (sym crushers ∙ h) (sym e)
 
 -- a round's words are words of the rounds
-pub base-fits : (n R r base len : ℕ) → n < 256 → R < 65536 → r < R → base ≡ r * (3 + n) → len ≡ R * (3 + n) → base + (3 + n) ≤ len
-base-fits n R r base len h l o e g =
+pub base-fits : (n R r base len : ℕ) → r < R → base ≡ r * (3 + n) → len ≡ R * (3 + n) → base + (3 + n) ≤ len
+base-fits n R r base len o e g =
     let m : suc r * (3 + n) ≤ R * (3 + n) = mul-le-mul-right (3 + n) o in
     omega arith

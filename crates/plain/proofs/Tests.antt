@@ -12,7 +12,8 @@ use lib.Pow.{pow-mono, pow-pos}
 use Rattle.basics.specs.Bits.{bit}
 use Rattle.basics.specs.Lists.{someBelow}
 use Rattle.basics.proofs.Laws.{someBelow-by, none-someBelow}
-use Rattle.recording.specs.Checks.{highBit, badOpenings, badWords}
+use Rattle.recording.specs.Checks.{highBit, ownBit, badOpenings, badWords}
+use Rattle.recording.proofs.RoundTrip.{own-at}
 
 -- a shift in place of a power
 pub high-shift : (n w : ℕ) → leb 1 (w / 2 ^ n) ≡ highBit n w
@@ -35,6 +36,14 @@ high-none n w h l = sym (lt-leb (2 ^ n) w (omega (arith, pow-mono {i = 32} {j = 
 pub bit-none : (w i : ℕ) → 32 ≤ i → w < 2 ^ 32 → false ≡ bit w i
 bit-none w i h l =
     ap (λ (x : ℕ). eqb (x % 2) 1) (sym (div-eq-of-lt (let o : w < 2 ^ i = omega (arith, pow-mono {i = 32} {j = i} h) in o)))
+
+-- the own loss bits of the round whose words begin at a place
+abbrev pub ownHere : List ℕ → ℕ → ℕ → Bool
+ownHere words base i = bit (getD words (base + (3 + i)) 0) i
+
+-- that place in round r
+pub own-place : (words : List ℕ) (n r base : ℕ) → base ≡ r * (3 + n) → (i : ℕ) → i < n → ownHere words base i ≡ ownBit (λ w. getD words w 0) n (r * n + i)
+own-place words n r base e i h = ap (λ (b : ℕ). ownHere words b i) e ∙ sym (own-at (λ w. getD words w 0) n r i h)
 
 -- ---- openings and words as a whole
 or-true : (a b : Bool) → b ≡ true → true ≡ (a || b)

@@ -40,11 +40,11 @@ pub then-second : (a b : Outcome) → andThen a b ≡ Accepted → b ≡ Accepte
 then-second Accepted b h = h
 then-second (Refused r) b h = refused-not r h
 
-or-left : (a b : Bool) → (a || b) ≡ false → a ≡ false
+pub or-left : (a b : Bool) → (a || b) ≡ false → a ≡ false
 or-left true b h = h
 or-left false b h = refl
 
-or-right : (a b : Bool) → (a || b) ≡ false → b ≡ false
+pub or-right : (a b : Bool) → (a || b) ≡ false → b ≡ false
 or-right true b h = let z : _≡_ {A = ℕ} 0 1 = cc in absurd (omega arith)
 or-right false b h = h
 

@@ -1,11 +1,11 @@
 -- Bytes and the bits they are packed from; the bits of the packed form, region by region.
-use mathlib.Core.Path.{_≡_, ap, sym, _∙_}
+use mathlib.Core.Path.{_≡_, ap, ap₂, sym, _∙_}
 use mathlib.Core.Bool.{Bool, true, false, cond}
 use mathlib.Core.List.{List}
 use Prim.Native.Nat.{ℕ, suc, _+_, _*_, _-_, _/_, _%_, _≤_, _<_}
-use native.Mathlib.Nat.{mul-le-mul-right}
 use native.Mathlib.Omega.{arith}
 use borrow.Author.Tests.{lt-ltb, le-ltb}
+use lib.Arith.{digits-lt, digits-div, digits-mod}
 use lib.Dec.{lit<, ltb}
 use lib.ListN.{length, getD}
 use lib.Seq.{ext-getD}
@@ -13,7 +13,7 @@ use Rattle.basics.specs.Bits.{digit}
 use Rattle.basics.specs.Lists.{tab}
 use Rattle.basics.proofs.Laws.{length-tab, getD-tab, tab-ext}
 use Rattle.recording.specs.Packed.{bitAt, numAt, bitsFor, bytesFor, pack, packBit, openingBit, roundBit}
-use Rattle.bitreader.proofs.Digits.{digit-lt, numAt-digit, numAt-lt, numAt-ext, byte-is}
+use Rattle.bitreader.proofs.Digits.{digit-lt, numAt-digit, numAt-ext, byte-is}
 
 pub length-pack : (f : ℕ → ℕ) (m : ℕ) → length (pack f m) ≡ m
 unfolding pack
@@ -42,11 +42,6 @@ pack-bitAt s m e h =
     let o : q < m = omega (arith, length-tab g m) in
     getD-tab g m q 0 o ∙ byte-is s q (h q o))
 
--- the packed form's bytes are bytes
-pub pack-byte : (f : ℕ → ℕ) → ((i : ℕ) → f i < 2) → (m q : ℕ) → q < m → getD (pack f m) q 0 < 256
-unfolding pack
-pack-byte f bits m q h = rw (getD-tab (λ i. numAt f (8 * i) 8) m q 0 h) (numAt-lt f bits (8 * q) 8)
-
 -- ---- sizes
 pub bits-flat : (n R : ℕ) → bitsFor n R ≡ 16 + 4 * n + R * (3 + n) * n
 unfolding bitsFor
@@ -59,7 +54,7 @@ bytes-hold n R = omega arith
 -- the last bit of word w stands before the end
 pub word-ends : (n R w i : ℕ) → w < R * (3 + n) → i < n → 16 + 4 * n + w * n + i < bitsFor n R
 word-ends n R w i h l =
-    let m : suc w * n ≤ R * (3 + n) * n = mul-le-mul-right n h in
+    let m : w * n + i < R * (3 + n) * n = digits-lt h l in
     omega (arith, bits-flat n R)
 
 module _ (n R : ℕ) (openings words : List ℕ) where
@@ -87,6 +82,21 @@ module _ (n R : ℕ) (openings words : List ℕ) where
   bit-end p h =
       let l : 16 + 4 * n ≤ p = omega (arith, bits-flat n R) in
       rw (le-ltb p 6 (let o : 6 ≤ p = omega arith in o), le-ltb p 16 (let o : 16 ≤ p = omega arith in o), le-ltb p (16 + 4 * n) l, le-ltb p (bitsFor n R) h)
+
+  -- bit i of opening j, and of word w
+  pub bit-opening : (j i : ℕ) → j < n → i < 4 → packBit n R openings words (16 + 4 * j + i) ≡ digit (getD openings j 0) (4 - suc i)
+  unfolding openingBit
+  bit-opening j i h l =
+      bit-openings (16 + 4 * j + i) (omega arith) (omega arith) ∙ ap₂ (λ (a b : ℕ). digit (getD openings a 0) b) (omega arith) (omega arith)
+
+  pub bit-word : (w i : ℕ) → w < R * (3 + n) → i < n → packBit n R openings words (16 + 4 * n + w * n + i) ≡ digit (getD words w 0) i
+  unfolding roundBit
+  bit-word w i h l =
+      let p : ℕ = 16 + 4 * n + w * n + i in
+      let q : p - (16 + 4 * n) ≡ w * n + i = omega arith in
+      bit-words p (omega arith) (word-ends n R w i h l)
+      ∙ ap (λ (a : ℕ). digit (getD words (a / n) 0) (a % n)) q
+      ∙ ap₂ (λ (a b : ℕ). digit (getD words a 0) b) (digits-div w l) (digits-mod w l)
 
   cond-lt : (b : Bool) (x y : ℕ) → x < 2 → y < 2 → cond b x y < 2
   cond-lt true x y p q = p

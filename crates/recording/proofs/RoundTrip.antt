@@ -3,10 +3,10 @@ use mathlib.Core.Path.{_≡_, ap, ap₂, sym, _∙_}
 use mathlib.Core.Bool.{false}
 use mathlib.Core.List.{List}
 use Prim.Native.Nat.{ℕ, zero, suc, _+_, _*_, _-_, _/_, _%_, _^_, _≤_, _<_}
-use native.Mathlib.Nat.{mul-le-mul-right, div-lt-iff-lt-mul, div-add-mod', mod-lt}
+use native.Mathlib.Nat.{div-lt-iff-lt-mul, div-add-mod', mod-lt}
 use native.Mathlib.Decide.{decLt}
 use native.Mathlib.Omega.{arith}
-use lib.Arith.{digits-div, digits-mod}
+use lib.Arith.{digits-lt, digits-div, digits-mod}
 use lib.ListN.{length, getD}
 use Rattle.refusals.specs.declared.Outcome.the-variants.{Accepted}
 use Rattle.basics.specs.Bits.{digit, bit}
@@ -16,7 +16,7 @@ use Rattle.recording.specs.Packed.{bitAt, numAt, rowAt, trucksOf, rounds
 use Rattle.recording.specs.Checks.{ownBit, checkOf, plainCheck}
 use Rattle.bitreader.proofs.Digits.{bitAt-lt, numAt-is, numAt-lt, numAt-digit, rowAt-is, rowAt-lt, rowAt-digit}
 use Rattle.recording.proofs.Accepted.{GoodOpenings, GoodRounds, GoodPlain, GoodFrame, GoodBytes, plain-good, good-plain, bytes-good, good-bytes, rounds-good}
-use Rattle.recording.proofs.Packing.{length-pack, pack-ext, bitAt-pack, pack-bitAt, bits-flat, bytes-hold, word-ends, bit-trucks, bit-rounds, bit-openings, bit-words, bit-end, packBit-lt}
+use Rattle.recording.proofs.Packing.{length-pack, pack-ext, bitAt-pack, pack-bitAt, bits-flat, bytes-hold, word-ends, bit-trucks, bit-rounds, bit-openings, bit-words, bit-end, bit-opening, bit-word, packBit-lt}
 
 -- ---- own loss bits by round and truck
 pub own-at : (f : ℕ → ℕ) (n r i : ℕ) → i < n → ownBit f n (r * n + i) ≡ bit (f (r * (3 + n) + (3 + i))) i
@@ -30,17 +30,11 @@ own-split (suc n) R k h =
     let z : 0 < suc n = omega arith in
     (z, div-lt-iff-lt-mul z .1 h, mod-lt k z, sym (div-add-mod' k (suc n)))
 
--- the word in which an own bit stands is a word of its round
-own-word : (n R r i : ℕ) → r < R → i < n → r * (3 + n) + (3 + i) < R * (3 + n)
-own-word n R r i h l =
-    let m : suc r * (3 + n) ≤ R * (3 + n) = mul-le-mul-right (3 + n) h in
-    omega arith
-
 pub own-ext : (f g : ℕ → ℕ) (n R : ℕ) → ((w : ℕ) → w < R * (3 + n) → f w ≡ g w) → (k : ℕ) → k < R * n → ownBit f n k ≡ ownBit g n k
 unfolding ownBit
 own-ext f g n R h k l =
     let s : (0 < n) × (k / n < R) × (k % n < n) × (k ≡ k / n * n + k % n) = own-split n R k l in
-    ap (λ (w : ℕ). bit w (k % n)) (h (k / n * (3 + n) + (3 + k % n)) (own-word n R (k / n) (k % n) (s .1) (s .2)))
+    ap (λ (w : ℕ). bit w (k % n)) (h (k / n * (3 + n) + (3 + k % n)) (digits-lt (s .1) (omega (arith, s .2))))
 
 -- ---- reading what was written
 module _ (n R : ℕ) (openings words : List ℕ) (good : GoodPlain n R openings words) where
@@ -73,14 +67,13 @@ module _ (n R : ℕ) (openings words : List ℕ) (good : GoodPlain n R openings 
       ∙ ap (digit R) (omega arith))
 
   pub opening-back : (i : ℕ) → i < n → openingAt (packed n R openings words) i ≡ getD openings i 0
-  unfolding openingAt openingBit written
+  unfolding openingAt written
   opening-back i h =
       numAt-is (bitAt written) (bitAt-lt written) (16 + 4 * i) 4 (getD openings i 0)
       (omega (arith, good .openings-good .opening i h))
       (λ j l.
       bit-back (16 + 4 * i + j) (fits (16 + 4 * i + j) (omega (arith, bits-flat n R)))
-      ∙ bit-openings n R openings words (16 + 4 * i + j) (omega arith) (omega arith)
-      ∙ ap₂ (λ (a b : ℕ). digit (getD openings a 0) b) (omega arith) (omega arith))
+      ∙ bit-opening n R openings words i j h l)
 
   pub openings-back : openingsOf (packed n R openings words) ≡ openings
   unfolding openingsOf written
@@ -90,18 +83,11 @@ module _ (n R : ℕ) (openings words : List ℕ) (good : GoodPlain n R openings 
       ∙ tab-getD 0 openings n (good .openings-good .count)
 
   pub word-back : (w : ℕ) → w < R * (3 + n) → wordAt (packed n R openings words) w ≡ getD words w 0
-  unfolding wordAt roundBit written
+  unfolding wordAt written
   word-back w h =
       ap (λ (k : ℕ). rowAt (bitAt written) (16 + 4 * k + w * k) k) trucks-back
       ∙ rowAt-is (bitAt written) (bitAt-lt written) (16 + 4 * n + w * n) n (getD words w 0) (good .rounds-good .word w h)
-      (λ i l.
-      let p : ℕ = 16 + 4 * n + w * n + i in
-      let o : p < bitsFor n R = word-ends n R w i h l in
-      let q : p - (16 + 4 * n) ≡ w * n + i = omega arith in
-      bit-back p (fits p o)
-      ∙ bit-words n R openings words p (omega arith) o
-      ∙ ap (λ (a : ℕ). digit (getD words (a / n) 0) (a % n)) q
-      ∙ ap₂ (λ (a b : ℕ). digit (getD words a 0) b) (digits-div w l) (digits-mod w l))
+      (λ i l. bit-back (16 + 4 * n + w * n + i) (fits (16 + 4 * n + w * n + i) (word-ends n R w i h l)) ∙ bit-word n R openings words w i h l)
 
   pub words-back : wordsOf (packed n R openings words) ≡ words
   unfolding wordsOf written

@@ -3,18 +3,18 @@ use mathlib.Core.Path.{_≡_, refl, ap, ap₂, sym, _∙_}
 use mathlib.Core.Bool.{false}
 use mathlib.Core.List.{List, [], _∷_, _++_}
 use Prim.Native.Nat.{ℕ, zero, suc, _+_, _*_, _/_, _%_, _^_, _≤_, _<_, min}
-use native.Mathlib.Nat.{min-eq-left, mul-le-mul-right, div-lt-iff-lt-mul, div-add-mod', mod-lt}
+use native.Mathlib.Nat.{min-eq-left, div-lt-iff-lt-mul, div-add-mod', mod-lt}
 use native.Mathlib.Omega.{arith}
-use lib.ListN.{length, getD, take, drop, length-append, length-drop, List·getD-append}
-use lib.Seq.{ext-getD, getD-append-add, getD-take, getD-drop, length-take-le}
+use lib.Arith.{digits-lt}
+use lib.ListN.{length, getD, length-append, List·getD-append}
+use lib.Seq.{ext-getD, getD-append-add}
 use Rattle.refusals.specs.declared.Outcome.the-variants.{Accepted}
 use Rattle.basics.specs.Bits.{bit}
-use Rattle.basics.specs.Lists.{tab}
 use Rattle.basics.proofs.Laws.{length-tab, getD-tab}
 use Rattle.recording.specs.Packed.{bitAt, rowAt, trucksOf, roundsOf, wordAt, wordsOf, roundAt, bitsFor, bytesFor, packed, joined}
-use Rattle.recording.specs.Checks.{ownBit, badOpenings, checkOf, roundCheck, plainCheck}
-use Rattle.recording.proofs.Accepted.{GoodRounds, GoodPlain, good-plain, bytes-good, rounds-good, good-rounds, openings-in}
-use Rattle.recording.proofs.RoundTrip.{own-at, own-split, word-lt, word-read, trucks-back, rounds-back, words-back}
+use Rattle.recording.specs.Checks.{ownBit, badOpenings, roundCheck, plainCheck}
+use Rattle.recording.proofs.Accepted.{GoodRounds, GoodPlain, good-plain, rounds-good, openings-in}
+use Rattle.recording.proofs.RoundTrip.{own-at, own-split, word-read, trucks-back, rounds-back, words-back}
 
 -- the largest recording
 pub largest : bytesFor 32 400 ≡ 56018
@@ -40,28 +40,6 @@ round-good n words h =
           ∙ g .own (0 * n + i) (omega arith);
     }
 
-pub good-round : (n : ℕ) (words : List ℕ) → GoodRound n words → roundCheck n words ≡ Accepted
-unfolding roundCheck
-good-round n words g =
-    good-rounds n 1 words
-    (record {
-      count = omega (arith, g .count);
-      word = λ w l. g .word w (omega arith);
-      own = λ k l.
-          let e : k ≡ 0 * n + k = omega arith in
-          let o : k < n = omega arith in
-          ap (ownBit (λ w. getD words w 0) n) e
-          ∙ own-at (λ w. getD words w 0) n 0 k o
-          ∙ ap (λ (w : ℕ). bit (getD words w 0) k) (let e : 0 * (3 + n) + (3 + k) ≡ 3 + k = omega arith in e)
-          ∙ g .own k o;
-    })
-
--- word w of round r is a word of the rounds
-pub word-of : (m R r w : ℕ) → r < R → w < m → r * m + w < R * m
-word-of m R r w h l =
-    let s : suc r * m ≤ R * m = mul-le-mul-right m h in
-    omega arith
-
 module _ (s : List ℕ) where
   pub length-round : (k : ℕ) → length (roundAt s k) ≡ 3 + trucksOf s
   unfolding roundAt
@@ -70,38 +48,6 @@ module _ (s : List ℕ) where
   pub word-round : (k w : ℕ) → w < 3 + trucksOf s → getD (roundAt s k) w 0 ≡ wordAt s (k * (3 + trucksOf s) + w)
   unfolding roundAt
   word-round k w h = getD-tab (λ i. wordAt s (k * (3 + trucksOf s) + i)) (3 + trucksOf s) w 0 h
-
-  length-words : length (wordsOf s) ≡ roundsOf s * (3 + trucksOf s)
-  unfolding wordsOf
-  length-words = length-tab (wordAt s) (roundsOf s * (3 + trucksOf s))
-
-  -- a round is its part of the words
-  pub round-part : (k : ℕ) → k < roundsOf s → roundAt s k ≡ take (3 + trucksOf s) (drop (k * (3 + trucksOf s)) (wordsOf s))
-  round-part k h =
-      let m : ℕ = 3 + trucksOf s in
-      let d : List ℕ = drop (k * m) (wordsOf s) in
-      let o : suc k * m ≤ roundsOf s * m = mul-le-mul-right m h in
-      let e : length (take m d) ≡ m
-      = length-take-le m d (let z : m ≤ length d = omega (arith, length-drop (k * m) (wordsOf s), length-words) in z) in
-      ext-getD 0 (roundAt s k) (take m d) (length-round k ∙ sym e)
-      (λ w l.
-      let u : w < m = omega (arith, length-round k) in
-      word-round k w u
-      ∙ sym (getD-take m d w 0 u ∙ getD-drop (k * m) (wordsOf s) w 0 ∙ word-read s (k * m + w) (word-of m (roundsOf s) k w h u)))
-
-  -- each round of an accepted recording is accepted
-  pub round-accepted : checkOf s ≡ Accepted → (k : ℕ) → k < roundsOf s → roundCheck (trucksOf s) (roundAt s k) ≡ Accepted
-  round-accepted h k l =
-      let n : ℕ = trucksOf s in
-      good-round n (roundAt s k)
-      (record {
-        count = length-round k;
-        word = λ w u. rw (word-round k w u) (word-lt s (k * (3 + n) + w));
-        own = λ i u.
-            ap (λ (w : ℕ). bit w i) (word-round k (3 + i) (omega arith))
-            ∙ sym (own-at (wordAt s) n k i u)
-            ∙ bytes-good s h .own (k * n + i) (word-of n (roundsOf s) k i l u);
-      })
 
 -- ---- words by their places
 -- what is read at the place of word w is word w
@@ -135,29 +81,6 @@ getD-joined m (r ∷ rs) h (suc k) w l u =
     ap (λ (i : ℕ). getD (r ++ joined rs) i 0) (let e : suc k * m + w ≡ length r + (k * m + w) = omega (arith, h 0 (omega arith)) in e)
     ∙ getD-append-add r (joined rs) (k * m + w) 0
     ∙ getD-joined m rs (λ i o. h (suc i) (omega arith)) k w (omega arith) u
-
--- the words of a recording are its rounds one after the other
-pub words-joined : (s : List ℕ) → wordsOf s ≡ joined (tab (roundAt s) (roundsOf s))
-words-joined s =
-    let m : ℕ = 3 + trucksOf s in
-    let rs : List (List ℕ) = tab (roundAt s) (roundsOf s) in
-    let n : length rs ≡ roundsOf s = length-tab (roundAt s) (roundsOf s) in
-    let each : (k : ℕ) → k < length rs → getD rs k [] ≡ roundAt s k = λ k l. getD-tab (roundAt s) (roundsOf s) k [] (omega arith) in
-    let long : (k : ℕ) → k < length rs → length (getD rs k []) ≡ m = λ k l. ap length (each k l) ∙ length-round s k in
-    ext-getD 0 (wordsOf s) (joined rs) (length-words s ∙ sym (length-joined m rs long ∙ ap (λ (a : ℕ). a * m) n))
-    (λ w l.
-    let u : w < roundsOf s * m = omega (arith, length-words s) in
-    let q : w / m < roundsOf s = div-lt-iff-lt-mul (let z : 0 < m = omega arith in z) .1 u in
-    let i : w % m < m = mod-lt w (let z : 0 < m = omega arith in z) in
-    let e : w ≡ w / m * m + w % m = sym (div-add-mod' w m) in
-    let o : w / m < length rs = omega arith in
-    word-read s w u
-    ∙ ap (wordAt s) e
-    ∙ sym
-    (ap (λ (j : ℕ). getD (joined rs) j 0) e
-    ∙ getD-joined m rs long (w / m) (w % m) o i
-    ∙ ap (λ (r : List ℕ). getD r (w % m) 0) (each (w / m) o)
-    ∙ word-round s (w / m) (w % m) i))
 
 -- ---- a recording of accepted rounds
 module _ (n : ℕ) (rs : List (List ℕ)) (rounds : (k : ℕ) → k < length rs → roundCheck n (getD rs k []) ≡ Accepted) where
@@ -207,7 +130,7 @@ module _ (n : ℕ) (rs : List (List ℕ)) (rounds : (k : ℕ) → k < length rs 
         ext-getD 0 (roundAt s k) (getD rs k []) (e ∙ sym (long k l))
         (λ w u.
         let i : w < m = omega arith in
-        let j : k * m + w < roundsOf s * (3 + trucksOf s) = rw (r, t) (word-of m (length rs) k w l i) in
+        let j : k * m + w < roundsOf s * (3 + trucksOf s) = rw (r, t) (digits-lt l i) in
         word-round s k w (omega (arith, t))
         ∙ ap (λ (a : ℕ). wordAt s (k * (3 + a) + w)) t
         ∙ sym (word-read s (k * m + w) j)

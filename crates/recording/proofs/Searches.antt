@@ -3,11 +3,12 @@ use mathlib.Core.Path.{_≡_, refl, ap, ap₂, sym, _∙_}
 use mathlib.Core.Bool.{Bool, true, false, not, true≢false}
 use mathlib.Core.List.{List}
 use Prim.Native.Nat.{ℕ, zero, suc, _+_, _*_, _-_, _%_, _^_, _≤_, _<_}
-use native.Mathlib.Nat.{mul-le-mul, mul-le-mul-right, zero-div}
+use native.Mathlib.Nat.{mul-le-mul, zero-div}
 use native.Mathlib.Numerals.{add-one}
 use native.Mathlib.Decide.{decLt}
 use native.Mathlib.Omega.{arith}
 use borrow.Author.Tests.{eqb-false, eq-eqb, ne-eqb, lt-ltb, le-ltb}
+use lib.Arith.{digits-lt}
 use lib.Dec.{eqb}
 use lib.ListN.{length}
 use Rattle.refusals.specs.declared.Refusal.{Refusal}
@@ -18,7 +19,7 @@ use Rattle.basics.specs.Bits.{bit, digit}
 use Rattle.basics.specs.Lists.{first, someBelow}
 use Rattle.basics.proofs.Laws.{someBelow-none, none-someBelow, someBelow-by, first-before, first-at, first-on, first-unique}
 use Rattle.bitreader.proofs.Digits.{bitAt-lt, numAt-digit, rowAt-digit}
-use Rattle.recording.specs.Packed.{bitAt, numAt, trucksOf, roundsOf, wordAt, bitsFor, bytesFor}
+use Rattle.recording.specs.Packed.{bitAt, numAt, rowAt, trucksOf, roundsOf, wordAt, bitsFor, bytesFor}
 use Rattle.recording.specs.Checks.{refuse, andThen, tooShort, badTrucks, badRounds, badLength, endBit, ownBit, ownLoss, frameCheck, ownCheck, checkOf}
 use Rattle.recording.proofs.Accepted.{frame-good, trucks-in}
 use Rattle.recording.proofs.RoundTrip.{own-at}
@@ -85,23 +86,23 @@ module _ (p q : ℕ → Bool) (n r : ℕ) (same : (i : ℕ) → i < n → q i �
   pub some-round : (R : ℕ) → r < R → first q n < n → someBelow p (R * n) ≡ true
   some-round R l e =
       someBelow-by p (R * n) (r * n + first q n)
-      (let m : suc r * n ≤ R * n = mul-le-mul-right n l in omega arith)
+      (digits-lt l e)
       (sym (same (first q n) e) ∙ first-at q n e)
 
--- own loss bit i of round r stands at this place
-pub own-place : (s : List ℕ) (n r i : ℕ) → n ≡ trucksOf s → i < n
-    → eqb (bitAt s (16 + 7 * n + r * (3 * n + n * n) + i * (n + 1))) 1 ≡ ownBit (wordAt s) n (r * n + i)
+-- the own loss bits of the round whose first one stands at a place
+abbrev pub ownHere : List ℕ → ℕ → ℕ → ℕ → Bool
+ownHere s at n i = eqb (bitAt s (at + i * (n + 1))) 1
+
+-- that place in round r
+pub own-place : (s : List ℕ) (n r at : ℕ) → n ≡ trucksOf s → at ≡ 16 + 7 * n + r * (3 * n + n * n) → (i : ℕ) → i < n → ownHere s at n i ≡ ownBit (wordAt s) n (r * n + i)
 unfolding wordAt
-own-place s n r i e h =
+own-place s n r at e p i h =
     let w : ℕ = r * (3 + n) + (3 + i) in
     sym
     (own-at (wordAt s) n r i h
-    ∙ ap (λ (m : ℕ). bit (numRow m w) i) (sym e)
+    ∙ ap (λ (m : ℕ). bit (rowAt (bitAt s) (16 + 4 * m + w * m) m) i) (sym e)
     ∙ ap (λ (b : ℕ). eqb b 1) (rowAt-digit (bitAt s) (bitAt-lt s) (16 + 4 * n + w * n) n i h)
     ∙ ap (λ (q : ℕ). eqb (bitAt s q) 1) (omega arith))
-  where
-    numRow : ℕ → ℕ → ℕ
-    numRow m w = Rattle.bitreader.specs.Bits.rowAt (bitAt s) (16 + 4 * m + w * m) m
 
 -- ---- a search that stops at the first hit
 pub first-found : (p : ℕ → Bool) (i n : ℕ) → first p i ≡ i → p i ≡ true → i < n → i ≡ first p n
@@ -175,10 +176,10 @@ module _ (s : List ℕ) (n : ℕ) (b : Bool) (long : 2 ≤ length s) (counted : 
             (ap (λ (t : ℕ). someBelow (λ j. eqb (bitAt s (t + j)) 1) (8 * length s - t)) (ap₂ bitsFor (sym counted) (sym played) ∙ sym bits) ∙ sym ended)
 
         pub frame-5 : e ≡ true → Refused EndBit ≡ frameCheck s
-        frame-5 h = ap (λ (x : Bool). refuse x EndBit Accepted) (sym h) ∙ frame-end
+        frame-5 h = rw h at frame-end
 
         pub frame-0 : e ≡ false → Accepted ≡ frameCheck s
-        frame-0 h = ap (λ (x : Bool). refuse x EndBit Accepted) (sym h) ∙ frame-end
+        frame-0 h = rw h at frame-end
 
 pub check-refused : (s : List ℕ) (f : Outcome) (r : Refusal) → f ≡ frameCheck s → f ≡ Refused r → Refused r ≡ checkOf s
 unfolding checkOf
@@ -198,7 +199,7 @@ module _ (s : List ℕ) (f : Outcome) (n R : ℕ) (framed : f ≡ frameCheck s) 
         ap₂ (λ (o : Outcome) (x : Bool). andThen o (refuse x OwnLoss Accepted)) (sym kept ∙ framed) (owned ∙ ap₂ (ownLoss (wordAt s)) counted played)
 
     pub check-6 : b ≡ true → Refused OwnLoss ≡ checkOf s
-    check-6 h = ap (λ (x : Bool). refuse x OwnLoss Accepted) (sym h) ∙ check-own
+    check-6 h = rw h at check-own
 
     pub check-0 : b ≡ false → Accepted ≡ checkOf s
-    check-0 h = ap (λ (x : Bool). refuse x OwnLoss Accepted) (sym h) ∙ check-own
+    check-0 h = rw h at check-own

@@ -102,7 +102,7 @@ fn own_truck(s: &[u8], at: usize, n: usize) -> usize
         if b == 1 {
             return i;
         }
-        p = p + n + 1;
+        p = p + (n + 1);
         i += 1;
     }
     n

@@ -1,3 +1,4 @@
+-- `bad_openings` meets its contract: no opening that the loop has passed is above 15.
 use mathlib.Core.Path.{_≡_}
 use mathlib.Core.Bool.{Bool, false}
 use mathlib.Core.List.{List}

@@ -1,3 +1,4 @@
+-- `bad_words` meets its contract: no word that the loop has passed has a bit too high.
 use mathlib.Core.Path.{_≡_, sym, _∙_}
 use mathlib.Core.Bool.{Bool, false}
 use mathlib.Core.List.{List}

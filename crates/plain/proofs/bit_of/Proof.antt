@@ -1,3 +1,4 @@
+-- `bit_of` meets its contract: a word of 32 bits has no bit above them.
 use borrow.Author.Needs.{needs}
 use Rattle.plain.proofs.Tests.{bit-none}
 use Rattle.plain.proofs.bit_of.Statement.{statement}

@@ -1,3 +1,4 @@
+-- `check_round` meets its contract: one round is rounds of the number 1.
 use borrow.Author.Needs.{needs}
 use Rattle.recording.specs.Checks.{roundCheck}
 use Rattle.plain.proofs.check_round.Statement.{statement}

@@ -1,3 +1,4 @@
+-- `field_at` meets its contract: the openings first, and then the words.
 use mathlib.Core.Path.{ap, _∙_}
 use Prim.Native.Nat.{ℕ, _-_}
 use native.Mathlib.Nat.{min-eq-left}

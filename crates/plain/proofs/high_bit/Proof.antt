@@ -1,3 +1,4 @@
+-- `high_bit` meets its contract: a shift says what the power does, and a word of 32 bits has no bit above them.
 use borrow.Author.Needs.{needs}
 use Rattle.plain.proofs.Tests.{high-shift, high-none}
 use Rattle.plain.proofs.high_bit.Statement.{statement}

@@ -1,48 +1,36 @@
-use mathlib.Core.Path.{_≡_, ap, sym, _∙_}
-use mathlib.Core.Bool.{Bool, false}
-use mathlib.Core.List.{List}
-use Prim.Native.Nat.{ℕ, _≤_, _<_, _+_, _*_, _-_}
+-- `own_loss` meets its contract: no own bit of the rounds that the loop has passed is 1.
+use mathlib.Core.Path.{_≡_, sym}
+use mathlib.Core.Bool.{false}
+use Prim.Native.Nat.{_≤_, _+_, _*_, _-_}
 use native.Mathlib.Omega.{arith}
 use borrow.Author.Needs.{needs}
 use lib.ListN.{length, getD}
-use Rattle.basics.specs.Bits.{bit}
 use Rattle.basics.specs.Lists.{someBelow}
 use Rattle.basics.proofs.Laws.{none-someBelow}
 use Rattle.recording.specs.Checks.{ownBit, ownLoss}
-use Rattle.recording.proofs.RoundTrip.{own-at}
 use Rattle.recording.proofs.Searches.{none-round, some-round}
 use Rattle.plain.proofs.Outcomes.{base-fits}
-use Rattle.plain.proofs.Tests.{words-small}
+use Rattle.plain.proofs.Tests.{ownHere, own-place, words-small}
 use Rattle.plain.proofs.own_loss.Statement.{statement}
 use Rattle.plain.proofs.own_loss.Tie as tie
 
--- all own bits, and those of the round whose words begin at a place
-abbrev all : List ℕ → ℕ → ℕ → Bool
-all words n = ownBit (λ w. getD words w 0) n
-
-abbrev here : List ℕ → ℕ → ℕ → Bool
-here words base i = bit (getD words (base + (3 + i)) 0) i
-
 abbrev Inv-loop : tie.InvT-loop
-Inv-loop n rounds words m base₀ r₀ base r = (r ≤ rounds) × (base ≡ r * (3 + n)) × (someBelow (all words n) (r * n) ≡ false)
+Inv-loop n rounds words m base₀ r₀ base r = (r ≤ rounds) × (base ≡ r * (3 + n)) × (someBelow (ownBit (λ w. getD words w 0) n) (r * n) ≡ false)
 
 abbrev μ-loop : tie.MeasureT-loop
 μ-loop n rounds words m base₀ r₀ base r = rounds - r
 
-same : (words : List ℕ) (n r base : ℕ) → base ≡ r * (3 + n) → (i : ℕ) → i < n → here words base i ≡ all words n (r * n + i)
-same words n r base e i h = ap (λ (b : ℕ). here words b i) e ∙ sym (own-at (λ w. getD words w 0) n r i h)
-
 loop-holds : tie.Need-loop-holds Inv-loop μ-loop
 loop-holds c =
     let a = c .before .args in
-    (omega arith, omega arith, none-someBelow (all (a .words .now) (a .n)) (0 * a .n) (λ k l. absurd (omega arith)))
+    (omega arith, omega arith, none-someBelow (ownBit (λ w. getD (a .words .now) w 0) (a .n)) (0 * a .n) (λ k l. absurd (omega arith)))
 
 own-truck-requires : tie.Need-own-truck-requires Inv-loop μ-loop
 own-truck-requires c κs =
     let s = c .before .before .before in
     let l = c .before .loop in
     let f : l .base + (3 + s .args .n) ≤ length (s .args .words .now)
-    = base-fits (s .args .n) (s .args .rounds) (l .r) (l .base) (length (s .args .words .now)) (s .fits .n .fits) (s .fits .rounds .fits) (c .loop-test .taken) (l .inv .1) (s .pre) in
+    = base-fits (s .args .n) (s .args .rounds) (l .r) (l .base) (length (s .args .words .now)) (c .loop-test .taken) (l .inv .1) (s .pre) in
     (omega (arith, s .pre, words-small (s .args .n) (s .args .rounds) (s .fits .n .fits) (s .fits .rounds .fits)), f)
 
 returns : tie.Need-returns Inv-loop μ-loop
@@ -51,7 +39,7 @@ returns c =
     let a = c .before .before .before .before .before .args in
     let l = c .before .before .before .loop in
     sym
-    (some-round (all (a .words .now) (a .n)) (here (a .words .now) (l .base)) (a .n) (l .r) (same (a .words .now) (a .n) (l .r) (l .base) (l .inv .1)) (a .rounds) (omega arith)
+    (some-round (ownBit (λ w. getD (a .words .now) w 0) (a .n)) (ownHere (a .words .now) (l .base)) (a .n) (l .r) (own-place (a .words .now) (a .n) (l .r) (l .base) (l .inv .1)) (a .rounds) (omega arith)
     (omega (arith, c .before .own-truck .ensures)))
 
 add-base-2 : tie.Need-add-base-2 Inv-loop μ-loop
@@ -59,13 +47,13 @@ add-base-2 c =
     let s = c .before .before .before .before .before in
     let l = c .before .before .before .loop in
     omega
-    (arith, s .pre, words-small (s .args .n) (s .args .rounds) (s .fits .n .fits) (s .fits .rounds .fits), base-fits (s .args .n) (s .args .rounds) (l .r) (l .base) (length (s .args .words .now)) (s .fits .n .fits) (s .fits .rounds .fits) (c .before .before .loop-test .taken) (l .inv .1) (s .pre))
+    (arith, s .pre, words-small (s .args .n) (s .args .rounds) (s .fits .n .fits) (s .fits .rounds .fits), base-fits (s .args .n) (s .args .rounds) (l .r) (l .base) (length (s .args .words .now)) (c .before .before .loop-test .taken) (l .inv .1) (s .pre))
 
 loop-again : tie.Need-loop-again Inv-loop μ-loop
 loop-again c =
     let a = c .before .before .before .before .before .args in
     let l = c .before .before .before .loop in
-    (omega arith, omega (arith, l .inv .1), none-round (all (a .words .now) (a .n)) (here (a .words .now) (l .base)) (a .n) (l .r) (same (a .words .now) (a .n) (l .r) (l .base) (l .inv .1)) (l .inv .2) (omega (arith, c .before .own-truck .ensures)))
+    (omega arith, omega (arith, l .inv .1), none-round (ownBit (λ w. getD (a .words .now) w 0) (a .n)) (ownHere (a .words .now) (l .base)) (a .n) (l .r) (own-place (a .words .now) (a .n) (l .r) (l .base) (l .inv .1)) (l .inv .2) (omega (arith, c .before .own-truck .ensures)))
 
 returns-2 : tie.Need-returns-2 Inv-loop μ-loop
 unfolding ownLoss

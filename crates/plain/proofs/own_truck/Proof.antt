@@ -1,40 +1,35 @@
+-- `own_truck` meets its contract: no truck that the loop has passed has its own bit set.
 use mathlib.Core.Path.{_≡_, sym, _∙_}
-use mathlib.Core.Bool.{Bool}
-use mathlib.Core.List.{List}
-use Prim.Native.Nat.{ℕ, _≤_, _+_, _-_}
+use Prim.Native.Nat.{_≤_, _-_}
 use native.Mathlib.Omega.{arith}
 use borrow.Author.Needs.{needs}
-use lib.ListN.{getD}
-use Rattle.basics.specs.Bits.{bit}
 use Rattle.basics.specs.Lists.{first}
 use Rattle.basics.proofs.Laws.{first-none}
 use Rattle.recording.proofs.Searches.{first-found, first-step}
+use Rattle.plain.proofs.Tests.{ownHere}
 use Rattle.plain.proofs.own_truck.Statement.{statement}
 use Rattle.plain.proofs.own_truck.Tie as tie
 
-abbrev own : List ℕ → ℕ → ℕ → Bool
-own words base i = bit (getD words (base + (3 + i)) 0) i
-
 abbrev Inv-loop : tie.InvT-loop
-Inv-loop words base n i₀ i = (i ≤ n) × (first (own words base) i ≡ i)
+Inv-loop words base n i₀ i = (i ≤ n) × (first (ownHere words base) i ≡ i)
 
 abbrev μ-loop : tie.MeasureT-loop
 μ-loop words base n i₀ i = n - i
 
 loop-holds : tie.Need-loop-holds Inv-loop μ-loop
-loop-holds c = (omega arith, first-none (own (c .before .args .words .now) (c .before .args .base)))
+loop-holds c = (omega arith, first-none (ownHere (c .before .args .words .now) (c .before .args .base)))
 
 returns : tie.Need-returns Inv-loop μ-loop
 returns c =
     let a = c .before .before .before .before .before .before .args in
     let l = c .before .before .before .before .loop in
-    first-found (own (a .words .now) (a .base)) (l .i) (a .n) (l .inv .1) (sym (c .before .bit-of .ensures) ∙ c .if1 .taken) (omega arith)
+    first-found (ownHere (a .words .now) (a .base)) (l .i) (a .n) (l .inv .1) (sym (c .before .bit-of .ensures) ∙ c .if1 .taken) (omega arith)
 
 loop-again : tie.Need-loop-again Inv-loop μ-loop
 loop-again c =
     let a = c .before .before .before .before .before .before .args in
     let l = c .before .before .before .before .loop in
-    (omega arith, first-step (own (a .words .now) (a .base)) (l .i) (l .inv .1) (sym (c .before .bit-of .ensures) ∙ c .if1 .left))
+    (omega arith, first-step (ownHere (a .words .now) (a .base)) (l .i) (l .inv .1) (sym (c .before .bit-of .ensures) ∙ c .if1 .left))
 
 returns-2 : tie.Need-returns-2 Inv-loop μ-loop
 returns-2 c =

@@ -1,3 +1,4 @@
+-- `put` meets its contract: the shift loses nothing, so the digits are those of the sum.
 use mathlib.Core.Path.{refl}
 use Prim.Native.Nat.{ℕ, _+_}
 use native.Mathlib.Omega.{arith}

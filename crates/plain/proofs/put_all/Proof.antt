@@ -1,3 +1,4 @@
+-- `put_all` meets its contract: the bits put out so far are those of the packed form up to the place of the next field.
 use mathlib.Core.Path.{_≡_, ap, sym, _∙_}
 use mathlib.Core.List.{List}
 use Prim.Native.Nat.{ℕ, _≤_, _<_, _+_, _*_, _-_, _%_}

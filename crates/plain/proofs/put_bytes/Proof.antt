@@ -1,3 +1,4 @@
+-- `put_bytes` meets its contract: the loop holds the buffer with the bytes so far.
 use mathlib.Core.Path.{_≡_, ap, _∙_}
 use Prim.Native.Nat.{ℕ, _≤_, _-_, _/_}
 use native.Mathlib.Omega.{arith}

@@ -1,3 +1,4 @@
+-- `bad_trucks` meets its contract: the test is the definition.
 use borrow.Author.Needs.{needs}
 use Rattle.recording.specs.Checks.{badTrucks}
 use Rattle.recording.proofs.bad_trucks.Statement.{statement}

@@ -1,3 +1,4 @@
+-- `bits_for` meets its contract: no product or sum wraps.
 use mathlib.Core.Path.{refl}
 use native.Mathlib.Omega.{arith}
 use borrow.Author.Needs.{needs}

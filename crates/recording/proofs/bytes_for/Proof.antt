@@ -1,3 +1,4 @@
+-- `bytes_for` meets its contract: the sum does not wrap.
 use mathlib.Core.Path.{ap}
 use Prim.Native.Nat.{ℕ, _+_, _/_}
 use native.Mathlib.Omega.{arith}

@@ -1,3 +1,4 @@
+-- `end_bit` meets its contract: the number of the bits left over is 0 exactly where each of them is.
 use Prim.Native.Nat.{_*_, _-_}
 use native.Mathlib.Nat.{min-eq-left}
 use native.Mathlib.Omega.{arith}

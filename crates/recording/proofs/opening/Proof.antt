@@ -1,3 +1,4 @@
+-- `opening` meets its contract: four bits fit a byte.
 use Prim.Native.Nat.{_+_, _*_}
 use native.Mathlib.Omega.{arith}
 use borrow.Author.Needs.{needs}

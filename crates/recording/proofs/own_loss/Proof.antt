@@ -1,15 +1,14 @@
-use mathlib.Core.Path.{_≡_, ap, sym, _∙_}
-use mathlib.Core.Bool.{Bool, false}
-use mathlib.Core.List.{List}
-use Prim.Native.Nat.{ℕ, _≤_, _<_, _+_, _*_, _-_}
+-- `own_loss` meets its contract: no own bit of the rounds that the loop has passed is 1.
+use mathlib.Core.Path.{_≡_, sym}
+use mathlib.Core.Bool.{false}
+use Prim.Native.Nat.{_≤_, _+_, _*_, _-_}
 use native.Mathlib.Omega.{arith}
 use borrow.Author.Needs.{needs}
-use lib.Dec.{eqb}
 use Rattle.basics.specs.Lists.{someBelow}
 use Rattle.basics.proofs.Laws.{none-someBelow}
-use Rattle.recording.specs.Packed.{bitAt, wordAt}
+use Rattle.recording.specs.Packed.{wordAt}
 use Rattle.recording.specs.Checks.{ownBit, ownLoss}
-use Rattle.recording.proofs.Searches.{own-place, none-round, some-round}
+use Rattle.recording.proofs.Searches.{ownHere, own-place, none-round, some-round}
 use Rattle.recording.proofs.Sizes.{square-small, rounds-within}
 use Rattle.recording.proofs.own_loss.Statement.{statement}
 use Rattle.recording.proofs.own_loss.Tie as tie
@@ -38,25 +37,14 @@ own-truck-requires c κs =
     let l = c .before .loop in
     omega (arith, l .inv .1, rounds-within (a .n) (l .r) (omega arith) (omega arith))
 
--- the own bits of the present round, and the whole of them
-abbrev here : List ℕ → ℕ → ℕ → ℕ → Bool
-here s n at i = eqb (bitAt s (at + i * (n + 1))) 1
-
-same : (c : tie.After-own-truck Inv-loop μ-loop) (i : ℕ) → i < c .before .before .before .before .args .n
-    → here (c .before .before .before .before .args .s .now) (c .before .before .before .before .args .n) (c .before .before .loop .at) i
-    ≡ ownBit (wordAt (c .before .before .before .before .args .s .now)) (c .before .before .before .before .args .n) (c .before .before .loop .r * c .before .before .before .before .args .n + i)
-same c i h =
-    let a = c .before .before .before .before .args in
-    let l = c .before .before .loop in
-    ap (λ (p : ℕ). here (a .s .now) (a .n) p i) (l .inv .1) ∙ own-place (a .s .now) (a .n) (l .r) i (c .before .before .before .before .pre .0) h
-
 returns : tie.Need-returns Inv-loop μ-loop
 unfolding ownLoss
 returns c =
-    let a = c .before .before .before .before .before .args in
+    let s = c .before .before .before .before .before in
+    let a = s .args in
     let l = c .before .before .before .loop in
     sym
-    (some-round (ownBit (wordAt (a .s .now)) (a .n)) (here (a .s .now) (a .n) (l .at)) (a .n) (l .r) (same (c .before)) (a .rounds) (omega arith)
+    (some-round (ownBit (wordAt (a .s .now)) (a .n)) (ownHere (a .s .now) (l .at) (a .n)) (a .n) (l .r) (own-place (a .s .now) (a .n) (l .r) (l .at) (s .pre .0) (l .inv .1)) (a .rounds) (omega arith)
     (omega (arith, c .before .own-truck .ensures)))
 
 add-at-2 : tie.Need-add-at-2 Inv-loop μ-loop
@@ -67,9 +55,10 @@ add-at-2 c =
 
 loop-again : tie.Need-loop-again Inv-loop μ-loop
 loop-again c =
-    let a = c .before .before .before .before .before .args in
+    let s = c .before .before .before .before .before in
+    let a = s .args in
     let l = c .before .before .before .loop in
-    (omega arith, omega (arith, l .inv .1), none-round (ownBit (wordAt (a .s .now)) (a .n)) (here (a .s .now) (a .n) (l .at)) (a .n) (l .r) (same (c .before)) (l .inv .2) (omega (arith, c .before .own-truck .ensures)))
+    (omega arith, omega (arith, l .inv .1), none-round (ownBit (wordAt (a .s .now)) (a .n)) (ownHere (a .s .now) (l .at) (a .n)) (a .n) (l .r) (own-place (a .s .now) (a .n) (l .r) (l .at) (s .pre .0) (l .inv .1)) (l .inv .2) (omega (arith, c .before .own-truck .ensures)))
 
 returns-2 : tie.Need-returns-2 Inv-loop μ-loop
 unfolding ownLoss

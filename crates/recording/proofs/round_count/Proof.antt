@@ -1,3 +1,4 @@
+-- `round_count` meets its contract: ten bits fit 16.
 use native.Mathlib.Omega.{arith}
 use borrow.Author.Needs.{needs}
 use Rattle.recording.specs.Packed.{bitAt, roundsOf}

@@ -1,3 +1,4 @@
+-- `truck_count` meets its contract: six bits fit a byte.
 use native.Mathlib.Omega.{arith}
 use borrow.Author.Needs.{needs}
 use Rattle.recording.specs.Packed.{bitAt, trucksOf}

@@ -6,31 +6,36 @@ use oracle::{fast, Header};
 use std::hint::black_box;
 use std::time::Instant;
 
-/// The least time of one call in nanoseconds, over several batches.
-fn time(mut call: impl FnMut()) -> f64 {
-    let mut batch = 1u32;
-    loop {
-        let begun = Instant::now();
-        for _ in 0..batch {
-            call();
-        }
-        if begun.elapsed().as_micros() > 2000 {
-            break;
-        }
-        batch *= 2;
+/// How many calls make a batch of some milliseconds.
+fn batch(call: &mut impl FnMut()) -> u32 {
+    let mut calls = 1;
+    while once(calls, call) * f64::from(calls) < 2e6 {
+        calls *= 2;
     }
-    let mut least = f64::INFINITY;
-    for _ in 0..25 {
-        let begun = Instant::now();
-        for _ in 0..batch {
-            call();
-        }
-        least = least.min(begun.elapsed().as_nanos() as f64 / f64::from(batch));
+    calls
+}
+
+/// The time of one call in nanoseconds, over a batch.
+fn once(calls: u32, call: &mut impl FnMut()) -> f64 {
+    let begun = Instant::now();
+    for _ in 0..calls {
+        call();
+    }
+    begun.elapsed().as_nanos() as f64 / f64::from(calls)
+}
+
+/// The least time of one call of each. Batches of the two take turns, so that a slow spell of the machine meets both.
+fn times(mut ours: impl FnMut(), mut plain: impl FnMut()) -> (f64, f64) {
+    let calls = (batch(&mut ours), batch(&mut plain));
+    let mut least = (f64::INFINITY, f64::INFINITY);
+    for _ in 0..40 {
+        least.0 = least.0.min(once(calls.0, &mut ours));
+        least.1 = least.1.min(once(calls.1, &mut plain));
     }
     least
 }
 
-fn row(what: &str, rounds: usize, ours: f64, plain: f64) {
+fn row(what: &str, rounds: usize, (ours, plain): (f64, f64)) {
     let each = if rounds == 0 { String::new() } else { format!("{:.1}", ours / rounds as f64) };
     println!("| {what} | {:.2} | {:.2} | {:.2} | {each} |", ours / 1000.0, plain / 1000.0, ours / plain);
 }
@@ -43,50 +48,60 @@ fn recording(what: &str, bytes: &[u8]) {
     row(
         &format!("run, {what}"),
         rounds,
-        time(|| {
-            black_box(checks::run(black_box(bytes), &mut record));
-        }),
-        time(|| {
-            black_box(fast::run(black_box(bytes)));
-        }),
+        times(
+            || {
+                black_box(checks::run(black_box(bytes), &mut record));
+            },
+            || {
+                black_box(fast::run(black_box(bytes)));
+            },
+        ),
     );
     let mut grades = [0u16; 4];
     row(
         &format!("grade, {what}"),
         rounds,
-        time(|| {
-            black_box(checks::grade(black_box(bytes), &mut grades));
-        }),
-        time(|| {
-            black_box(fast::grade(black_box(bytes)).ok());
-        }),
+        times(
+            || {
+                black_box(checks::grade(black_box(bytes), &mut grades));
+            },
+            || {
+                black_box(fast::grade(black_box(bytes)).ok());
+            },
+        ),
     );
     let mut openings = [0u8; 32];
     let mut words = vec![0u32; 400 * 35];
+    let (mut plain_openings, mut plain_words) = (openings, words.clone());
     let (mut n, mut r) = (0, 0);
     row(
         &format!("read, {what}"),
         rounds,
-        time(|| {
-            black_box(checks::read(black_box(bytes), &mut openings, &mut words, &mut n, &mut r));
-        }),
-        time(|| {
-            black_box(fast::read_into(black_box(bytes), &mut openings, &mut words).ok());
-        }),
+        times(
+            || {
+                black_box(checks::read(black_box(bytes), &mut openings, &mut words, &mut n, &mut r));
+            },
+            || {
+                black_box(fast::read_into(black_box(bytes), &mut plain_openings, &mut plain_words).ok());
+            },
+        ),
     );
     let mut buffer = vec![0u8; bytes.len()];
+    let mut plain_buffer = buffer.clone();
     let mut written = 0;
     row(
         &format!("write, {what}"),
         rounds,
-        time(|| {
-            let (n, r) = (plain.n as u32, plain.rounds as u32);
-            black_box(checks::write(n, r, black_box(&plain.openings), &plain.words, &mut buffer, &mut written));
-        }),
-        time(|| {
-            let (n, r) = (plain.n as u64, plain.rounds as u64);
-            black_box(fast::write_into(n, r, black_box(&plain.openings), &plain.words, &mut buffer).ok());
-        }),
+        times(
+            || {
+                let (n, r) = (plain.n as u32, plain.rounds as u32);
+                black_box(checks::write(n, r, black_box(&plain.openings), &plain.words, &mut buffer, &mut written));
+            },
+            || {
+                let (n, r) = (plain.n as u64, plain.rounds as u64);
+                black_box(fast::write_into(n, r, black_box(&plain.openings), &plain.words, &mut plain_buffer).ok());
+            },
+        ),
     );
 }
 
@@ -123,24 +138,28 @@ fn main() {
     row(
         "step, 32 trucks",
         1,
-        time(|| {
-            let mut d = record;
-            black_box(checks::step(black_box(&mut d), &plain.words));
-        }),
-        time(|| {
-            black_box(fast::step(black_box(&fleet), &plain.words));
-        }),
+        times(
+            || {
+                let mut d = record;
+                black_box(checks::step(black_box(&mut d), &plain.words));
+            },
+            || {
+                black_box(fast::step(black_box(&fleet), &plain.words));
+            },
+        ),
     );
     let roads = gen::Roads::of(&(0..16).map(|k| (900 + k, 300 + 7 * k, 60 + 3 * k)).collect::<Vec<_>>());
     let mut crusher = 0;
     row(
         "opening, 16 roads",
         0,
-        time(|| {
-            black_box(checks::opening(black_box(&roads.lengths), &roads.metres, &roads.seconds, &mut crusher));
-        }),
-        time(|| {
-            black_box(fast::opening(black_box(&roads.lengths), &roads.metres, &roads.seconds).ok());
-        }),
+        times(
+            || {
+                black_box(checks::opening(black_box(&roads.lengths), &roads.metres, &roads.seconds, &mut crusher));
+            },
+            || {
+                black_box(fast::opening(black_box(&roads.lengths), &roads.metres, &roads.seconds).ok());
+            },
+        ),
     );
 }

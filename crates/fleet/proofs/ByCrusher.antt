@@ -54,7 +54,7 @@ several vs u v mu mv h = go (different vs) refl
     go One e = absurd (no-one (ap isSeveral e))
     go Several e = refl
 
-who-none : (p : ℕ → Bool) (m : ℕ) → ((k : ℕ) → k < m → p k ≡ false) → who p m ≡ []
+pub who-none : (p : ℕ → Bool) (m : ℕ) → ((k : ℕ) → k < m → p k ≡ false) → who p m ≡ []
 unfolding who
 who-none p zero h = refl
 who-none p (suc m) h = rw (who-none p m (λ k l. h k (omega arith)), h m (omega arith))

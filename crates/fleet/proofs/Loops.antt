@@ -1,32 +1,36 @@
 -- The loops of a round: the trucks of a set are taken one by one.
 use mathlib.Core.Path.{_≡_, refl, ap, ap₂, sym, subst, _∙_}
-use mathlib.Core.Bool.{Bool, true, false, cond, not, _&&_}
+use mathlib.Core.Bool.{Bool, true, false, cond, not, _&&_, _||_, and-false, true≢false}
 use mathlib.Core.List.{List}
 use Prim.Native.Nat.{ℕ, suc, _+_, _-_, _^_, _≤_, _<_, min}
 use native.Mathlib.Omega.{arith}
 use native.Mathlib.Decide.{ℕ-discrete}
-use borrow.Author.Tests.{eq-eqb, ne-eqb, not-true}
-use lib.Bits.{bitAnd, bitOr, bitXor, and-le-l}
+use borrow.Author.Tests.{eq-eqb, ne-eqb, eqb-true, not-true}
+use lib.Bits.{bitAnd, bitOr, bitXor, and-le-l, xor-lt}
 use lib.Dec.{eqb}
 use lib.ListN.{length, getD, set, replicate, getD-replicate, length-set}
 use lib.Seq.{getD-set-same, getD-set-other}
+use lib.Pow.{pow-pos}
 use Rattle.basics.specs.Bits.{bit, odd}
 use Rattle.basics.specs.Lists.{filled}
 use Rattle.basics.proofs.Laws.{and-left, and-right, filled-ext}
 use Rattle.bitreader.specs.Bits.{bitsRead, mirrored}
 use Rattle.bitreader.proofs.Digits.{mirrored-lt}
+use Rattle.air.specs.Round.{activeBit}
+use Rattle.protocol.specs.declared.Heard.{Heard}
 use Rattle.protocol.specs.declared.Truck.{Truck}
 use Rattle.protocol.specs.declared.Fleet.{Fleet}
-use Rattle.protocol.specs.Rules.{opened, truck, runs, vetoes, stops}
+use Rattle.protocol.specs.Rules.{opened, truck, isSeveral, runs, vetoes, stops, airOf}
 use Rattle.truck.specs.declared.Event.{Event}
 use Rattle.truck.specs.declared.Event.the-variants.{Stop}
 use Rattle.truck.specs.Events.{turned}
 use Rattle.fleet.specs.declared.round.Roster.{Roster}
-use Rattle.fleet.specs.Rounds.{estimates, stoppedTruck, stoppedFleet, proposalEvent, vetoEvent, Kept, Ready, roundOf, plainRows, Played}
-use Rattle.fleet.proofs.Turns.{rule, rule-stop, rule-stopped, rule-idle, proposers, vetoers, proposal-turn, veto-turn, kept-proposal, kept-veto, next-is}
+use Rattle.fleet.specs.Rounds.{estimates, stoppedTruck, stoppedFleet, proposalEvent, vetoEvent, Empty, Kept, Ready, roundOf, plainRows, Played}
+use Rattle.fleet.proofs.Turns.{rule, rule-stop, rule-stopped, rule-idle, going-is, proposal-runs, veto-stays, proposal-stays, proposers, vetoers, proposal-turn, veto-turn, kept-proposal, kept-veto, next-is}
 use Rattle.fleet.specs.Sets.{Members, Sorted}
 use Rattle.fleet.proofs.Packed.{row-plain, sorted-packed, proposal-packed, veto-packed}
-use Rattle.words.proofs.Words.{bit-and, bit-without, bit-zero}
+use Rattle.words.proofs.Words.{bit-and, bit-or, bit-without, bit-zero}
+use Rattle.words.proofs.Mirror.{mirror-zero}
 use Rattle.fleet.proofs.Laws.{filled-same}
 use Rattle.fleet.proofs.Members.{set-below, members-none, within-removed, seen, seen-none, seen-all, seen-in, seen-out, seen-joined, half, replaced, replaced-at, replaced-all, replaced-none, replaced-more}
 
@@ -128,37 +132,40 @@ module _ (r : Roster) (stop active mark : ℕ) (rows : List ℕ) (ready : Ready 
   width v = ap (λ (m : ℕ). mirrored m v) (let e : min (f .n) 32 ≡ f .n = omega (arith, ready .most) in e)
 
   module _ (p : Truck → Bool) (p-stops : (t : Truck) → p (stops k t) ≡ false) where
-    -- its stops have been worked out, and those that go on are left
-    pub round-starts : (g : Fleet) → g ≡ stoppedFleet (record { n = f .n; done = k; trucks = f .trucks }) k (bitAnd (r .running) stop)
-        → Going (f .n) k (f .trucks) new (r .running) p g 0 on
+    -- its stops have been worked out; those of `left` may change, the others that go on stay as they are
+    round-starts : (g : Fleet) → g ≡ stoppedFleet (record { n = f .n; done = k; trucks = f .trucks }) k (bitAnd (r .running) stop)
+        → (left members : ℕ) → members < 2 ^ f .n → ((j : ℕ) → bit left j ≡ true → bit on j ≡ true)
+        → ((j : ℕ) → j < f .n → bit on j ≡ true → bit left j ≡ false → new j ≡ truck (f .trucks) j)
+        → ((j : ℕ) → j < f .n → bit members j ≡ (bit on j && not (bit left j) && p (truck (f .trucks) j)))
+        → Going (f .n) k (f .trucks) new (r .running) p g members left
     unfolding stoppedFleet
-    round-starts g e =
+    round-starts g e left members below within stay each =
         record {
           fleet = e ∙ ap (λ (l : List Truck). record { n = f .n; done = k; trucks = l })
-              (filled-ext (stoppedTruck k (bitAnd (r .running) stop) (f .trucks)) (half (opened 0) (f .trucks) new (f .n) on) (f .n) (f .trucks)
-              (λ j l. rw (bit-and (r .running) stop j, bit-without (r .running) stop j) (here j (bit (r .running) j) (bit stop j) (known .each j l) refl)));
-          within = λ j e. and-left (bit (r .running) j) (not (bit stop j)) (sym (bit-without (r .running) stop j) ∙ e);
-          held = members-none (f .n) (seen on (λ j. bit (r .running) j && p (new j)))
-              (λ j l. rw (bit-without (r .running) stop j) (gone j (bit (r .running) j) (bit stop j) (known .each j l) refl));
+              (filled-ext (stoppedTruck k (bitAnd (r .running) stop) (f .trucks)) (half (opened 0) (f .trucks) new (f .n) left) (f .n) (f .trucks)
+              (λ j l. rw (bit-and (r .running) stop j) (here j (bit (r .running) j) (bit stop j) (bit left j) (known .each j l) refl (on-is j) (within j) (stay j l))));
+          within = λ j e. and-left (bit (r .running) j) (not (bit stop j)) (sym (on-is j) ∙ within j e);
+          held = record { below = below; each = λ j l. each j l ∙ held j (bit (r .running) j) (bit stop j) (bit left j) (known .each j l) refl (on-is j) (within j) (stay j l) };
         }
       where
-        here : (j : ℕ) (b s : Bool) → b ≡ runs (truck (f .trucks) j) → bit stop j ≡ s
-            → cond (b && s) (turned k Stop (truck (f .trucks) j)) (truck (f .trucks) j) ≡ cond (b && not s) (truck (f .trucks) j) (new j)
-        here j true true e h = rule-stop (f .n) k stop active mark plain (f .trucks) j h
-        here j true false e h = refl
-        here j false s e h = sym (rule-idle (f .n) k stop active mark plain (f .trucks) j (sym e))
+        on-is : (j : ℕ) → bit on j ≡ (bit (r .running) j && not (bit stop j))
+        on-is j = bit-without (r .running) stop j
 
-        gone : (j : ℕ) (b s : Bool) → b ≡ runs (truck (f .trucks) j) → bit stop j ≡ s → (not (b && not s) && (b && p (new j))) ≡ false
-        gone j true true e h = ap p (rule-stopped (f .n) k stop active mark plain (f .trucks) j h (sym e)) ∙ p-stops (truck (f .trucks) j)
-        gone j true false e h = refl
-        gone j false s e h = refl
+        here : (j : ℕ) (b s x : Bool) → b ≡ runs (truck (f .trucks) j) → bit stop j ≡ s → bit on j ≡ (b && not s) → (x ≡ true → bit on j ≡ true) → (bit on j ≡ true → x ≡ false → new j ≡ truck (f .trucks) j)
+            → cond (b && s) (turned k Stop (truck (f .trucks) j)) (truck (f .trucks) j) ≡ cond x (truck (f .trucks) j) (new j)
+        here j true true true e h o i t = absurd (true≢false (sym (i refl) ∙ o))
+        here j true true false e h o i t = rule-stop (f .n) k stop active mark plain (f .trucks) j h
+        here j true false true e h o i t = refl
+        here j true false false e h o i t = sym (t o refl)
+        here j false s true e h o i t = refl
+        here j false s false e h o i t = sym (rule-idle (f .n) k stop active mark plain (f .trucks) j (sym e))
 
-    -- nobody is stopped
-    pub round-starts-on : (g : Fleet) → g ≡ record { n = f .n; done = k; trucks = f .trucks } → bitAnd (r .running) stop ≡ 0 → Going (f .n) k (f .trucks) new (r .running) p g 0 on
-    unfolding stoppedFleet
-    round-starts-on g e z =
-        round-starts g (e ∙ ap (λ (l : List Truck). record { n = f .n; done = k; trucks = l })
-        (sym (filled-same (opened 0) (stoppedTruck k (bitAnd (r .running) stop) (f .trucks)) (f .n) (f .trucks) long (λ j l. rw (z, bit-zero j)))))
+        held : (j : ℕ) (b s x : Bool) → b ≡ runs (truck (f .trucks) j) → bit stop j ≡ s → bit on j ≡ (b && not s) → (x ≡ true → bit on j ≡ true) → (bit on j ≡ true → x ≡ false → new j ≡ truck (f .trucks) j)
+            → (bit on j && not x && p (truck (f .trucks) j)) ≡ (not x && (b && p (new j)))
+        held j b s true e h o i t = ap (λ (y : Bool). y && p (truck (f .trucks) j)) (and-false (bit on j))
+        held j true true false e h o i t = rw o (sym (ap p (rule-stopped (f .n) k stop active mark plain (f .trucks) j h (sym e)) ∙ p-stops (truck (f .trucks) j)))
+        held j true false false e h o i t = rw o (sym (ap p (t o refl)))
+        held j false s false e h o i t = rw o
 
     pub round-below : {g : Fleet} {members left : ℕ} → Going (f .n) k (f .trucks) new (r .running) p g members left → (i : ℕ) → bit left i ≡ true → i < f .n
     round-below going i h = going-below (f .n) k (f .trucks) new (r .running) p (known .below) going i h
@@ -215,30 +222,117 @@ module _ (r : Roster) (stop active mark : ℕ) (rows : List ℕ) (ready : Ready 
   pub stopping-below : bitAnd (r .running) stop < 2 ^ f .n
   stopping-below = omega (arith, and-le-l (r .running) stop, known .below)
 
-  -- the senders as they are packed
-  pub packed-below : (senders v : ℕ) → senders ≡ mirrored (bitsRead (f .n)) v → senders < 2 ^ f .n
-  packed-below senders v e = rw (e ∙ width v) (mirrored-lt (f .n) v)
+  -- nobody is stopped
+  pub none-stopped : (g : Fleet) → g ≡ record { n = f .n; done = k; trucks = f .trucks } → bitAnd (r .running) stop ≡ 0
+      → g ≡ stoppedFleet (record { n = f .n; done = k; trucks = f .trucks }) k (bitAnd (r .running) stop)
+  unfolding stoppedFleet
+  none-stopped g e z =
+      e ∙ ap (λ (l : List Truck). record { n = f .n; done = k; trucks = l })
+      (sym (filled-same (opened 0) (stoppedTruck k (bitAnd (r .running) stop) (f .trucks)) (f .n) (f .trucks) long (λ j l. rw (z, bit-zero j))))
 
-  -- no truck is left
-  module _ {g : Fleet} {members left : ℕ} (z : left ≡ 0) where
-    pub proposal-ends : odd k ≡ true → Going (f .n) k (f .trucks) new (r .running) vetoes g members left
-        → Played r stop active mark rows (record { fleet = g; running = on; vetoing = members })
-    proposal-ends o going =
+  runs-on : (j : ℕ) → j < f .n → bit on j ≡ true → runs (truck (f .trucks) j) ≡ true
+  runs-on j l h = sym (known .each j l) ∙ and-left (bit (r .running) j) (not (bit stop j)) (sym (bit-without (r .running) stop j) ∙ h)
+
+  -- those that a proposal round may change
+  module _ (o : odd k ≡ true) (senders changed : ℕ) (es : senders ≡ mirrored (bitsRead (f .n)) (bitAnd on active))
+      (ec : changed ≡ cond (eqb senders 0) (bitAnd on (bitOr mark (r .holding))) on) where
+    sent : Members (bitAnd on active) (f .n) (airOf (f .n) (activeBit w) k w (f .trucks) .sends)
+    sent = proposers (f .n) k w (f .trucks) (r .running) known o
+
+    changed-on : (j : ℕ) → bit changed j ≡ true → bit on j ≡ true
+    changed-on j h = go (eqb senders 0) (sym (ap (λ (x : ℕ). bit x j) ec) ∙ h)
+      where
+        go : (b : Bool) → bit (cond b (bitAnd on (bitOr mark (r .holding))) on) j ≡ true → bit on j ≡ true
+        go true e = and-left (bit on j) (bit (bitOr mark (r .holding)) j) (sym (bit-and on (bitOr mark (r .holding)) j) ∙ e)
+        go false e = e
+
+    -- one that goes on and isn't among them
+    unchanged : (j : ℕ) → j < f .n → bit on j ≡ true → bit changed j ≡ false → (new j ≡ truck (f .trucks) j) × Empty (truck (f .trucks) j)
+    unchanged j l h c = go (eqb senders 0) refl (sym (ap (λ (x : ℕ). bit x j) ec) ∙ c)
+      where
+        neither : (x y z : Bool) → x ≡ true → (x && (y || z)) ≡ false → (y ≡ false) × (z ≡ false)
+        neither true true z e g = absurd (true≢false g)
+        neither true false true e g = absurd (true≢false g)
+        neither true false false e g = (refl, refl)
+        neither false y z e g = absurd (true≢false (sym e))
+
+        go : (b : Bool) → eqb senders 0 ≡ b → bit (cond b (bitAnd on (bitOr mark (r .holding))) on) j ≡ false → (new j ≡ truck (f .trucks) j) × Empty (truck (f .trucks) j)
+        go true z e =
+            let q = neither (bit on j) (bit mark j) (bit (r .holding) j) h (ap (λ (b : Bool). bit on j && b) (sym (bit-or mark (r .holding) j)) ∙ sym (bit-and on (bitOr mark (r .holding)) j) ∙ e) in
+            let none : bitAnd on active ≡ 0
+            = eqb-true (bitAnd on active) 0 (sym (mirror-zero (f .n) (bitAnd on active) (sent .below)) ∙ ap (λ (x : ℕ). eqb x 0) (sym (es ∙ width (bitAnd on active))) ∙ z) in
+            let empty : Empty (truck (f .trucks) j) = ready .kept .empty j l (runs-on j l h) (q .1) in
+            (proposal-stays (f .n) k stop active mark plain (f .trucks) j (bitAnd on active) l sent o none (goes-on j h) (q .0) empty, empty)
+        go false z e = absurd (true≢false (sym h ∙ e))
+
+    pub proposal-starts : (g : Fleet) → g ≡ stoppedFleet (record { n = f .n; done = k; trucks = f .trucks }) k (bitAnd (r .running) stop)
+        → Going (f .n) k (f .trucks) new (r .running) vetoes g 0 changed × ((j : ℕ) → bit changed j ≡ true → bit on j ≡ true)
+    proposal-starts g e = (
+      round-starts vetoes (λ t. refl) g e changed 0 (pow-pos (f .n)) changed-on (λ j l h c. unchanged j l h c .0)
+          (λ j l. bit-zero j ∙ sym (go j l (bit on j) (bit changed j) refl refl)),
+      changed-on,
+    )
+      where
+        go : (j : ℕ) → j < f .n → (x y : Bool) → bit on j ≡ x → bit changed j ≡ y → (x && not y && vetoes (truck (f .trucks) j)) ≡ false
+        go j l true true h c = refl
+        go j l true false h c = let q = unchanged j l h c .1 in ap₂ (λ (m : Bool) (x : Heard). m || isSeveral x) (q .0) (q .1)
+        go j l false y h c = refl
+
+    pub proposal-ends : {g : Fleet} {members left : ℕ} → left ≡ 0 → Going (f .n) k (f .trucks) new (r .running) vetoes g members left
+        → Played r stop active mark rows (record { fleet = g; running = on; vetoing = members; holding = changed })
+    proposal-ends {g} {members} z going =
         let end = going-fleet (f .n) k (f .trucks) new (r .running) vetoes going z in
         record {
           fleet = end ∙ sym (next-is f stop active mark plain);
-          kept = subst (λ (q : Fleet). Kept (record { fleet = q; running = on; vetoing = members })) (sym end)
-              (kept-proposal (f .n) k stop active mark plain (f .trucks) (r .running) known members o (going-held (f .n) k (f .trucks) new (r .running) vetoes going z));
+          kept = subst (λ (q : Fleet). Kept (record { fleet = q; running = on; vetoing = members; holding = changed })) (sym end)
+              (kept-proposal (f .n) k stop active mark plain (f .trucks) (r .running) known members changed o (going-held (f .n) k (f .trucks) new (r .running) vetoes going z)
+              (λ j l h c.
+              let q = unchanged j l (going-is (f .n) k w (f .trucks) (r .running) known .each j l ∙ proposal-runs (f .n) k stop active mark plain (f .trucks) o j ∙ h) c in
+              rw (q .0) (q .1)));
         }
 
-    pub veto-ends : odd k ≡ false → Going (f .n) k (f .trucks) new (r .running) runs g members left → Played r stop active mark rows (record { fleet = g; running = members; vetoing = 0 })
-    veto-ends o going =
+  -- those that a veto round may change
+  module _ (o : odd k ≡ false) where
+    abbrev holders : ℕ
+    holders = bitAnd on (r .holding)
+
+    holders-on : (j : ℕ) → bit holders j ≡ true → bit on j ≡ true
+    holders-on j h = and-left (bit on j) (bit (r .holding) j) (sym (bit-and on (r .holding) j) ∙ h)
+
+    pub veto-starts : (g : Fleet) → g ≡ stoppedFleet (record { n = f .n; done = k; trucks = f .trucks }) k (bitAnd (r .running) stop)
+        → Going (f .n) k (f .trucks) new (r .running) runs g (bitXor on holders) holders × ((j : ℕ) → bit holders j ≡ true → bit on j ≡ true)
+    veto-starts g e = (
+      round-starts runs (λ t. refl) g e holders (bitXor on holders) (xor-lt (f .n) on holders on-below (omega (arith, and-le-l on (r .holding), on-below))) holders-on
+          (λ j l h c. veto-stays (f .n) k stop active mark plain (f .trucks) o j (goes-on j h) (ready .kept .empty j l (runs-on j l h) (apart (bit on j) (bit (r .holding) j) h (sym (bit-and on (r .holding) j) ∙ c))))
+          (λ j l. bit-without on (r .holding) j ∙ rw (bit-and on (r .holding) j) (go (bit on j) (bit (r .holding) j) (runs (truck (f .trucks) j)) (runs-on j l))),
+      holders-on,
+    )
+      where
+        on-below : on < 2 ^ f .n
+        on-below = going-is (f .n) k w (f .trucks) (r .running) known .below
+
+        apart : (x y : Bool) → x ≡ true → (x && y) ≡ false → y ≡ false
+        apart true y e g = g
+        apart false y e g = absurd (true≢false (sym e))
+
+        go : (x y z : Bool) → (x ≡ true → z ≡ true) → (x && not y) ≡ (x && not (x && y) && z)
+        go true true z e = refl
+        go true false z e = sym (e refl)
+        go false y z e = refl
+
+    pub veto-ends : {g : Fleet} {members left : ℕ} → left ≡ 0 → Going (f .n) k (f .trucks) new (r .running) runs g members left
+        → Played r stop active mark rows (record { fleet = g; running = members; vetoing = 0; holding = 0 })
+    veto-ends {g} {members} z going =
         let end = going-fleet (f .n) k (f .trucks) new (r .running) runs going z in
         record {
           fleet = end ∙ sym (next-is f stop active mark plain);
-          kept = subst (λ (q : Fleet). Kept (record { fleet = q; running = members; vetoing = 0 })) (sym end)
+          kept = subst (λ (q : Fleet). Kept (record { fleet = q; running = members; vetoing = 0; holding = 0 })) (sym end)
               (kept-veto (f .n) k stop active mark plain (f .trucks) (r .running) known members o (going-held (f .n) k (f .trucks) new (r .running) runs going z));
         }
+
+  -- the senders as they are packed
+  pub packed-below : (senders v : ℕ) → senders ≡ mirrored (bitsRead (f .n)) v → senders < 2 ^ f .n
+  packed-below senders v e = rw (e ∙ width v) (mirrored-lt (f .n) v)
 
 -- ---- the senders of each crusher
 pub record Sorting (n senders : ℕ) (est : ℕ → ℕ) (values : List ℕ) (left : ℕ) : Type 0 where

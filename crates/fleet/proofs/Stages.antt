@@ -274,7 +274,7 @@ module _ (s : List ℕ) (at : ℕ) (judging : Bool) (c : Course) (reached : Reac
 
       idle-done : Moved s at judging c (counted c 1)
       idle-done =
-          moved (counted c 1 .roster) (c .grades) (sym (idle-next f w (omega (arith, ready .places, few-trucks)) nobody)) (record { running = reached .kept .running; vetoing = reached .kept .vetoing })
+          moved (counted c 1 .roster) (c .grades) (sym (idle-next f w (omega (arith, ready .places, few-trucks)) nobody)) (record { running = reached .kept .running; vetoing = reached .kept .vetoing; empty = reached .kept .empty })
           (sym (same judging (ap (λ (v : Verdict). carriedAll (c .grades) v k) (sym (verdict-starts air (f .n) 0 0 0 [] silent ∙ verdict-done air (f .n) 0 0 0 [] silent 0 refl)) ∙ carried-all (c .grades) k)))
         where
           same : (b : Bool) {x y : Grades} → x ≡ y → cond b x y ≡ y
@@ -292,12 +292,12 @@ pub idle-rest : (left : ℕ) (s : List ℕ) (at : ℕ) (judging : Bool) (c : Cou
     → Finished s judging (counted c left)
 idle-rest zero s at judging c reached none rest =
     subst (λ (k : ℕ). Finished s judging (record {
-      roster = record { fleet = record { n = c .roster .fleet .n; done = k; trucks = c .roster .fleet .trucks }; running = c .roster .running; vetoing = c .roster .vetoing };
+      roster = record { fleet = record { n = c .roster .fleet .n; done = k; trucks = c .roster .fleet .trucks }; running = c .roster .running; vetoing = c .roster .vetoing; holding = c .roster .holding };
       grades = c .grades;
     })) (sym (add-zero (c .roster .fleet .done))) (finished s at 0 judging c reached rest refl)
 idle-rest (suc left) s at judging c reached none rest =
     subst (λ (k : ℕ). Finished s judging (record {
-      roster = record { fleet = record { n = c .roster .fleet .n; done = k; trucks = c .roster .fleet .trucks }; running = c .roster .running; vetoing = c .roster .vetoing };
+      roster = record { fleet = record { n = c .roster .fleet .n; done = k; trucks = c .roster .fleet .trucks }; running = c .roster .running; vetoing = c .roster .vetoing; holding = c .roster .holding };
       grades = c .grades;
     })) (let e : c .roster .fleet .done + 1 + left ≡ c .roster .fleet .done + suc left = omega arith in e)
     (idle-rest left s _ judging (counted c 1) (idle-done s at judging c reached (omega arith) none .next) none (omega arith))

@@ -1,7 +1,7 @@
 -- What a round makes of each truck, worked out by sets of trucks.
-use mathlib.Core.Path.{_≡_, refl, ap, sym, _∙_}
-use mathlib.Core.Bool.{Bool, true, false, not, _&&_, true≢false, false≢true}
-use mathlib.Core.List.{List, map}
+use mathlib.Core.Path.{_≡_, refl, ap, ap₂, sym, _∙_}
+use mathlib.Core.Bool.{Bool, true, false, cond, not, _&&_, _||_, true≢false, false≢true}
+use mathlib.Core.List.{List, [], map}
 use Prim.Native.Nat.{ℕ, suc, _+_, _<_}
 use native.Mathlib.Omega.{arith}
 use lib.Bits.{bitAnd, bitXor}
@@ -14,10 +14,12 @@ use Rattle.air.specs.Round.{stopBit, activeBit, markBit}
 use Rattle.air.specs.Air.{Air, hears, heardBy, heard}
 use Rattle.air.proofs.Laws.{hears-sends}
 use Rattle.protocol.proofs.OneRound.{plays-proposal, plays-veto}
+use Rattle.protocol.specs.declared.Heard.{Heard}
+use Rattle.protocol.specs.declared.Heard.the-variants.{Nothing}
 use Rattle.protocol.specs.declared.State.{State}
 use Rattle.protocol.specs.declared.State.the-variants.{Running, Stopped, Decided}
 use Rattle.protocol.specs.declared.Truck.{Truck}
-use Rattle.protocol.specs.Rules.{opened, truck, isRunning, runs, vetoes, different, leastOr, stops, proposed, vetoed, turn, airOf, valuesHeard, plays, after}
+use Rattle.protocol.specs.Rules.{opened, truck, isRunning, isOne, isSeveral, runs, vetoes, different, leastOr, stops, proposed, vetoed, turn, airOf, valuesHeard, plays, after}
 use Rattle.protocol.specs.declared.Fleet.{Fleet}
 use Rattle.protocol.specs.Fleets.{nextFleet}
 use Rattle.words.proofs.Words.{bit-zero}
@@ -26,9 +28,9 @@ use Rattle.truck.specs.declared.Event.the-variants.{Stop}
 use Rattle.truck.specs.Events.{happened, turned}
 use Rattle.fleet.specs.declared.hearing.Values.{Values}
 use Rattle.fleet.specs.Sets.{Members, heardSet, valuesOf, Sorted}
-use Rattle.fleet.specs.Rounds.{estimates, proposalEvent, vetoEvent, Kept, roundOf}
+use Rattle.fleet.specs.Rounds.{estimates, proposalEvent, vetoEvent, Empty, Kept, roundOf}
 use Rattle.fleet.proofs.Members.{member-below, member-has, members-ext, members-and, members-without}
-use Rattle.fleet.proofs.ByCrusher.{values-right}
+use Rattle.fleet.proofs.ByCrusher.{who-none, values-right}
 use Rattle.fleet.proofs.Airs.{who-members, some-members, hearers}
 
 -- an event that stops a truck where its stop bit is set, and is what it plays where it isn't
@@ -51,10 +53,10 @@ kept-state k (Decided r) true t played e h = sym (ap isRunning e)
 kept-state k (Decided r) false t played e h = sym (ap isRunning e)
 
 -- a round that empties the memory of those that play
-emptied : (k : ℕ) (s : State) (b : Bool) (t played : Truck) → t .state ≡ s → vetoes played ≡ false → runs (turn s b (stops k t) played t) ≡ true
-    → false ≡ vetoes (turn s b (stops k t) played t)
-emptied k Running true t played e h r = refl
-emptied k Running false t played e h r = sym h
+emptied : (k : ℕ) (s : State) (b : Bool) (t played : Truck) → t .state ≡ s → Empty played → runs (turn s b (stops k t) played t) ≡ true
+    → Empty (turn s b (stops k t) played t)
+emptied k Running true t played e h r = (refl, refl)
+emptied k Running false t played e h r = h
 emptied k (Stopped q) b t played e h r = absurd (false≢true (sym (ap isRunning e) ∙ r))
 emptied k (Decided q) b t played e h r = absurd (false≢true (sym (ap isRunning e) ∙ r))
 
@@ -158,10 +160,38 @@ module _ (n k stop active mark : ℕ) (rows : List ℕ) (ts : List Truck) where
       kept-state k (truck ts j .state) (stopBit w j) (truck ts j) (plays air k w ts j) refl
       (ap (λ (t : Truck). t .state) (plays-proposal n (activeBit w) k w ts j o))
 
-  -- nobody that runs on after a veto round vetoes
-  pub veto-empty : odd k ≡ false → (j : ℕ) → runs (rule j) ≡ true → false ≡ vetoes (rule j)
+  -- the memory of those that run on after a veto round is empty
+  veto-empty : odd k ≡ false → (j : ℕ) → runs (rule j) ≡ true → Empty (rule j)
   veto-empty o j r =
-      emptied k (truck ts j .state) (stopBit w j) (truck ts j) (plays air k w ts j) refl (ap vetoes (plays-veto n (activeBit w) k w ts j o)) r
+      let p = plays-veto n (activeBit w) k w ts j o in
+      emptied k (truck ts j .state) (stopBit w j) (truck ts j) (plays air k w ts j) refl (ap (λ (t : Truck). t .mark) p, ap (λ (t : Truck). t .heard) p) r
+
+  -- a truck that plays and stays as it is
+  stays : (i : ℕ) → bit stop i ≡ false → plays air k w ts i ≡ truck ts i → rule i ≡ truck ts i
+  stays i h e = go (truck ts i .state) (stopBit w i) h
+    where
+      go : (s : State) (b : Bool) → b ≡ false → turn s b (stops k (truck ts i)) (plays air k w ts i) (truck ts i) ≡ truck ts i
+      go Running true g = absurd (true≢false g)
+      go Running false g = e
+      go (Stopped r) b g = refl
+      go (Decided r) b g = refl
+
+  -- a veto round does nothing to one whose memory is empty
+  pub veto-stays : odd k ≡ false → (i : ℕ) → bit stop i ≡ false → Empty (truck ts i) → rule i ≡ truck ts i
+  unfolding airOf
+  veto-stays o i h (em, eh) =
+      stays i h (plays-veto n (activeBit w) k w ts i o
+      ∙ ap (λ (b : Bool). record { opening = truck ts i .opening; estimate = truck ts i .estimate; mark = false; heard = Nothing; state = cond b (Decided k) (truck ts i .state) })
+      (none (not (ltb 0 (heard air i))) (not (markBit w i)) (truck ts i .heard) eh)
+      ∙ sym (ap₂ (λ (m : Bool) (x : Heard). record { opening = truck ts i .opening; estimate = truck ts i .estimate; mark = m; heard = x; state = truck ts i .state }) em eh))
+    where
+      none : (x y : Bool) (z : Heard) → z ≡ Nothing → (x && y && isOne z) ≡ false
+      none x y z e = rw e (last x y)
+        where
+          last : (x y : Bool) → (x && y && false) ≡ false
+          last true true = refl
+          last true false = refl
+          last false y = refl
 
   module _ (i senders : ℕ) (l : i < n) (sends : Members senders n (air .sends)) where
     abbrev row : ℕ
@@ -196,6 +226,21 @@ module _ (n k stop active mark : ℕ) (rows : List ℕ) (ts : List Truck) where
     unfolding airOf
     vetoed-is o = plays-veto n (activeBit w) k w ts i o ∙ ap (λ (b : Bool). vetoed k (markBit w i) b (truck ts i)) any-heard
 
+    -- a proposal round in which nobody sends does nothing to one that has no mark and whose memory is empty
+    pub proposal-stays : odd k ≡ true → senders ≡ 0 → bit stop i ≡ false → bit mark i ≡ false → Empty (truck ts i) → rule i ≡ truck ts i
+    unfolding different leastOr
+    proposal-stays o z h m (em, eh) =
+        stays i h (proposed-is o
+        ∙ ap₂ (λ (b : Bool) (js : List ℕ). proposed b (different (map (estimates ts) js)) (leastOr (estimates ts i) (map (estimates ts) js)) (truck ts i)) m none
+        ∙ sym (ap₂ (λ (m : Bool) (x : Heard). record { opening = truck ts i .opening; estimate = truck ts i .estimate; mark = m; heard = x; state = truck ts i .state }) em eh))
+      where
+        none : who (bit (heardSet senders row i)) n ≡ []
+        none = who-none (bit (heardSet senders row i)) n (λ j lj. heard-is .each j lj ∙ silent j lj (hears air i j) refl)
+          where
+            silent : (j : ℕ) → j < n → (b : Bool) → hears air i j ≡ b → b ≡ false
+            silent j lj true e = sym (sends-bit j lj (hears-sends air i j e)) ∙ ap (λ (x : ℕ). bit x j) z ∙ bit-zero j
+            silent j lj false e = refl
+
     pub proposal-turn : (values : List ℕ) → odd k ≡ true → Sorted values n senders (estimates ts) → ((j : ℕ) → j < n → estimates ts j < 16) → bit stop i ≡ false
         → turned k (proposalEvent mark senders row i i values (estimates ts i)) (truck ts i) ≡ rule i
     unfolding proposalEvent
@@ -223,19 +268,24 @@ module _ (n k stop active mark : ℕ) (rows : List ℕ) (ts : List Truck) where
   played = record { n = n; done = k; trucks = filled rule n ts }
 
   module _ (running : ℕ) (known : Members running n (λ j. runs (truck ts j))) where
-    pub kept-veto : (on : ℕ) → odd k ≡ false → Members on n (λ j. bit running j && runs (rule j)) → Kept (record { fleet = played; running = on; vetoing = 0 })
+    pub kept-veto : (on : ℕ) → odd k ≡ false → Members on n (λ j. bit running j && runs (rule j)) → Kept (record { fleet = played; running = on; vetoing = 0; holding = 0 })
     kept-veto on o m =
         record {
           running = members-ext (run-on running known on m) (λ j. runs (truck (filled rule n ts) j)) (λ j l. ap runs (sym (truck-rule j l)));
-          vetoing = λ j l h. bit-zero j ∙ veto-empty o j (sym (ap runs (truck-rule j l)) ∙ h) ∙ ap vetoes (sym (truck-rule j l));
+          vetoing = λ j l h.
+              let e = veto-empty o j (sym (ap runs (truck-rule j l)) ∙ h) in
+              bit-zero j ∙ sym (ap₂ (λ (m : Bool) (x : Heard). m || isSeveral x) (e .0) (e .1)) ∙ ap vetoes (sym (truck-rule j l));
+          empty = λ j l h z. rw (truck-rule j l) (veto-empty o j (sym (ap runs (truck-rule j l)) ∙ h));
         }
 
-    pub kept-proposal : (vetoing : ℕ) → odd k ≡ true → Members vetoing n (λ j. bit running j && vetoes (rule j))
-        → Kept (record { fleet = played; running = bitXor running (bitAnd running stop); vetoing = vetoing })
-    kept-proposal vetoing o m =
+    pub kept-proposal : (vetoing holding : ℕ) → odd k ≡ true → Members vetoing n (λ j. bit running j && vetoes (rule j))
+        → ((j : ℕ) → j < n → runs (rule j) ≡ true → bit holding j ≡ false → Empty (rule j))
+        → Kept (record { fleet = played; running = bitXor running (bitAnd running stop); vetoing = vetoing; holding = holding })
+    kept-proposal vetoing holding o m e =
         record {
           running = members-ext (going-is n k w ts running known) (λ j. runs (truck (filled rule n ts) j)) (λ j l. proposal-runs o j ∙ ap runs (sym (truck-rule j l)));
           vetoing = λ j l h. runners running known vetoes vetoing m j l (sym (ap runs (truck-rule j l)) ∙ h) ∙ ap vetoes (sym (truck-rule j l));
+          empty = λ j l h z. rw (truck-rule j l) (e j l (sym (ap runs (truck-rule j l)) ∙ h) z);
         }
 
 pub next-is : (f : Fleet) (stop active mark : ℕ) (rows : List ℕ)

@@ -39,6 +39,7 @@ counted c m =
         fleet = record { n = c .roster .fleet .n; done = c .roster .fleet .done + m; trucks = c .roster .fleet .trucks };
         running = c .roster .running;
         vetoing = c .roster .vetoing;
+        holding = c .roster .holding;
       };
       grades = c .grades;
     }

@@ -1,13 +1,14 @@
 -- One round by sets of trucks.
 use Prim.Native.Nat.{ℕ, _<_, _≤_}
 use mathlib.Core.Path.{_≡_}
-use mathlib.Core.Bool.{Bool, true, cond, not}
+use mathlib.Core.Bool.{true, false, cond, not}
 use mathlib.Core.List.{List, _∷_, map}
 use lib.Dec.{eqb}
 use lib.ListN.{length, replicate}
 use Rattle.basics.specs.Bits.{bit}
 use Rattle.basics.specs.Lists.{filled}
 use Rattle.bitreader.specs.Bits.{mirrored}
+use Rattle.protocol.specs.declared.Heard.the-variants.{Nothing}
 use Rattle.protocol.specs.declared.Truck.{Truck}
 use Rattle.protocol.specs.declared.Fleet.{Fleet}
 use Rattle.protocol.specs.Rules.{truck, runs, vetoes}
@@ -38,10 +39,15 @@ proposalEvent mark senders row i place values e =
 unfoldable pub vetoEvent : ℕ → ℕ → ℕ → ℕ → ℕ → Event
 vetoEvent mark senders row i place = Vetoes (bit mark i) (not (eqb (heardSet senders row place) 0))
 
--- the two sets of a roster are those that its name says
+-- the memory of a truck is empty
+abbrev pub Empty : Truck → Type 0
+Empty t = (t .mark ≡ false) × (t .heard ≡ Nothing)
+
+-- the sets of a roster are those that their names say
 pub record Kept (r : Roster) : Type 0 where
   pub running : Members (r .running) (r .fleet .n) (λ j. runs (truck (r .fleet .trucks) j))
   pub vetoing : (j : ℕ) → j < r .fleet .n → runs (truck (r .fleet .trucks) j) ≡ true → bit (r .vetoing) j ≡ vetoes (truck (r .fleet .trucks) j)
+  pub empty : (j : ℕ) → j < r .fleet .n → runs (truck (r .fleet .trucks) j) ≡ true → bit (r .holding) j ≡ false → Empty (truck (r .fleet .trucks) j)
 
 -- what a round asks of a roster
 pub record Ready (r : Roster) : Type 0 where

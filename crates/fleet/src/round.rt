@@ -10,18 +10,21 @@ use crate::hearing::values_of;
 use protocol::Fleet;
 use truck::Event;
 ghost use mathlib.Core.Path.{_≡_};
-ghost use mathlib.Core.Bool.{true, false};
+ghost use mathlib.Core.Bool.{true, false, cond};
 ghost use Prim.Native.Nat.{ℕ, suc, _<_, _≤_, _^_, _+_, _-_};
+ghost use lib.Bits.{bitAnd};
+ghost use lib.Dec.{eqb};
 ghost use lib.ListN.{length};
 ghost use Rattle.basics.specs.Bits.{odd};
 ghost use Rattle.fleet.specs.Sets.{Sorted};
 ghost use Rattle.fleet.specs.Rounds.{estimates, stoppedFleet, proposalEvent, vetoEvent, Kept, Ready, Played};
 
-// A fleet with two sets of its trucks: who runs, and who of those sends a veto in the next veto round.
+// A fleet with three sets of its trucks: who runs, who of those sends a veto in the next veto round, and whose memory may hold something. The memory of the others is empty.
 pub struct Roster {
     pub fleet: Fleet,
     pub running: u32,
     pub vetoing: u32,
+    pub holding: u32,
 }
 
 // The senders of each crusher, in packed order like the senders.
@@ -92,6 +95,13 @@ fn stopped(f: Fleet, round: u16, stopping: u32) -> Fleet
     fleet
 }
 
+// Those that a proposal round may change: where nobody sends, only those that have a mark or whose memory holds something.
+fn touched(going: u32, senders: u32, own: u32) -> u32
+    ensures { λ r. ⌜ r ≡ cond (eqb senders 0) (bitAnd going own) going ⌝ }
+{
+    if senders == 0 { going & own } else { going }
+}
+
 // A proposal round.
 pub(crate) fn proposal_round(
     r: Roster,
@@ -115,8 +125,9 @@ pub(crate) fn proposal_round(
     if stopping != 0 {
         fleet = stopped(fleet, round, stopping);
     }
+    let changed = touched(going, senders, mark | r.holding);
     let mut vetoing = 0;
-    let mut left = going;
+    let mut left = changed;
     while left != 0 {
         let i = lowest(left);
         let place = f.n as usize - 1 - i;
@@ -131,6 +142,7 @@ pub(crate) fn proposal_round(
         fleet,
         running: going,
         vetoing,
+        holding: changed,
     }
 }
 
@@ -150,8 +162,9 @@ pub(crate) fn veto_round(r: Roster, stop: u32, mark: u32, rows: &[u32; 32]) -> R
     if stopping != 0 {
         fleet = stopped(fleet, round, stopping);
     }
-    let mut on = 0;
-    let mut left = going;
+    let changed = going & r.holding;
+    let mut on = going ^ changed;
+    let mut left = changed;
     while left != 0 {
         let i = lowest(left);
         let place = f.n as usize - 1 - i;
@@ -166,6 +179,7 @@ pub(crate) fn veto_round(r: Roster, stop: u32, mark: u32, rows: &[u32; 32]) -> R
         fleet,
         running: on,
         vetoing: 0,
+        holding: 0,
     }
 }
 
@@ -182,7 +196,7 @@ pub(crate) fn play(r: Roster, stop: u32, active: u32, mark: u32, rows: &[u32; 32
     }
 }
 
-// The record with its two sets.
+// The record with its sets.
 pub(crate) fn roster_of(f: Fleet) -> Roster
     requires { ⌜ f .n ≤ 32 ⌝ }
     ensures { λ r. ⌜ (r .fleet ≡ f) × Kept r ⌝ }
@@ -201,5 +215,6 @@ pub(crate) fn roster_of(f: Fleet) -> Roster
         fleet: f,
         running,
         vetoing,
+        holding: running,
     }
 }

@@ -1,5 +1,6 @@
 -- `roster_of` meets its contract.
-use mathlib.Core.Path.{_≡_, refl, subst}
+use mathlib.Core.Path.{_≡_, refl, sym, subst, _∙_}
+use mathlib.Core.Bool.{true≢false}
 use Prim.Native.Nat.{ℕ, _≤_, _-_}
 use native.Mathlib.Omega.{arith}
 use native.Mathlib.Numerals.{add-one}
@@ -38,6 +39,7 @@ returns c =
       record {
         running = subst (λ (n : ℕ). Members (i .running) n (λ j. runs (truck (f .trucks) j))) e (i .inv .1);
         vetoing = λ j l r. i .inv .2 .each j (omega arith);
+        empty = λ j l r h. absurd (true≢false (sym r ∙ sym (i .inv .1 .each j (omega arith)) ∙ h));
       },
     )
 

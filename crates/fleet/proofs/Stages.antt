@@ -1,13 +1,13 @@
 -- A run from its bytes, round by round.
 use mathlib.Core.Path.{_≡_, refl, ap, ap₂, sym, subst, subst₂, _∙_}
-use mathlib.Core.Bool.{Bool, true, false, cond, true≢false, false≢true}
+use mathlib.Core.Bool.{Bool, true, false, cond, not, _&&_, _||_, true≢false, false≢true}
 use mathlib.Core.List.{List, []}
 use Prim.Native.Nat.{ℕ, zero, suc, _+_, _*_, _-_, _^_, _≤_, _<_, min}
 use native.Mathlib.Nat.{add-zero, add-mul, mul-le-mul}
 use native.Mathlib.Numerals.{add-one}
 use native.Mathlib.Omega.{arith}
 use borrow.Author.Tests.{eqb-true}
-use lib.Bits.{bitAnd, bitXor}
+use lib.Bits.{bitAnd, bitOr, bitXor}
 use lib.Dec.{eqb}
 use lib.ListN.{length, getD, take, drop, replicate}
 use lib.Seq.{take-at}
@@ -15,10 +15,10 @@ use lib.Pow.{pow-pos}
 use Rattle.basics.specs.Bits.{bit, odd}
 use Rattle.basics.specs.Lists.{tab, filled}
 use Rattle.basics.proofs.Laws.{length-tab, length-filled}
-use Rattle.air.specs.Round.{activeBit}
+use Rattle.air.specs.Round.{activeBit, markBit}
 use Rattle.air.specs.Runs.{stateAt}
 use Rattle.air.specs.Air.{Air, complete, majorityComplete, zeroComplete, accurate}
-use Rattle.words.proofs.Words.{bit-zero}
+use Rattle.words.proofs.Words.{bit-and, bit-or, bit-without, bit-zero}
 use Rattle.words.proofs.Mirror.{mirror-bit}
 use Rattle.bitreader.specs.Bits.{bitsRead, mirrored}
 use Rattle.bitreader.proofs.Digits.{bitAt-lt, mirrored-num}
@@ -114,6 +114,10 @@ module _ (s : List ℕ) (at : ℕ) (judging : Bool) (c : Course) (reached : Reac
     pub place-low : at < 450000
     place-low = rw (reached .place) (place-small s (f .done) (frame .most) few-done)
 
+    -- the numbers of the next round are small
+    pub round-room : (f .n ≤ 32) × (f .done < 400) × (at < 450000)
+    round-room = (few-trucks, few-done, place-low)
+
     -- the roster is one that a round takes
     pub ready : Ready (c .roster)
     ready =
@@ -172,59 +176,72 @@ module _ (s : List ℕ) (at : ℕ) (judging : Bool) (c : Course) (reached : Reac
     abbrev gone-on : ℕ → ℕ
     gone-on stop = bitXor (c .roster .running) (bitAnd (c .roster .running) stop)
 
-    -- a round that was read as far as it matters: sent holds those that send if they run
-    module _ (sent stop active mark : ℕ) (rows : List ℕ) where
+    -- what is known of grades that take in the round
+    abbrev Judged : ℕ → ℕ → ℕ → List ℕ → Grades → Type 0
+    Judged sent stop mark rows grades =
+        ((a : Air) → Described a (f .n) (gone-on stop) (bitAnd (gone-on stop) sent) mark rows → grades ≡ cond judging (carriedAll (c .grades) (verdictOf a) k) (c .grades))
+        × (judging ≡ false → grades ≡ c .grades)
+
+    -- a round that was read as far as it matters: sent holds those that send if they run, without those whose rows were not read
+    module _ (sent stop active mark without : ℕ) (rows : List ℕ) where
       module _ (es : stop ≡ getD w 0 0) (em : mark ≡ getD w 2 0) (ea : odd k ≡ true → active ≡ getD w 1 0)
-          (er : RowsRead s (at + 3 * f .n) (f .n) (cond (eqb (bitAnd (gone-on stop) sent) 0) 0 (gone-on stop)) rows) (sends : Members (bitAnd (gone-on stop) sent) (f .n) (air .sends)) where
+          (er : RowsRead s (at + 3 * f .n) (f .n) (cond (eqb (bitAnd (gone-on stop) sent) 0) 0 (bitXor (gone-on stop) (bitAnd (gone-on stop) without))) rows)
+          (sends : Members (bitAnd (gone-on stop) sent) (f .n) (air .sends)) where
         running-here : Members (gone-on stop) (f .n) (air .running)
         running-here =
             subst (λ (x : ℕ). Members (bitXor (c .roster .running) (bitAnd (c .roster .running) x)) (f .n) (air .running)) (sym es)
             (going-is (f .n) k w (f .trucks) (c .roster .running) (reached .kept .running))
 
-        row-here : (i : ℕ) → i < f .n → air .running i ≡ true → (j : ℕ) → j < f .n → air .sends j ≡ true → mirrored (f .n) (getD rows i 0) ≡ getD w (3 + i) 0
-        row-here i l r j lj sj =
+        row-here : (i : ℕ) → i < f .n → air .running i ≡ true → bit without i ≡ false → (j : ℕ) → j < f .n → air .sends j ≡ true → mirrored (f .n) (getD rows i 0) ≡ getD w (3 + i) 0
+        row-here i l r d j lj sj =
             ap (mirrored (f .n)) (er i l (heard (eqb (bitAnd (gone-on stop) sent) 0) refl))
             ∙ mirrored-num (bitAt s) (bitAt-lt s) (at + 3 * f .n + i * f .n) (f .n)
             ∙ ap (rowAt (bitAt s) (at + 3 * f .n + i * f .n)) (let z : f .n ≡ min (f .n) 32 = omega (arith, few-trucks) in z)
             ∙ word-read (3 + i) (at + 3 * f .n + i * f .n) (omega arith) (omega (arith, add-mul 3 i (f .n)))
           where
-            heard : (b : Bool) → eqb (bitAnd (gone-on stop) sent) 0 ≡ b → bit (cond b 0 (gone-on stop)) i ≡ true
+            heard : (b : Bool) → eqb (bitAnd (gone-on stop) sent) 0 ≡ b → bit (cond b 0 (bitXor (gone-on stop) (bitAnd (gone-on stop) without))) i ≡ true
             heard true e =
                 absurd (false≢true (sym (ap (λ (x : ℕ). bit x j) (eqb-true (bitAnd (gone-on stop) sent) 0 e) ∙ bit-zero j) ∙ sends .each j lj ∙ sj))
-            heard false e = running-here .each i l ∙ r
+            heard false e = bit-without (gone-on stop) without i ∙ ap₂ (λ (x y : Bool). x && not y) (running-here .each i l ∙ r) d
 
-        as-read : Same (f .n) k (f .trucks) (roundOf stop active mark (plainRows (f .n) rows)) w
-        as-read =
+        as-read : ((i : ℕ) → i < f .n → air .running i ≡ true → (odd k ≡ false → (markBit w i ≡ false) × (air .sends i ≡ false)) → bit without i ≡ false)
+            → Same (f .n) k (f .trucks) (roundOf stop active mark (plainRows (f .n) rows)) w
+        as-read free =
             record {
               stop = es;
               active = ea;
               mark = em;
-              rows = λ i l r j lj sj. ap (λ (x : ℕ). bit x j) (row-of stop active mark (plainRows (f .n) rows) i ∙ row-plain (f .n) rows i ∙ row-here i l r j lj sj);
+              rows = λ i l r d j lj sj. ap (λ (x : ℕ). bit x j) (row-of stop active mark (plainRows (f .n) rows) i ∙ row-plain (f .n) rows i ∙ row-here i l r (free i l r d) j lj sj);
             }
 
-        described : Described air (f .n) (gone-on stop) (bitAnd (gone-on stop) sent) mark rows
+        described : without ≡ 0 → Described air (f .n) (gone-on stop) (bitAnd (gone-on stop) sent) mark rows
         unfolding airOf
-        described =
+        described z =
             record {
               count = refl;
               running = running-here;
               sends = sends;
               marked = λ i l r. ap (λ (x : ℕ). bit x i) (sym em);
-              lost = λ i l r j lj sj. ap (λ (x : ℕ). bit x j) (sym (row-here i l r j lj sj)) ∙ mirror-bit (f .n) (getD rows i 0) j lj;
+              lost = λ i l r j lj sj. ap (λ (x : ℕ). bit x j) (sym (row-here i l r (ap (λ (x : ℕ). bit x i) z ∙ bit-zero i) j lj sj)) ∙ mirror-bit (f .n) (getD rows i 0) j lj;
             }
 
-        pub round-done : (q : Roster) (grades : Grades) → Played (c .roster) stop active mark rows q
-            → ((a : Air) → Described a (f .n) (gone-on stop) (bitAnd (gone-on stop) sent) mark rows → grades ≡ cond judging (carriedAll (c .grades) (verdictOf a) k) (c .grades))
+        round-done : ((i : ℕ) → i < f .n → air .running i ≡ true → (odd k ≡ false → (markBit w i ≡ false) × (air .sends i ≡ false)) → bit without i ≡ false) → (judging ≡ true → without ≡ 0)
+            → (q : Roster) (grades : Grades) → Played (c .roster) stop active mark rows q → Judged sent stop mark rows grades
             → Moved s at judging c (record { roster = q; grades = grades })
-        round-done q grades p g = moved q grades (p .fleet ∙ same-next f (roundOf stop active mark (plainRows (f .n) rows)) w as-read) (p .kept) (g air described)
+        round-done free all q grades p g =
+            moved q grades (p .fleet ∙ same-next f (roundOf stop active mark (plainRows (f .n) rows)) w (as-read free)) (p .kept) (judge judging refl)
+          where
+            judge : (b : Bool) → judging ≡ b → grades ≡ cond judging (carriedAll (c .grades) (verdictOf air) k) (c .grades)
+            judge true e = g .0 air (described (all e))
+            judge false e = g .1 e ∙ sym (ap (λ (b : Bool). cond b (carriedAll (c .grades) (verdictOf air) k) (c .grades)) e)
 
     -- the rows that are asked for are rows of trucks below n
-    pub listeners-below : (stop sent among : ℕ) → among ≡ cond (eqb (bitAnd (gone-on stop) sent) 0) 0 (gone-on stop) → among < 2 ^ f .n
-    listeners-below stop sent among e = rw e (go (eqb (bitAnd (gone-on stop) sent) 0))
+    pub listeners-below : (stop sent without among : ℕ) → among ≡ cond (eqb (bitAnd (gone-on stop) sent) 0) 0 (bitXor (gone-on stop) (bitAnd (gone-on stop) without)) → among < 2 ^ f .n
+    listeners-below stop sent without among e = rw e (go (eqb (bitAnd (gone-on stop) sent) 0))
       where
-        go : (b : Bool) → cond b 0 (gone-on stop) < 2 ^ f .n
+        go : (b : Bool) → cond b 0 (bitXor (gone-on stop) (bitAnd (gone-on stop) without)) < 2 ^ f .n
         go true = pow-pos (f .n)
-        go false = members-without (reached .kept .running) stop .below
+        go false = members-without (members-without (reached .kept .running) stop) without .below
 
     module _ (stop mark : ℕ) (rows : List ℕ) (among : ℕ) (q : Roster) (grades : Grades)
         (rs : stop ≡ rowAt (bitAt s) at (bitsRead (f .n))) (rm : mark ≡ rowAt (bitAt s) (at + 2 * f .n) (bitsRead (f .n)))
@@ -236,25 +253,44 @@ module _ (s : List ℕ) (at : ℕ) (judging : Bool) (c : Course) (reached : Reac
       em = rm ∙ word-read 2 (at + 2 * f .n) (omega arith) refl
 
       pub proposal-done : odd k ≡ true → (active : ℕ) → active ≡ rowAt (bitAt s) (at + f .n) (bitsRead (f .n))
-          → among ≡ cond (eqb (bitAnd (gone-on stop) active) 0) 0 (gone-on stop) → Played (c .roster) stop active mark rows q
-          → ((a : Air) → Described a (f .n) (gone-on stop) (bitAnd (gone-on stop) active) mark rows
-          → grades ≡ cond judging (carriedAll (c .grades) (verdictOf a) k) (c .grades))
+          → among ≡ cond (eqb (bitAnd (gone-on stop) active) 0) 0 (bitXor (gone-on stop) (bitAnd (gone-on stop) 0)) → Played (c .roster) stop active mark rows q
+          → Judged active stop mark rows grades
           → Moved s at judging c (record { roster = q; grades = grades })
       proposal-done o active ra e p g =
           let ea : active ≡ getD w 1 0 = ra ∙ word-read 1 (at + f .n) (omega arith) (omega arith) in
-          round-done active stop active mark rows es em (λ z. ea) (rw e at rr)
+          round-done active stop active mark 0 rows es em (λ z. ea) (rw e at rr)
           (subst₂ (λ (x y : ℕ). Members (bitAnd (bitXor (c .roster .running) (bitAnd (c .roster .running) x)) y) (f .n) (air .sends)) (sym es) (sym ea)
-          (proposers (f .n) k w (f .trucks) (c .roster .running) (reached .kept .running) o)) q grades p g
+          (proposers (f .n) k w (f .trucks) (c .roster .running) (reached .kept .running) o)) (λ i l r d. bit-zero i) (λ z. refl) q grades p g
 
-      pub veto-done : odd k ≡ false
-          → among ≡ cond (eqb (bitAnd (gone-on stop) (c .roster .vetoing)) 0) 0 (gone-on stop) → Played (c .roster) stop 0 mark rows q
-          → ((a : Air) → Described a (f .n) (gone-on stop) (bitAnd (gone-on stop) (c .roster .vetoing)) mark rows
-          → grades ≡ cond judging (carriedAll (c .grades) (verdictOf a) k) (c .grades))
+      pub veto-done : odd k ≡ false → (without : ℕ) → without ≡ cond judging 0 (bitOr mark (c .roster .vetoing))
+          → among ≡ cond (eqb (bitAnd (gone-on stop) (c .roster .vetoing)) 0) 0 (bitXor (gone-on stop) (bitAnd (gone-on stop) without)) → Played (c .roster) stop 0 mark rows q
+          → Judged (c .roster .vetoing) stop mark rows grades
           → Moved s at judging c (record { roster = q; grades = grades })
-      veto-done o e p g =
-          round-done (c .roster .vetoing) stop 0 mark rows es em (λ z. absurd (true≢false (sym z ∙ o))) (rw e at rr)
-          (subst (λ (x : ℕ). Members (bitAnd (bitXor (c .roster .running) (bitAnd (c .roster .running) x)) (c .roster .vetoing)) (f .n) (air .sends)) (sym es)
-          (vetoers (f .n) k w (f .trucks) (c .roster .running) (reached .kept .running) (c .roster .vetoing) o (reached .kept .vetoing))) q grades p g
+      veto-done o without ew e p g =
+          round-done (c .roster .vetoing) stop 0 mark without rows es em (λ z. absurd (true≢false (sym z ∙ o))) (rw e at rr) sends
+          free (λ z. ew ∙ ap (λ (b : Bool). cond b 0 (bitOr mark (c .roster .vetoing))) z) q grades p g
+        where
+          sends : Members (bitAnd (gone-on stop) (c .roster .vetoing)) (f .n) (air .sends)
+          sends =
+              subst (λ (x : ℕ). Members (bitAnd (bitXor (c .roster .running) (bitAnd (c .roster .running) x)) (c .roster .vetoing)) (f .n) (air .sends)) (sym es)
+              (vetoers (f .n) k w (f .trucks) (c .roster .running) (reached .kept .running) (c .roster .vetoing) o (reached .kept .vetoing))
+
+          free : (i : ℕ) → i < f .n → air .running i ≡ true → (odd k ≡ false → (markBit w i ≡ false) × (air .sends i ≡ false)) → bit without i ≡ false
+          free i l r d =
+              ap (λ (x : ℕ). bit x i) ew ∙ go judging
+            where
+              neither : (x y z : Bool) → x ≡ true → (x && y) ≡ z → z ≡ false → y ≡ false
+              neither true y z e g h = g ∙ h
+              neither false y z e g h = absurd (true≢false (sym e))
+
+              vetoes-not : bit (c .roster .vetoing) i ≡ false
+              vetoes-not =
+                  neither (bit (gone-on stop) i) (bit (c .roster .vetoing) i) (air .sends i) (running-here (c .roster .vetoing) stop 0 mark without rows es em (λ z. absurd (true≢false (sym z ∙ o))) (rw e at rr) sends .each i l ∙ r)
+                  (sym (bit-and (gone-on stop) (c .roster .vetoing) i) ∙ sends .each i l) (d o .1)
+
+              go : (b : Bool) → bit (cond b 0 (bitOr mark (c .roster .vetoing))) i ≡ false
+              go true = bit-zero i
+              go false = bit-or mark (c .roster .vetoing) i ∙ ap₂ _||_ (ap (λ (x : ℕ). bit x i) em ∙ d o .0) vetoes-not
 
     -- a round in which nobody runs
     module _ (none : c .roster .running ≡ 0) where

@@ -11,7 +11,7 @@ use protocol::Grades;
 ghost use mathlib.Core.Path.{_≡_};
 ghost use mathlib.Core.Bool.{true, false, cond};
 ghost use Prim.Native.Nat.{_+_, _*_, _<_, _≤_, _^_};
-ghost use lib.Bits.{bitAnd, bitXor};
+ghost use lib.Bits.{bitAnd, bitOr, bitXor};
 ghost use lib.Dec.{eqb};
 ghost use lib.ListN.{replicate};
 ghost use Rattle.refusals.specs.declared.Outcome.the-variants.{Accepted};
@@ -29,11 +29,22 @@ pub struct Course {
     pub grades: Grades,
 }
 
-// Those whose rows matter: nobody's, where nobody sends.
-fn listeners(going: u32, senders: u32) -> u32
-    ensures { λ r. ⌜ r ≡ cond (eqb senders 0) 0 going ⌝ }
+// Those whose rows matter: nobody's, where nobody sends; else of those that go on all but `without`.
+fn listeners(going: u32, senders: u32, without: u32) -> u32
+    ensures { λ r. ⌜ r ≡ cond (eqb senders 0) 0 (bitXor going (bitAnd going without)) ⌝ }
 {
-    if senders == 0 { 0 } else { going }
+    if senders == 0 {
+        0
+    } else {
+        going ^ (going & without)
+    }
+}
+
+// Those whose rows don't matter in a veto round: with a mark, or with a veto of its own, no truck decides. A round that is judged wants every row.
+fn undecided(judging: bool, mark: u32, vetoing: u32) -> u32
+    ensures { λ r. ⌜ r ≡ cond judging 0 (bitOr mark vetoing) ⌝ }
+{
+    if judging { 0 } else { mark | vetoing }
 }
 
 // The rows of the trucks of a set as they are packed, of a round whose first row stands at a place.
@@ -77,7 +88,7 @@ fn grades_after(
 ) -> Grades
     requires { ⌜ (n ≤ 32) × (running < 2 ^ n) ⌝ }
     ensures { λ r. ⌜ ((a : Air) → Described a n (bitXor running (bitAnd running stop)) (bitAnd (bitXor running (bitAnd running stop)) sent) mark (now (rows .entry))
-        → r ≡ cond judging (carriedAll grades (verdictOf a) k) grades) ⌝ }
+        → r ≡ cond judging (carriedAll grades (verdictOf a) k) grades) × (judging ≡ false → r ≡ grades) ⌝ }
 {
     if judging {
         graded(grades, k, n, running, sent, stop, mark, rows)
@@ -98,7 +109,7 @@ fn propose(s: &[u8], at: usize, judging: bool, c: Course) -> Course
     let active = bitreader::row_at(s, at + n, n);
     let mark = bitreader::row_at(s, at + 2 * n, n);
     let going = running ^ (running & stop);
-    let rows = rows_at(s, at + 3 * n, n, listeners(going, going & active));
+    let rows = rows_at(s, at + 3 * n, n, listeners(going, going & active, 0));
     let grades = grades_after(judging, c.grades, k, n, running, active, stop, mark, &rows);
     let roster = proposal_round(c.roster, stop, active, mark, &rows);
     Course { roster, grades }
@@ -116,7 +127,8 @@ fn veto(s: &[u8], at: usize, judging: bool, c: Course) -> Course
     let stop = bitreader::row_at(s, at, n);
     let mark = bitreader::row_at(s, at + 2 * n, n);
     let going = running ^ (running & stop);
-    let rows = rows_at(s, at + 3 * n, n, listeners(going, going & vetoing));
+    let among = listeners(going, going & vetoing, undecided(judging, mark, vetoing));
+    let rows = rows_at(s, at + 3 * n, n, among);
     let grades = grades_after(judging, c.grades, k, n, running, vetoing, stop, mark, &rows);
     let roster = veto_round(c.roster, stop, mark, &rows);
     Course { roster, grades }

@@ -1,17 +1,13 @@
--- Laws of searches, and of sets of trucks that grow or shrink by one.
+-- Laws of searches and of the kinds of rounds.
 use mathlib.Core.Path.{_≡_, ap, _∙_}
-use mathlib.Core.List.{List}
 use mathlib.Core.Bool.{Bool, true, false, not}
-use Prim.Native.Nat.{ℕ, _+_, _%_, _≤_, _<_}
+use Prim.Native.Nat.{ℕ, _+_, _%_, _<_}
 use native.Mathlib.Numerals.{add-one}
-use native.Mathlib.Decide.{decLt}
 use native.Mathlib.Omega.{arith}
 use borrow.Author.Tests.{eq-eqb, ne-eqb}
-use lib.ListN.{length, getD}
-use lib.Seq.{ext-getD}
 use Rattle.basics.specs.Bits.{odd}
-use Rattle.basics.specs.Lists.{first, filled}
-use Rattle.basics.proofs.Laws.{odd-suc, first-before, first-unique, length-filled, getD-filled, getD-filled-past}
+use Rattle.basics.specs.Lists.{first}
+use Rattle.basics.proofs.Laws.{odd-suc, first-before, first-unique}
 
 -- a search that finds c finds it below any larger bound
 pub first-found : (p : ℕ → Bool) (m c : ℕ) → c < m → first p c ≡ c → p c ≡ true → first p m ≡ c
@@ -24,14 +20,7 @@ next-odd d e = eq-eqb ((d + 1) % 2) 1 (omega arith)
 pub next-even : (d : ℕ) → (d % 2 ≡ 0 → ⊥) → odd (d + 1) ≡ false
 next-even d h = ne-eqb ((d + 1) % 2) 1 (λ e. omega arith)
 
--- a list filled with what it holds
-pub filled-same : {A : Type 0} (z : A) (g : ℕ → A) (n : ℕ) (d : List A) → n ≤ length d → ((i : ℕ) → i < n → g i ≡ getD d i z) → filled g n d ≡ d
-filled-same z g n d long h = ext-getD z (filled g n d) d (length-filled g n d long) (λ i l. go i (decLt i n))
-  where
-    go : (i : ℕ) → Dec (i < n) → getD (filled g n d) i z ≡ getD d i z
-    go i (yes l) = getD-filled g n d i z l ∙ h i l
-    go i (no l) = getD-filled-past g n d i z (omega arith)
-
+-- the kind of the round after an even and after an odd number of them
 pub after-even : (d : ℕ) → odd d ≡ false → odd (d + 1) ≡ true
 after-even d h = ap odd (add-one d) ∙ odd-suc d ∙ ap not h
 

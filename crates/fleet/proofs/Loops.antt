@@ -13,7 +13,7 @@ use lib.Seq.{getD-set-same, getD-set-other}
 use lib.Pow.{pow-pos}
 use Rattle.basics.specs.Bits.{bit, odd}
 use Rattle.basics.specs.Lists.{filled}
-use Rattle.basics.proofs.Laws.{and-left, and-right, filled-ext}
+use Rattle.basics.proofs.Laws.{and-left, and-right, filled-ext, filled-same}
 use Rattle.bitreader.specs.Bits.{bitsRead, mirrored}
 use Rattle.bitreader.proofs.Digits.{mirrored-lt}
 use Rattle.air.specs.Round.{activeBit}
@@ -31,8 +31,7 @@ use Rattle.fleet.specs.Sets.{Members, Sorted}
 use Rattle.fleet.proofs.Packed.{row-plain, sorted-packed, proposal-packed, veto-packed}
 use Rattle.words.proofs.Words.{bit-and, bit-or, bit-without, bit-zero}
 use Rattle.words.proofs.Mirror.{mirror-zero}
-use Rattle.fleet.proofs.Laws.{filled-same}
-use Rattle.fleet.proofs.Members.{set-below, members-none, within-removed, seen, seen-none, seen-all, seen-in, seen-out, seen-joined, half, replaced, replaced-at, replaced-all, replaced-none, replaced-more}
+use Rattle.fleet.proofs.Members.{set-below, within-removed, seen, seen-none, seen-all, seen-in, seen-out, seen-joined, half, replaced, replaced-at, replaced-all, replaced-none, replaced-more}
 
 -- a round under way: the trucks of `left` are as they were, the others of `running` as they become, and set holds those of the latter that have p
 pub record Going (n k : ℕ) (ts : List Truck) (new : ℕ → Truck) (running : ℕ) (p : Truck → Bool) (f : Fleet) (members left : ℕ) : Type 0 where

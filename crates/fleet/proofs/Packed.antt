@@ -16,7 +16,7 @@ use Rattle.bitreader.proofs.Digits.{mirrored-lt}
 use Rattle.words.proofs.Words.{bit-and, same-bits}
 use Rattle.words.proofs.Mirror.{mirror-bit, mirror-and, mirror-or, mirror-xor, mirror-power, mirror-zero, mirror-eq, mirror-ones}
 use Rattle.fleet.specs.declared.hearing.Values.{Values}
-use Rattle.fleet.specs.Sets.{Members, Sorted, heardSet, sentHere, wasHeard, valuesOf}
+use Rattle.fleet.specs.Sets.{Sorted, heardSet, sentHere, wasHeard, valuesOf}
 use Rattle.truck.specs.declared.Event.the-variants.{Proposals, Vetoes}
 use Rattle.fleet.specs.Rounds.{plainRows, proposalEvent, vetoEvent}
 use Rattle.fleet.specs.Grading.{truckVerdict}
@@ -40,7 +40,7 @@ module _ (n : ℕ) where
       ∙ ap₂ _&&_ (mirror-bit n a j l) (sym (mirror-bit n x (n - suc j) (omega arith) ∙ ap (bit x) (let e : n - suc (n - suc j) ≡ j = omega arith in e)))
       ∙ sym (mirror-bit n (bitAnd a (mirrored n x)) j l ∙ bit-and a (mirrored n x) (n - suc j)))
 
-  pub heard-packed : (senders row i : ℕ) → i < n → heardSet (mirrored n senders) row (n - suc i) ≡ mirrored n (heardSet senders (mirrored n row) i)
+  heard-packed : (senders row i : ℕ) → i < n → heardSet (mirrored n senders) row (n - suc i) ≡ mirrored n (heardSet senders (mirrored n row) i)
   unfolding heardSet
   heard-packed senders row i l =
       ap₂ (λ (x y : ℕ). bitOr (bitXor (mirrored n senders) x) y) (and-packed senders row)
@@ -66,7 +66,7 @@ module _ (n : ℕ) where
         ap (λ (x : ℕ). eqb x 0) (ap (bitXor (mirrored n heard)) (here-packed c) ∙ sym (mirror-xor n heard (sentHere plain heard c)))
         ∙ mirror-zero n (bitXor heard (sentHere plain heard c)) (xor-lt n heard (sentHere plain heard c) below (here-below c))
 
-    pub values-packed : valuesOf values (mirrored n heard) e ≡ valuesOf plain heard e
+    values-packed : valuesOf values (mirrored n heard) e ≡ valuesOf plain heard e
     unfolding valuesOf
     values-packed = rw (was-packed, rest-packed (first (wasHeard plain heard) 16))
 

@@ -8,7 +8,7 @@ use lib.Dec.{eqb, ltb}
 use lib.ListN.{length, getD}
 use Rattle.basics.specs.Bits.{bit, odd}
 use Rattle.basics.specs.Lists.{who, filled}
-use Rattle.basics.proofs.Laws.{filled-ext, getD-filled}
+use Rattle.basics.proofs.Laws.{filled-ext, getD-filled, filled-same}
 use Rattle.air.specs.Round.{stopBit, activeBit, markBit, lossBit}
 use Rattle.air.specs.Air.{Air, hears, heardBy, heard}
 use Rattle.air.proofs.Laws.{who-ext, count-some, hears-itself}
@@ -22,7 +22,6 @@ use Rattle.protocol.proofs.OneRound.{plays-veto}
 use Rattle.protocol.specs.Fleets.{nextFleet}
 use Rattle.bitreader.specs.Bits.{mirrored}
 use Rattle.fleet.specs.Rounds.{roundOf, plainRows, noRows}
-use Rattle.fleet.proofs.Laws.{filled-same}
 use Rattle.fleet.proofs.Packed.{row-plain, mirror-back}
 use Rattle.fleet.proofs.Turns.{row-of}
 
@@ -41,11 +40,11 @@ module _ (n k : ℕ) (ts : List Truck) (v w : List ℕ) (same : Same n k ts v w)
   abbrev b : Air
   b = airOf n (activeBit w) k w ts
 
-  pub same-running : (i : ℕ) → a .running i ≡ b .running i
+  same-running : (i : ℕ) → a .running i ≡ b .running i
   unfolding airOf
   same-running i = ap (λ (x : ℕ). runs (truck ts i) && not (bit x i)) (same .stop)
 
-  pub same-sends : (i : ℕ) → a .sends i ≡ b .sends i
+  same-sends : (i : ℕ) → a .sends i ≡ b .sends i
   unfolding airOf
   same-sends i = ap₂ (λ (x y : Bool). x && y) (same-running i) (go (odd k) refl)
     where
@@ -106,7 +105,7 @@ module _ (n k : ℕ) (ts : List Truck) (v w : List ℕ) (same : Same n k ts v w)
       kind true o = same-where i l r (λ z. absurd (true≢false (sym o ∙ z)))
       kind false o = veto o (markBit w i) refl (b .sends i) refl
 
-  pub same-after : after n (activeBit v) k v ts ≡ after n (activeBit w) k w ts
+  same-after : after n (activeBit v) k v ts ≡ after n (activeBit w) k w ts
   unfolding after airOf
   same-after = filled-ext _ _ n ts (λ i l. go i l (truck ts i .state) (stopBit w i) refl refl)
     where

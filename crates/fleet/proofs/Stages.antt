@@ -69,19 +69,19 @@ module _ (s : List ℕ) where
   abbrev airs : ℕ → Air
   airs k = airAt (trucksOf s) (openingsOf s) (roundAt s) k
 
-  pub after-one : (k : ℕ) → nextFleet (fleetAfter s k) (roundAt s k) ≡ fleetAfter s (k + 1)
+  after-one : (k : ℕ) → nextFleet (fleetAfter s k) (roundAt s k) ≡ fleetAfter s (k + 1)
   unfolding nextFleet fleetAt
   after-one k =
       ap (λ (l : List Truck). record { n = trucksOf s; done = k + 1; trucks = l })
       (ap (λ (j : ℕ). after (trucksOf s) (activeBit (roundAt s k)) j (roundAt s k) (trucksAt (trucksOf s) (openingsOf s) (roundAt s) k)) (add-one k)
       ∙ sym (ap (trucksAt (trucksOf s) (openingsOf s) (roundAt s)) (add-one k) ∙ at-suc (trucksOf s) (openingsOf s) (roundAt s) k))
 
-  pub air-one : (k : ℕ) → airs (k + 1) ≡ airOf (trucksOf s) (activeBit (roundAt s k)) (k + 1) (roundAt s k) (trucksAt (trucksOf s) (openingsOf s) (roundAt s) k)
+  air-one : (k : ℕ) → airs (k + 1) ≡ airOf (trucksOf s) (activeBit (roundAt s k)) (k + 1) (roundAt s k) (trucksAt (trucksOf s) (openingsOf s) (roundAt s) k)
   air-one k =
       ap airs (add-one k) ∙ air-suc (trucksOf s) (openingsOf s) (roundAt s) k
       ∙ ap (λ (j : ℕ). airOf (trucksOf s) (activeBit (roundAt s k)) j (roundAt s k) (trucksAt (trucksOf s) (openingsOf s) (roundAt s) k)) (sym (add-one k))
 
-  pub grades-one : (judging : Bool) (k : ℕ)
+  grades-one : (judging : Bool) (k : ℕ)
       → gradesAfter s judging (k + 1) ≡ cond judging (carriedAll (gradesAfter s judging k) (verdictOf (airs (k + 1))) (k + 1)) (gradesAfter s judging k)
   unfolding gradesAfter gradesOf carriedAll verdictOf
   grades-one true k =
@@ -104,14 +104,14 @@ module _ (s : List ℕ) (at : ℕ) (judging : Bool) (c : Course) (reached : Reac
   unfolding fleetAt
   trucks-are = ap (λ (g : Fleet). g .trucks) (reached .fleet)
 
-  pub few-trucks : f .n ≤ 32
+  few-trucks : f .n ≤ 32
   few-trucks = rw count-is (frame .most)
 
   module _ (less : f .done < roundsOf s) where
-    pub few-done : f .done < 400
+    few-done : f .done < 400
     few-done = omega (arith, frame .rounds)
 
-    pub place-low : at < 450000
+    place-low : at < 450000
     place-low = rw (reached .place) (place-small s (f .done) (frame .most) few-done)
 
     -- the numbers of the next round are small

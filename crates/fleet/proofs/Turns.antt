@@ -106,11 +106,7 @@ module _ (n k stop active mark : ℕ) (rows : List ℕ) (ts : List Truck) where
   abbrev pub rule : ℕ → Truck
   rule i = turn (truck ts i .state) (stopBit w i) (stops k (truck ts i)) (plays air k w ts i) (truck ts i)
 
-  pub after-rule : after n (activeBit w) k w ts ≡ filled rule n ts
-  unfolding after
-  after-rule = refl
-
-  pub truck-rule : (i : ℕ) → i < n → truck (filled rule n ts) i ≡ rule i
+  truck-rule : (i : ℕ) → i < n → truck (filled rule n ts) i ≡ rule i
   truck-rule i l = getD-filled rule n ts i (opened 0) l
 
   -- a truck whose stop bit is set
@@ -139,14 +135,14 @@ module _ (n k stop active mark : ℕ) (rows : List ℕ) (ts : List Truck) where
 
   module _ (running : ℕ) (known : Members running n (λ j. runs (truck ts j))) where
     -- of those that run, who has p after the round, where nobody has p that doesn't run
-    pub runners : (p : Truck → Bool) (set : ℕ) → Members set n (λ j. bit running j && p (rule j)) → (j : ℕ) → j < n → runs (rule j) ≡ true → bit set j ≡ p (rule j)
+    runners : (p : Truck → Bool) (set : ℕ) → Members set n (λ j. bit running j && p (rule j)) → (j : ℕ) → j < n → runs (rule j) ≡ true → bit set j ≡ p (rule j)
     runners p set m j l r = m .each j l ∙ ap (λ (b : Bool). b && p (rule j)) (known .each j l ∙ ran (runs (truck ts j)) refl)
       where
         ran : (b : Bool) → runs (truck ts j) ≡ b → b ≡ true
         ran true e = refl
         ran false e = sym (sym r ∙ ap runs (rule-idle j e) ∙ e)
 
-    pub run-on : (set : ℕ) → Members set n (λ j. bit running j && runs (rule j)) → Members set n (λ j. runs (rule j))
+    run-on : (set : ℕ) → Members set n (λ j. bit running j && runs (rule j)) → Members set n (λ j. runs (rule j))
     run-on set m = members-ext m (λ j. runs (rule j)) (λ j l. ap (λ (b : Bool). b && runs (rule j)) (known .each j l) ∙ go j (runs (truck ts j)) refl)
       where
         go : (j : ℕ) (b : Bool) → runs (truck ts j) ≡ b → (b && runs (rule j)) ≡ runs (rule j)

@@ -1,7 +1,7 @@
 -- Grading, carried along a run: the verdict on a round by sets of trucks, and the first round so far that breaks each class.
 use Prim.Native.Nat.{ℕ, suc, _<_, _*_, _-_}
 use mathlib.Core.Path.{_≡_}
-use mathlib.Core.Bool.{Bool, true, cond, not, _&&_, _||_}
+use mathlib.Core.Bool.{Bool, true, cond, not, _&&_}
 use mathlib.Core.List.{List}
 use lib.Count.{ones}
 use lib.Dec.{eqb, leb, ltb}

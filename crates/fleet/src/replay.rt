@@ -17,7 +17,7 @@ ghost use lib.ListN.{replicate};
 ghost use Rattle.refusals.specs.declared.Outcome.the-variants.{Accepted};
 ghost use Rattle.basics.specs.Bits.{odd};
 ghost use Rattle.basics.specs.Lists.{filled};
-ghost use Rattle.recording.specs.Packed.{trucksOf, roundsOf, openingAt};
+ghost use Rattle.recording.specs.Packed.{roundsOf, openingAt};
 ghost use Rattle.recording.specs.Checks.{checkOf};
 ghost use Rattle.air.specs.Air.{Air};
 ghost use Rattle.fleet.specs.Grading.{Described, verdictOf, carriedAll};

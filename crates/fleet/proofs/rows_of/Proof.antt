@@ -3,11 +3,10 @@ use mathlib.Core.Path.{_≡_, ap, sym, _∙_}
 use mathlib.Core.List.{List}
 use Prim.Native.Nat.{ℕ, _≤_, _-_, _+_, min}
 use native.Mathlib.Omega.{arith}
-use native.Mathlib.Numerals.{add-one}
 use borrow.Author.Needs.{needs}
-use lib.ListN.{getD, set}
+use lib.ListN.{getD}
 use Rattle.basics.specs.Lists.{filled}
-use Rattle.basics.proofs.Laws.{filled-none, filled-more}
+use Rattle.basics.proofs.Laws.{filled-none, fill-step}
 use Rattle.bitreader.specs.Bits.{mirrored}
 use Rattle.fleet.specs.Rounds.{noRows}
 use Rattle.fleet.proofs.rows_of.Statement.{statement}
@@ -34,8 +33,7 @@ loop-again c =
     let i = c .before .before .before .loop in
     let m = c .mirror .ensures ∙ ap (λ (k : ℕ). mirrored k (getD w (3 + i .i) 0)) (let e : min n 32 ≡ n = omega (arith, s .pre .0) in e) in (
       search needs,
-      ap (λ (l : List ℕ). set l (i .i) (c .mirror .result)) (i .inv .1)
-          ∙ rw (add-one (i .i)) (filled-more (row w n) (i .i) noRows (c .mirror .result) (omega (arith, c .before .before .loop-test .taken, s .pre .0)) m),
+      fill-step (row w n) noRows (i .rows) (i .i) (i .inv .1) (c .mirror .result) (omega (arith, c .before .before .loop-test .taken, s .pre .0)) m,
     )
 
 returns : tie.Need-returns Inv-loop μ-loop

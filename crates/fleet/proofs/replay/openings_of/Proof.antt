@@ -1,13 +1,11 @@
 -- `openings_of` meets its contract.
 use mathlib.Core.Path.{_≡_, ap, sym, _∙_}
-use mathlib.Core.List.{List}
 use Prim.Native.Nat.{ℕ, _≤_, _-_}
 use native.Mathlib.Omega.{arith}
-use native.Mathlib.Numerals.{add-one}
 use borrow.Author.Needs.{needs}
-use lib.ListN.{set, replicate}
+use lib.ListN.{replicate}
 use Rattle.basics.specs.Lists.{filled}
-use Rattle.basics.proofs.Laws.{filled-none, filled-more}
+use Rattle.basics.proofs.Laws.{filled-none, fill-step}
 use Rattle.recording.specs.Packed.{openingAt}
 use Rattle.fleet.proofs.replay.openings_of.Statement.{statement}
 use Rattle.fleet.proofs.replay.openings_of.Tie as tie
@@ -25,7 +23,7 @@ loop-again : tie.Need-loop-again Inv-loop μ-loop
 loop-again c =
     let s = c .before .before .before .before .args .s .now in
     let i = c .before .before .loop in
-    (search needs, ap (λ (l : List ℕ). set l (i .i) (c .opening .result)) (i .inv .1) ∙ rw (add-one (i .i)) (filled-more (openingAt s) (i .i) (replicate 32 0) (c .opening .result) (omega (arith, c .before .loop-test .taken, c .before .before .before .before .pre)) (c .opening .ensures)))
+    (search needs, fill-step (openingAt s) (replicate 32 0) (i .openings) (i .i) (i .inv .1) (c .opening .result) (omega (arith, c .before .loop-test .taken, c .before .before .before .before .pre)) (c .opening .ensures))
 
 returns : tie.Need-returns Inv-loop μ-loop
 returns c =

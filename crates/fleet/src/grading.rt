@@ -5,6 +5,7 @@ use crate::hearing::lowest;
 use crate::hearing::rest;
 use protocol::Grades;
 ghost use mathlib.Core.Path.{_≡_};
+ghost use mathlib.Core.Bool.{false, cond};
 ghost use Prim.Native.Nat.{_≤_, _<_, _^_};
 ghost use lib.Bits.{bitAnd, bitXor};
 ghost use Rattle.air.specs.Air.{Air};
@@ -80,8 +81,9 @@ fn carry(first: u16, ok: bool, k: u16) -> u16
     if ok { 0 } else { k }
 }
 
-// The grades with round k, which was sent by those of `sent` that run.
+// The grades with round k, which was sent by those of `sent` that run, where they are asked for.
 pub(crate) fn graded(
+    judging: bool,
     grades: Grades,
     k: u16,
     n: usize,
@@ -93,8 +95,11 @@ pub(crate) fn graded(
 ) -> Grades
     requires { ⌜ (n ≤ 32) × (running < 2 ^ n) ⌝ }
     ensures { λ r. ⌜ ((a : Air) → Described a n (bitXor running (bitAnd running stop)) (bitAnd (bitXor running (bitAnd running stop)) sent) mark (now (rows .entry))
-        → r ≡ carriedAll grades (verdictOf a) k) ⌝ }
+        → r ≡ cond judging (carriedAll grades (verdictOf a) k) grades) × (judging ≡ false → r ≡ grades) ⌝ }
 {
+    if !judging {
+        return grades;
+    }
     let going = running ^ (running & stop);
     let v = round_verdict(n, going, going & sent, mark, rows);
     Grades {

@@ -19,8 +19,6 @@ ghost use Rattle.basics.specs.Bits.{odd};
 ghost use Rattle.basics.specs.Lists.{filled};
 ghost use Rattle.recording.specs.Packed.{roundsOf, openingAt};
 ghost use Rattle.recording.specs.Checks.{checkOf};
-ghost use Rattle.air.specs.Air.{Air};
-ghost use Rattle.fleet.specs.Grading.{Described, verdictOf, carriedAll};
 ghost use Rattle.fleet.specs.Replays.{RowsRead, counted, Reached, Moved, Finished};
 
 // What a run has come to: a roster, and the grades of the rounds so far where they are asked for.
@@ -74,29 +72,6 @@ fn pass_over(c: Course, left: u16) -> Course
     next
 }
 
-// The grades with one round more, where they are asked for.
-fn grades_after(
-    judging: bool,
-    grades: Grades,
-    k: u16,
-    n: usize,
-    running: u32,
-    sent: u32,
-    stop: u32,
-    mark: u32,
-    rows: &[u32; 32],
-) -> Grades
-    requires { ⌜ (n ≤ 32) × (running < 2 ^ n) ⌝ }
-    ensures { λ r. ⌜ ((a : Air) → Described a n (bitXor running (bitAnd running stop)) (bitAnd (bitXor running (bitAnd running stop)) sent) mark (now (rows .entry))
-        → r ≡ cond judging (carriedAll grades (verdictOf a) k) grades) × (judging ≡ false → r ≡ grades) ⌝ }
-{
-    if judging {
-        graded(grades, k, n, running, sent, stop, mark, rows)
-    } else {
-        grades
-    }
-}
-
 // The proposal round that stands at a place.
 fn propose(s: &[u8], at: usize, judging: bool, c: Course) -> Course
     requires { ⌜ Reached (now s) at judging c × (c .roster .fleet .done < roundsOf (now s)) × (odd (c .roster .fleet .done) ≡ false) ⌝ }
@@ -110,7 +85,7 @@ fn propose(s: &[u8], at: usize, judging: bool, c: Course) -> Course
     let mark = bitreader::row_at(s, at + 2 * n, n);
     let going = running ^ (running & stop);
     let rows = rows_at(s, at + 3 * n, n, listeners(going, going & active, 0));
-    let grades = grades_after(judging, c.grades, k, n, running, active, stop, mark, &rows);
+    let grades = graded(judging, c.grades, k, n, running, active, stop, mark, &rows);
     let roster = proposal_round(c.roster, stop, active, mark, &rows);
     Course { roster, grades }
 }
@@ -129,7 +104,7 @@ fn veto(s: &[u8], at: usize, judging: bool, c: Course) -> Course
     let going = running ^ (running & stop);
     let among = listeners(going, going & vetoing, undecided(judging, mark, vetoing));
     let rows = rows_at(s, at + 3 * n, n, among);
-    let grades = grades_after(judging, c.grades, k, n, running, vetoing, stop, mark, &rows);
+    let grades = graded(judging, c.grades, k, n, running, vetoing, stop, mark, &rows);
     let roster = veto_round(c.roster, stop, mark, &rows);
     Course { roster, grades }
 }

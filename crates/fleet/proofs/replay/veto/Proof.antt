@@ -12,8 +12,8 @@ rows-at-requires c κs =
     let p = round-room (z .args .s .now) (z .args .at) (z .args .judging) (z .args .c) (z .pre .0) (z .pre .1) in
     (p .0, omega (arith, p .0, p .2), listeners-below (z .args .s .now) (z .args .at) (z .args .judging) (z .args .c) (z .pre .0) (z .pre .1) (c .before .before .before .row-at .result) (z .args .c .roster .vetoing) (c .before .undecided .result) (c .listeners .result) (c .listeners .ensures))
 
-grades-after-requires : tie.Need-grades-after-requires
-grades-after-requires c κs = let z = c .before .before .before .before .before .before .before .before .before in (round-room (z .args .s .now) (z .args .at) (z .args .judging) (z .args .c) (z .pre .0) (z .pre .1) .0, z .pre .0 .kept .running .below)
+graded-requires : tie.Need-graded-requires
+graded-requires c κs = let z = c .before .before .before .before .before .before .before .before .before in (round-room (z .args .s .now) (z .args .at) (z .args .judging) (z .args .c) (z .pre .0) (z .pre .1) .0, z .pre .0 .kept .running .below)
 
 veto-round-requires : tie.Need-veto-round-requires
 veto-round-requires c κs = let z = c .before .before .before .before .before .before .before .before .before .before .before in (ready (z .args .s .now) (z .args .at) (z .args .judging) (z .args .c) (z .pre .0) (z .pre .1), after-odd (z .args .c .roster .fleet .done) (z .pre .2))
@@ -26,7 +26,7 @@ returns c =
     let without = c .before .before .before .before .before .before .undecided in
     let among = c .before .before .before .before .before .listeners in
     let rows = c .before .before .before .before .rows-at in
-    let grades = c .before .before .grades-after in
+    let grades = c .before .before .graded in
     veto-done (z .args .s .now) (z .args .at) (z .args .judging) (z .args .c) (z .pre .0) (z .pre .1) (stop .result) (mark .result) (rows .result) (among .result) (c .veto-round .result) (grades .result)
     (stop .ensures) (mark .ensures) (rows .ensures) (after-odd (z .args .c .roster .fleet .done) (z .pre .2)) (without .result) (without .ensures) (among .ensures) (c .veto-round .ensures) (grades .ensures)
 
@@ -45,6 +45,6 @@ veto-spec =
     (λ c. let p = round-room (c .before .before .before .before .before .before .before .args .s .now) (c .before .before .before .before .before .before .before .args .at) (c .before .before .before .before .before .before .before .args .judging) (c .before .before .before .before .before .before .before .args .c) (c .before .before .before .before .before .before .before .pre .0) (c .before .before .before .before .before .before .before .pre .1) in omega (arith, p .0, p .1, p .2))
     (λ c. let p = round-room (c .before .before .before .before .before .before .before .args .s .now) (c .before .before .before .before .before .before .before .args .at) (c .before .before .before .before .before .before .before .args .judging) (c .before .before .before .before .before .before .before .args .c) (c .before .before .before .before .before .before .before .pre .0) (c .before .before .before .before .before .before .before .pre .1) in omega (arith, p .0, p .1, p .2))
     rows-at-requires
-    grades-after-requires
+    graded-requires
     veto-round-requires
     returns)

@@ -141,10 +141,26 @@ fn busy(seed: u64, n: usize, rounds: usize) -> Vec<u8> {
     oracle::write(n as u64, rounds as u64, &openings, &words).expect("valid rounds")
 }
 
+/// A largest recording in which nobody but truck 0 has a mark, in proposal rounds only: its veto, which all hear, keeps all trucks running, and every row is needed.
+fn one_vetoes(seed: u64) -> Vec<u8> {
+    let mut rng = Rng::new(seed);
+    let openings: Vec<u8> = (0..32).map(|_| rng.below(16) as u8).collect();
+    let mut words = Vec::new();
+    for k in 1..=400 {
+        let proposals = k % 2 == 1;
+        words.extend([0, if proposals { u32::MAX } else { 0 }, u32::from(proposals)]);
+        for i in 0..32 {
+            words.push((1..32).filter(|j| *j != i && rng.below(256) < 60).fold(0u32, |row, j| row | 1 << j));
+        }
+    }
+    oracle::write(32, 400, &openings, &words).expect("valid rounds")
+}
+
 /// One pass over all inputs.
 fn pass(table: &mut Table) {
     table.next = 0;
     recording(table, "32 trucks, 400 rounds, all running", &busy(1, 32, 400));
+    recording(table, "32 trucks, 400 rounds, one truck vetoes", &one_vetoes(5));
     let quiet = oracle::write(32, 400, &[7; 32], &vec![0; 400 * 35]).expect("a silent recording");
     recording(table, "32 trucks, 400 silent rounds", &quiet);
     let mut rng = Rng::new(2);

@@ -6,14 +6,15 @@ use Rattle.air.specs.Air.{sent, hears, heardBy, heard, misses, missesAny, judge
 use Rattle.air.specs.Runs.{stateAt}
 use Rattle.recording.specs.Packed.{bitAt, numAt, rowAt, trucksOf, roundsOf, openingAt, openingsOf, wordAt, wordsOf, roundAt, bitsFor, bytesFor}
 use Rattle.recording.specs.Checks.{tooShort, badTrucks, badRounds, badLength, endBit, ownBit, ownLoss, frameCheck, ownCheck, checkOf}
-use Rattle.protocol.specs.Rules.{allSame, different, leastOr, airOf, valuesHeard, plays, after}
-use Rattle.protocol.specs.Runs.{openedTrucks, trucksAt, airAt, gradesOf}
-use Rattle.protocol.specs.Fleets.{blank, fleetAt, ran, graded}
+use Rattle.protocol.specs.Cycles.{airIn, valuesIn, playsIn, afterIn}
+use Rattle.protocol.specs.Rules.{allSame, different, leastOr}
+use Rattle.protocol.specs.Runs.{openedIn, trucksIn, airsIn, gradesFor}
+use Rattle.protocol.specs.Fleets.{blank, fleetIn, ranIn, gradedIn}
 use Rattle.listing.specs.Text.{decimalIn, decimal, stateText, truckLine, truckLines, listingOf, refusalText, printed}
 use Rattle.roads.specs.Opening.{least, openingOf}
 use Rattle.cases.specs.Questions.{reply}
 use Rattle.cases.specs.Table.{Row, table}
 
 pub starred : map (λ (r : Row). reply (r .asks)) table ≡ map (λ (r : Row). r .gets) table
-unfolding table reply tabFrom tab filled allBelow who first someBelow sent hears heardBy heard misses missesAny judged complete majorityComplete zeroComplete accurate firstBreak stateAt bitAt numAt rowAt trucksOf roundsOf openingAt openingsOf wordAt wordsOf roundAt bitsFor bytesFor tooShort badTrucks badRounds badLength endBit ownBit ownLoss frameCheck ownCheck checkOf allSame different leastOr airOf valuesHeard plays after openedTrucks trucksAt airAt gradesOf blank fleetAt ran graded decimalIn decimal stateText truckLine truckLines listingOf refusalText printed least openingOf
+unfolding table reply tabFrom tab filled allBelow who first someBelow sent hears heardBy heard misses missesAny judged complete majorityComplete zeroComplete accurate firstBreak stateAt bitAt numAt rowAt trucksOf roundsOf openingAt openingsOf wordAt wordsOf roundAt bitsFor bytesFor tooShort badTrucks badRounds badLength endBit ownBit ownLoss frameCheck ownCheck checkOf allSame different leastOr airIn valuesIn playsIn afterIn openedIn trucksIn airsIn blank fleetIn ranIn gradedIn decimalIn decimal stateText truckLine truckLines listingOf refusalText printed least openingOf gradesFor
 starred = refl

@@ -17,15 +17,16 @@ use Rattle.recording.specs.Checks.{badTrucks, checkOf}
 use Rattle.recording.proofs.Accepted.{trucks-in, openings-in, bytes-good}
 use Rattle.air.specs.Round.{activeBit}
 use Rattle.air.specs.Runs.{stateAt}
+use Rattle.protocol.proofs.AnyRun.{throughout}
+use Rattle.protocol.specs.Cycles.{afterIn}
 use Rattle.protocol.specs.declared.Truck.{Truck}
 use Rattle.protocol.specs.declared.Fleet.{Fleet}
 use Rattle.protocol.specs.declared.Answer.{Answer}
-use Rattle.protocol.specs.Rules.{opened, after}
-use Rattle.protocol.specs.Runs.{openedTrucks, trucksAt}
-use Rattle.protocol.specs.Fleets.{answer, blank as blankFleet, startCheck, started, stepCheck, stepped, nextFleet, fleetAt, ran}
-use Rattle.protocol.specs.Steps.{lastRecord}
+use Rattle.protocol.specs.Rules.{opened, after, twoRules}
+use Rattle.protocol.specs.Runs.{openedTrucks, trucksAt, trucksIn}
+use Rattle.protocol.specs.Fleets.{answer, blank as blankFleet, startCheck, started, stepCheck, stepped, nextFleet, fleetAt, ran, steppedIn, nextFleetIn, ranIn, fleetIn}
+use Rattle.protocol.specs.Steps.{lastRecord, lastRecordIn}
 use Rattle.protocol.proofs.Opened.{length-opened, truck-unopened}
-use Rattle.protocol.proofs.Whole.{throughout}
 use Rattle.protocol.proofs.Steps.{accepted-by, start-by}
 use Rattle.record.specs.Layout.{sizeFor, recordByte, packedRecord, packedWhole, unpacked}
 use Rattle.record.proofs.RoundTrip.{Tidy, record-tidy, whole-tidy, undamaged, taken-whole}
@@ -34,7 +35,7 @@ use Rattle.ffi.proofs.Records.{step-good, room-for, start-range, step-r
 
 -- a round keeps the places n and above
 tidy-after : (n : ℕ) (active : ℕ → Bool) (k : ℕ) (w : List ℕ) (ts : List Truck) → n ≤ 32 → Tidy n ts → Tidy n (after n active k w ts)
-unfolding after
+unfolding afterIn
 tidy-after n active k w ts most b =
     record {
       places = length-filled _ n ts (omega (arith, b .places)) ∙ b .places;
@@ -64,7 +65,7 @@ start-tidy n openings h =
 -- ---- a step
 
 step-tidy : (f : Fleet) (w : List ℕ) → Tidy (f .n) (f .trucks) → Tidy (stepped f w .fleet .n) (stepped f w .fleet .trucks)
-unfolding stepped nextFleet
+unfolding steppedIn nextFleetIn
 step-tidy f w t = go (stepCheck f w) refl
   where
     go : (o : Outcome) → stepCheck f w ≡ o → Tidy (answer o (nextFleet f w) f .fleet .n) (answer o (nextFleet f w) f .fleet .trucks)
@@ -74,7 +75,7 @@ step-tidy f w t = go (stepCheck f w) refl
 
 -- a refused step returns the record it was given
 step-kept : (f : Fleet) (w : List ℕ) (r : Refusal) → stepped f w .outcome ≡ Refused r → stepped f w .fleet ≡ f
-unfolding stepped
+unfolding steppedIn
 step-kept f w r h = go (stepCheck f w) h
   where
     go : (o : Outcome) → answer o (nextFleet f w) f .outcome ≡ Refused r → answer o (nextFleet f w) f .fleet ≡ f
@@ -108,7 +109,7 @@ module _ (d w : List ℕ) (f : Fleet) (holds : Holds d f) where
       go (Refused r) e = rw (step-kept f w r e) holds
 
 steps-hold : (ws : List (List ℕ)) (d : List ℕ) (f : Fleet) → Holds d f → Holds (bytesAfter d ws) (lastRecord f ws)
-unfolding bytesAfter lastRecord
+unfolding bytesAfter lastRecordIn
 steps-hold [] d f h = h
 steps-hold (w ∷ ws) d f h = steps-hold ws (stepCall d w .bytes) (stepped f w .fleet) (step-holds d w f h)
 
@@ -133,9 +134,9 @@ module _ (n : ℕ) (openings d : List ℕ) (accepted : started n openings .outco
 -- ---- runs
 
 run-tidy : (s : List ℕ) → trucksOf s ≤ 32 → Tidy (trucksOf s) (trucksAt (trucksOf s) (openingsOf s) (roundAt s) (roundsOf s))
-unfolding openingsOf trucksAt stateAt
+unfolding openingsOf trucksIn stateAt
 run-tidy s most =
-    throughout (trucksOf s) (openingsOf s) (roundAt s) (λ k ts. Tidy (trucksOf s) ts) (roundsOf s)
+    throughout twoRules (trucksOf s) (openingsOf s) (roundAt s) (λ k ts. Tidy (trucksOf s) ts) (roundsOf s)
     (record {
       places = length-opened (openingsOf s);
       rest = λ i l. truck-unopened (openingsOf s) i (omega (arith, length-tab (openingAt s) (trucksOf s)));
@@ -144,7 +145,7 @@ run-tidy s most =
     (roundsOf s) (omega arith)
 
 run-clean : (s : List ℕ) → ran s .outcome ≡ Accepted → Tidy (ran s .fleet .n) (ran s .fleet .trucks)
-unfolding ran fleetAt
+unfolding ranIn fleetIn
 run-clean s h =
     let o = accepted-by (checkOf s) (fleetAt (trucksOf s) (openingsOf s) (roundAt s) (roundsOf s)) blankFleet h in
     rw (o .1) (run-tidy s (bytes-good s (o .0) .frame .most))

@@ -21,7 +21,7 @@ use Rattle.protocol.specs.declared.Fleet.{Fleet}
 use Rattle.protocol.specs.declared.Answer.{Answer}
 use Rattle.protocol.specs.Rules.{truck}
 use Rattle.protocol.specs.Runs.{openedTrucks}
-use Rattle.protocol.specs.Fleets.{blank, startCheck, started, stepCheck, stepped, nextFleet, goodTruck, goodFleet, fleetAt, ran}
+use Rattle.protocol.specs.Fleets.{blank, startCheck, started, stepCheck, stepped, nextFleet, goodTruck, goodFleet, fleetAt, ran, goodFleetIn, stepCheckIn, steppedIn, nextFleetIn, ranIn, fleetIn}
 use Rattle.protocol.proofs.Steps.{accepted-by, start-by}
 use Rattle.record.proofs.RoundTrip.{undamaged, taken-whole}
 use Rattle.record.specs.Layout.{sizeFor, packCheck, packFor, packedRecord, packedWhole, unpacked}
@@ -30,7 +30,7 @@ use Rattle.ffi.proofs.Narrow.{many-trucks, narrowed}
 
 -- a record that refusal 7 lets pass has an n in range
 good-range : (f : Fleet) → not (goodFleet f) ≡ false → badTrucks (f .n) ≡ false
-unfolding goodFleet
+unfolding goodFleetIn
 good-range f h =
     let range = not (badTrucks (f .n)) in
     let few = leb (f .done) 400 in
@@ -39,7 +39,7 @@ good-range f h =
 
 -- so has the record of an accepted step
 pub step-good : (f : Fleet) (w : List ℕ) → stepCheck f w ≡ Accepted → badTrucks (f .n) ≡ false
-unfolding stepCheck
+unfolding stepCheckIn
 step-good f w h = good-range f (refuse-false (not (goodFleet f)) Record (refuse (eqb (f .done) 400) RoundsDone (roundCheck (f .n) w)) h)
 
 -- a buffer with room for a record of n trucks
@@ -94,7 +94,7 @@ start-stored n m openings d a x e h s = s ∙ ap (λ (a : Answer). storeCall a d
 -- ---- a step
 
 pub step-range : (f : Fleet) (w : List ℕ) → stepped f w .outcome ≡ Accepted → badTrucks (stepped f w .fleet .n) ≡ false
-unfolding stepped nextFleet
+unfolding steppedIn nextFleetIn
 step-range f w h =
     let o = accepted-by (stepCheck f w) (nextFleet f w) f h in
     rw (o .1) (step-good f w (o .0))
@@ -127,7 +127,7 @@ module _ (d w : List ℕ) (u : Answer) (read : u ≡ unpacked d) where
 -- ---- a run
 
 pub run-range : (s : List ℕ) (a : Answer) → a ≡ ran s → a .outcome ≡ Accepted → badTrucks (a .fleet .n) ≡ false
-unfolding ran fleetAt
+unfolding ranIn fleetIn
 run-range s a e h =
     let o = accepted-by (checkOf s) (fleetAt (trucksOf s) (openingsOf s) (roundAt s) (roundsOf s)) blank (rw e at h) in
     let g = bytes-good s (o .0) .frame in

@@ -14,10 +14,10 @@ use Rattle.basics.specs.Lists.{who, first}
 use Rattle.basics.proofs.Laws.{and-left, and-right, first-le, first-before, first-at, first-all}
 use Rattle.air.specs.Air.{heard}
 use Rattle.words.proofs.Words.{bit-and, bit-xor, bit-zero, some-bit, oneOf}
+use Rattle.protocol.proofs.Values.{value-of, of-value, least-keeps, one-value, all-one}
 use Rattle.protocol.specs.declared.Heard.{Heard}
 use Rattle.protocol.specs.declared.Heard.the-variants.{Nothing, One, Several}
 use Rattle.protocol.specs.Rules.{isSeveral, different, leastOr}
-use Rattle.protocol.proofs.OneRound.{value-of, of-value, least-keeps, one-value, all-one}
 use Rattle.fleet.specs.declared.hearing.Values.{Values}
 use Rattle.fleet.specs.Sets.{sentHere, wasHeard, valuesOf, Sorted}
 

@@ -12,14 +12,15 @@ use Rattle.basics.proofs.Laws.{filled-ext, getD-filled, filled-same}
 use Rattle.air.specs.Round.{stopBit, activeBit, markBit, lossBit}
 use Rattle.air.specs.Air.{Air, hears, heardBy, heard}
 use Rattle.air.proofs.Laws.{who-ext, count-some, hears-itself}
+use Rattle.protocol.specs.Cycles.{airIn, playsIn, valuesIn, afterIn, isRunning, turn}
 use Rattle.protocol.specs.declared.Heard.the-variants.{Nothing}
 use Rattle.protocol.specs.declared.State.{State}
 use Rattle.protocol.specs.declared.State.the-variants.{Running, Stopped, Decided}
 use Rattle.protocol.specs.declared.Truck.{Truck}
 use Rattle.protocol.specs.declared.Fleet.{Fleet}
-use Rattle.protocol.specs.Rules.{opened, truck, isRunning, isOne, runs, vetoes, stops, vetoed, turn, airOf, valuesHeard, plays, after}
+use Rattle.protocol.specs.Rules.{opened, truck, isOne, runs, vetoes, stops, vetoed, airOf, plays, after}
 use Rattle.protocol.proofs.OneRound.{plays-veto}
-use Rattle.protocol.specs.Fleets.{nextFleet}
+use Rattle.protocol.specs.Fleets.{nextFleet, nextFleetIn}
 use Rattle.bitreader.specs.Bits.{mirrored}
 use Rattle.fleet.specs.Rounds.{roundOf, plainRows, noRows}
 use Rattle.fleet.proofs.Packed.{row-plain, mirror-back}
@@ -41,11 +42,11 @@ module _ (n k : ℕ) (ts : List Truck) (v w : List ℕ) (same : Same n k ts v w)
   b = airOf n (activeBit w) k w ts
 
   same-running : (i : ℕ) → a .running i ≡ b .running i
-  unfolding airOf
+  unfolding airIn
   same-running i = ap (λ (x : ℕ). runs (truck ts i) && not (bit x i)) (same .stop)
 
   same-sends : (i : ℕ) → a .sends i ≡ b .sends i
-  unfolding airOf
+  unfolding airIn
   same-sends i = ap₂ (λ (x y : Bool). x && y) (same-running i) (go (odd k) refl)
     where
       go : (o : Bool) → odd k ≡ o → cond o (activeBit v i) (vetoes (truck ts i)) ≡ cond o (activeBit w i) (vetoes (truck ts i))
@@ -53,7 +54,7 @@ module _ (n k : ℕ) (ts : List Truck) (v w : List ℕ) (same : Same n k ts v w)
       go false e = refl
 
   same-hears : (i : ℕ) → i < n → b .running i ≡ true → (odd k ≡ false → (markBit w i ≡ false) × (b .sends i ≡ false)) → (j : ℕ) → j < n → hears a i j ≡ hears b i j
-  unfolding hears airOf
+  unfolding hears airIn
   same-hears i l r d j lj = ap (λ (x : Bool). x && (eqb i j || not (lossBit v i j))) (same-sends j) ∙ go (b .sends j) (same .rows i l r d j lj)
     where
       go : (s : Bool) → (s ≡ true → lossBit v i j ≡ lossBit w i j) → (s && (eqb i j || not (lossBit v i j))) ≡ (s && (eqb i j || not (lossBit w i j)))
@@ -61,11 +62,11 @@ module _ (n k : ℕ) (ts : List Truck) (v w : List ℕ) (same : Same n k ts v w)
       go false e = refl
 
   same-heard : (i : ℕ) → i < n → b .running i ≡ true → (odd k ≡ false → (markBit w i ≡ false) × (b .sends i ≡ false)) → heardBy a i ≡ heardBy b i
-  unfolding heardBy airOf
+  unfolding heardBy airIn
   same-heard i l r d = who-ext (hears a i) (hears b i) n (same-hears i l r d)
 
   same-where : (i : ℕ) → i < n → b .running i ≡ true → (odd k ≡ false → (markBit w i ≡ false) × (b .sends i ≡ false)) → plays a k v ts i ≡ plays b k w ts i
-  unfolding plays valuesHeard heard
+  unfolding playsIn valuesIn heard
   same-where i l r d = rw (same-heard i l r d, same .mark)
 
   -- with its own veto a truck hears one
@@ -74,7 +75,7 @@ module _ (n k : ℕ) (ts : List Truck) (v w : List ℕ) (same : Same n k ts v w)
   own-veto c i l h = lt-ltb 0 (length (who (hears c i) (c .trucks))) (count-some (hears c i) (c .trucks) i l (hears-itself c i h))
 
   same-plays : (i : ℕ) → i < n → b .running i ≡ true → plays a k v ts i ≡ plays b k w ts i
-  unfolding airOf
+  unfolding airIn
   same-plays i l r = kind (odd k) refl
     where
       same-mark : markBit v i ≡ markBit w i
@@ -106,7 +107,7 @@ module _ (n k : ℕ) (ts : List Truck) (v w : List ℕ) (same : Same n k ts v w)
       kind false o = veto o (markBit w i) refl (b .sends i) refl
 
   same-after : after n (activeBit v) k v ts ≡ after n (activeBit w) k w ts
-  unfolding after airOf
+  unfolding afterIn airIn
   same-after = filled-ext _ _ n ts (λ i l. go i l (truck ts i .state) (stopBit w i) refl refl)
     where
       go : (i : ℕ) → i < n → (s : State) (x : Bool) → truck ts i .state ≡ s → stopBit w i ≡ x
@@ -120,7 +121,7 @@ module _ (n k : ℕ) (ts : List Truck) (v w : List ℕ) (same : Same n k ts v w)
       go i l (Decided r) false e h = refl
 
 pub same-next : (f : Fleet) (v w : List ℕ) → Same (f .n) (f .done + 1) (f .trucks) v w → nextFleet f v ≡ nextFleet f w
-unfolding nextFleet
+unfolding nextFleetIn
 same-next f v w s = ap (λ (l : List Truck). record { n = f .n; done = f .done + 1; trucks = l }) (same-after (f .n) (f .done + 1) (f .trucks) v w s)
 
 -- active bits do nothing in a veto round
@@ -154,7 +155,7 @@ plain-next f w =
 -- a round in which nobody runs
 pub idle-next : (f : Fleet) (w : List ℕ) → f .n ≤ length (f .trucks) → ((j : ℕ) → j < f .n → runs (truck (f .trucks) j) ≡ false)
     → nextFleet f w ≡ record { n = f .n; done = f .done + 1; trucks = f .trucks }
-unfolding nextFleet after
+unfolding nextFleetIn afterIn
 idle-next f w long h =
     ap (λ (l : List Truck). record { n = f .n; done = f .done + 1; trucks = l })
     (filled-same (opened 0) _ (f .n) (f .trucks) long (λ i l. go i (truck (f .trucks) i .state) (h i l)))

@@ -27,14 +27,16 @@ use Rattle.recording.specs.Packed.{bitAt, rowAt, trucksOf, roundsOf, openingAt,
 use Rattle.recording.specs.Checks.{checkOf}
 use Rattle.recording.proofs.Accepted.{GoodFrame, GoodOpenings, bytes-good, in-trucks, in-openings}
 use Rattle.recording.proofs.RoundTrip.{openings-read}
+use Rattle.protocol.proofs.OneRound.{sound-two}
+use Rattle.protocol.proofs.AnyRun.{at-suc, air-suc, throughout, estimates-open}
+use Rattle.protocol.specs.Cycles.{afterIn, airIn}
 use Rattle.protocol.specs.declared.Truck.{Truck}
 use Rattle.protocol.specs.declared.Fleet.{Fleet}
 use Rattle.protocol.specs.declared.Grades.{Grades}
-use Rattle.protocol.specs.Rules.{truck, runs, airOf, after}
-use Rattle.protocol.specs.Runs.{trucksAt, airAt, gradesOf}
+use Rattle.protocol.specs.Rules.{truck, runs, airOf, after, twoRules}
+use Rattle.protocol.specs.Runs.{trucksAt, airAt, gradesFor, trucksIn}
 use Rattle.protocol.specs.declared.Answer.{Answer}
-use Rattle.protocol.specs.Fleets.{startCheck, started, nextFleet, fleetAt}
-use Rattle.protocol.proofs.Whole.{at-suc, air-suc, throughout, estimates-open}
+use Rattle.protocol.specs.Fleets.{startCheck, started, nextFleet, nextFleetIn, fleetIn}
 use Rattle.start.specs.Opens.{openFleet}
 use Rattle.fleet.specs.declared.round.Roster.{Roster}
 use Rattle.fleet.specs.declared.grading.Verdict.{Verdict}
@@ -54,12 +56,12 @@ use Rattle.fleet.proofs.Reading.{placeOf, word-here, place-small, place
 -- the places of a run's record
 module _ (n : ℕ) (openings : List ℕ) (rounds : ℕ → List ℕ) (m : n ≤ 32) where
   length-after : (active : ℕ → Bool) (k : ℕ) (w : List ℕ) (ts : List Truck) → length ts ≡ 32 → length (after n active k w ts) ≡ 32
-  unfolding after
+  unfolding afterIn
   length-after active k w ts e = length-filled _ n ts (omega arith) ∙ e
 
   places : (k : ℕ) → length (trucksAt n openings rounds k) ≡ 32
   places k =
-      throughout n openings rounds (λ k ts. length ts ≡ 32) k start (λ j l h. length-after (activeBit (rounds j)) (suc j) (rounds j) (trucksAt n openings rounds j) h) k (omega arith)
+      throughout twoRules n openings rounds (λ k ts. length ts ≡ 32) k start (λ j l h. length-after (activeBit (rounds j)) (suc j) (rounds j) (trucksAt n openings rounds j) h) k (omega arith)
     where
       start : length (trucksAt n openings rounds 0) ≡ 32
       start = length-start n openings rounds
@@ -70,20 +72,20 @@ module _ (s : List ℕ) where
   airs k = airAt (trucksOf s) (openingsOf s) (roundAt s) k
 
   after-one : (k : ℕ) → nextFleet (fleetAfter s k) (roundAt s k) ≡ fleetAfter s (k + 1)
-  unfolding nextFleet fleetAt
+  unfolding nextFleetIn fleetIn
   after-one k =
       ap (λ (l : List Truck). record { n = trucksOf s; done = k + 1; trucks = l })
       (ap (λ (j : ℕ). after (trucksOf s) (activeBit (roundAt s k)) j (roundAt s k) (trucksAt (trucksOf s) (openingsOf s) (roundAt s) k)) (add-one k)
-      ∙ sym (ap (trucksAt (trucksOf s) (openingsOf s) (roundAt s)) (add-one k) ∙ at-suc (trucksOf s) (openingsOf s) (roundAt s) k))
+      ∙ sym (ap (trucksAt (trucksOf s) (openingsOf s) (roundAt s)) (add-one k) ∙ at-suc twoRules (trucksOf s) (openingsOf s) (roundAt s) k))
 
   air-one : (k : ℕ) → airs (k + 1) ≡ airOf (trucksOf s) (activeBit (roundAt s k)) (k + 1) (roundAt s k) (trucksAt (trucksOf s) (openingsOf s) (roundAt s) k)
   air-one k =
-      ap airs (add-one k) ∙ air-suc (trucksOf s) (openingsOf s) (roundAt s) k
+      ap airs (add-one k) ∙ air-suc twoRules (trucksOf s) (openingsOf s) (roundAt s) k
       ∙ ap (λ (j : ℕ). airOf (trucksOf s) (activeBit (roundAt s k)) j (roundAt s k) (trucksAt (trucksOf s) (openingsOf s) (roundAt s) k)) (sym (add-one k))
 
   grades-one : (judging : Bool) (k : ℕ)
       → gradesAfter s judging (k + 1) ≡ cond judging (carriedAll (gradesAfter s judging k) (verdictOf (airs (k + 1))) (k + 1)) (gradesAfter s judging k)
-  unfolding gradesAfter gradesOf carriedAll verdictOf
+  unfolding gradesAfter carriedAll verdictOf gradesFor
   grades-one true k =
       rw (add-one k, break-next complete airs k, break-next majorityComplete airs k, break-next zeroComplete airs k, break-next accurate airs k)
   grades-one false k = refl
@@ -97,11 +99,11 @@ module _ (s : List ℕ) (at : ℕ) (judging : Bool) (c : Course) (reached : Reac
   frame = bytes-good s (reached .good) .frame
 
   pub count-is : f .n ≡ trucksOf s
-  unfolding fleetAt
+  unfolding fleetIn
   count-is = ap (λ (g : Fleet). g .n) (reached .fleet)
 
   trucks-are : f .trucks ≡ trucksAt (trucksOf s) (openingsOf s) (roundAt s) (f .done)
-  unfolding fleetAt
+  unfolding fleetIn
   trucks-are = ap (λ (g : Fleet). g .trucks) (reached .fleet)
 
   few-trucks : f .n ≤ 32
@@ -126,7 +128,7 @@ module _ (s : List ℕ) (at : ℕ) (judging : Bool) (c : Course) (reached : Reac
           places = ap length trucks-are ∙ places (trucksOf s) (openingsOf s) (roundAt s) (frame .most) (f .done);
           room = few-done;
           small = λ j l.
-              let e = estimates-open (trucksOf s) (openingsOf s) (roundAt s) (frame .most) (f .done) j (omega (arith, count-is)) in
+              let e = estimates-open twoRules (trucksOf s) (openingsOf s) (roundAt s) (frame .most) (sound-two .takes) (f .done) j (omega (arith, count-is)) in
               omega (arith, ap (λ (ts : List Truck). truck ts j .estimate) trucks-are, e .2, openings-read s .opening (e .0) (e .1));
           kept = reached .kept;
         }
@@ -156,7 +158,7 @@ module _ (s : List ℕ) (at : ℕ) (judging : Bool) (c : Course) (reached : Reac
     -- one round further
     pub moved : (q : Roster) (grades : Grades) → q .fleet ≡ nextFleet f w → Kept q → grades ≡ cond judging (carriedAll (c .grades) (verdictOf air) k) (c .grades)
         → Moved s at judging c (record { roster = q; grades = grades })
-    unfolding fleetAt
+    unfolding fleetIn
     moved q grades e kept g =
         let whole : q .fleet ≡ fleetAfter s k = e ∙ next-is-after in
         let done : q .fleet .done ≡ k = ap (λ (h : Fleet). h .done) whole in
@@ -215,7 +217,7 @@ module _ (s : List ℕ) (at : ℕ) (judging : Bool) (c : Course) (reached : Reac
             }
 
         described : without ≡ 0 → Described air (f .n) (gone-on stop) (bitAnd (gone-on stop) sent) mark rows
-        unfolding airOf
+        unfolding airIn
         described z =
             record {
               count = refl;
@@ -298,7 +300,7 @@ module _ (s : List ℕ) (at : ℕ) (judging : Bool) (c : Course) (reached : Reac
       nobody j l = sym (reached .kept .running .each j l) ∙ ap (λ (x : ℕ). bit x j) none ∙ bit-zero j
 
       silent : Described air (f .n) 0 0 0 []
-      unfolding airOf
+      unfolding airIn
       silent =
           record {
             count = refl;
@@ -362,11 +364,11 @@ unfolding filled openingsOf
 first-openings s = take-at (tab (openingAt s) (trucksOf s)) (drop (trucksOf s) (replicate 32 0)) (trucksOf s) (length-tab (openingAt s) (trucksOf s))
 
 first-fleet : (s : List ℕ) → openFleet (trucksOf s) (openingsOf s) ≡ fleetAfter s 0
-unfolding fleetAt trucksAt stateAt
+unfolding fleetIn trucksIn stateAt
 first-fleet s = refl
 
 first-grades : (s : List ℕ) (judging : Bool) → noGrades ≡ gradesAfter s judging 0
-unfolding gradesAfter gradesOf
+unfolding gradesAfter gradesFor
 first-grades s true = rw (break-none complete (airs s), break-none majorityComplete (airs s), break-none zeroComplete (airs s), break-none accurate (airs s))
 first-grades s false = refl
 

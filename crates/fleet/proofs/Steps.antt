@@ -17,7 +17,7 @@ use Rattle.recording.proofs.Accepted.{refuse-false, refuse-rest, trucks-in}
 use Rattle.recording.proofs.Rounds.{round-good}
 use Rattle.protocol.specs.declared.Fleet.{Fleet}
 use Rattle.protocol.specs.Rules.{truck}
-use Rattle.protocol.specs.Fleets.{goodTruck, goodFleet, stepCheck}
+use Rattle.protocol.specs.Fleets.{goodTruck, stepCheck, stepCheckIn, goodFleetIn, twoRound}
 use Rattle.protocol.proofs.Good.{good-parts}
 
 -- what an accepted step says of the record and of the round
@@ -28,7 +28,7 @@ pub record StepGood (f : Fleet) (w : List ℕ) : Type 0 where
   pub count : length w ≡ 3 + f .n
 
 pub step-good : (f : Fleet) (w : List ℕ) → stepCheck f w ≡ Accepted → StepGood f w
-unfolding stepCheck goodFleet
+unfolding stepCheckIn goodFleetIn
 step-good f w h =
     let later : Outcome = refuse (eqb (f .done) 400) RoundsDone (roundCheck (f .n) w) in
     let counts : Bool = not (badTrucks (f .n)) && leb (f .done) 400 in
@@ -41,7 +41,7 @@ step-good f w h =
       most = trucks-in (f .n) (not-true (badTrucks (f .n)) (and-left (not (badTrucks (f .n))) (leb (f .done) 400) two)) .1;
       room = omega (arith, leb-true (f .done) 400 (and-right (not (badTrucks (f .n))) (leb (f .done) 400) two));
       small = λ j l.
-          let g = good-parts (f .done) (truck (f .trucks) j) (allBelow-at (λ i. goodTruck (f .done) (truck (f .trucks) i)) (f .n) (and-right counts trucks good) j l) in
+          let g = good-parts twoRound (f .done) (truck (f .trucks) j) (allBelow-at (λ i. goodTruck (f .done) (truck (f .trucks) i)) (f .n) (and-right counts trucks good) j l) in
           omega (arith, leb-true (truck (f .trucks) j .estimate) 15 (g .estimate));
       count = round-good (f .n) w (refuse-rest (eqb (f .done) 400) RoundsDone (roundCheck (f .n) w) rest) .count;
     }

@@ -13,15 +13,16 @@ use Rattle.basics.proofs.Laws.{getD-filled}
 use Rattle.air.specs.Round.{stopBit, activeBit, markBit}
 use Rattle.air.specs.Air.{Air, hears, heardBy, heard}
 use Rattle.air.proofs.Laws.{hears-sends}
+use Rattle.protocol.specs.Cycles.{airIn, valuesIn, afterIn, isRunning, turn}
 use Rattle.protocol.proofs.OneRound.{plays-proposal, plays-veto}
 use Rattle.protocol.specs.declared.Heard.{Heard}
 use Rattle.protocol.specs.declared.Heard.the-variants.{Nothing}
 use Rattle.protocol.specs.declared.State.{State}
 use Rattle.protocol.specs.declared.State.the-variants.{Running, Stopped, Decided}
 use Rattle.protocol.specs.declared.Truck.{Truck}
-use Rattle.protocol.specs.Rules.{opened, truck, isRunning, isOne, isSeveral, runs, vetoes, different, leastOr, stops, proposed, vetoed, turn, airOf, valuesHeard, plays, after}
+use Rattle.protocol.specs.Rules.{opened, truck, isOne, isSeveral, runs, vetoes, different, leastOr, stops, proposed, vetoed, airOf, valuesHeard, plays}
 use Rattle.protocol.specs.declared.Fleet.{Fleet}
-use Rattle.protocol.specs.Fleets.{nextFleet}
+use Rattle.protocol.specs.Fleets.{nextFleet, nextFleetIn}
 use Rattle.words.proofs.Words.{bit-zero}
 use Rattle.truck.specs.declared.Event.{Event}
 use Rattle.truck.specs.declared.Event.the-variants.{Stop}
@@ -70,18 +71,18 @@ module _ (n k : ℕ) (w : List ℕ) (ts : List Truck) (running : ℕ) (known : M
 
   -- those that run after the round's stops
   pub going-is : Members going n (on .running)
-  unfolding airOf
+  unfolding airIn
   going-is = members-without known (getD w 0 0)
 
   -- the senders of a proposal round
   pub proposers : odd k ≡ true → Members (bitAnd going (getD w 1 0)) n (on .sends)
-  unfolding airOf
+  unfolding airIn
   proposers o = members-ext (members-and going-is (getD w 1 0)) (on .sends) (λ j l. rw o)
 
   -- the senders of a veto round
   pub vetoers : (vetoing : ℕ) → odd k ≡ false → ((j : ℕ) → j < n → runs (truck ts j) ≡ true → bit vetoing j ≡ vetoes (truck ts j))
       → Members (bitAnd going vetoing) n (on .sends)
-  unfolding airOf
+  unfolding airIn
   vetoers vetoing o h =
       members-ext (members-and going-is vetoing) (on .sends) (λ j l. rw o (go (runs (truck ts j)) (not (stopBit w j)) (bit vetoing j) (vetoes (truck ts j)) (h j l)))
     where
@@ -151,7 +152,7 @@ module _ (n k stop active mark : ℕ) (rows : List ℕ) (ts : List Truck) where
 
   -- who runs after a proposal round
   pub proposal-runs : odd k ≡ true → (j : ℕ) → air .running j ≡ runs (rule j)
-  unfolding airOf
+  unfolding airIn
   proposal-runs o j =
       kept-state k (truck ts j .state) (stopBit w j) (truck ts j) (plays air k w ts j) refl
       (ap (λ (t : Truck). t .state) (plays-proposal n (activeBit w) k w ts j o))
@@ -174,7 +175,7 @@ module _ (n k stop active mark : ℕ) (rows : List ℕ) (ts : List Truck) where
 
   -- a veto round does nothing to one whose memory is empty
   pub veto-stays : odd k ≡ false → (i : ℕ) → bit stop i ≡ false → Empty (truck ts i) → rule i ≡ truck ts i
-  unfolding airOf
+  unfolding airIn
   veto-stays o i h (em, eh) =
       stays i h (plays-veto n (activeBit w) k w ts i o
       ∙ ap (λ (b : Bool). record { opening = truck ts i .opening; estimate = truck ts i .estimate; mark = false; heard = Nothing; state = cond b (Decided k) (truck ts i .state) })
@@ -194,7 +195,7 @@ module _ (n k stop active mark : ℕ) (rows : List ℕ) (ts : List Truck) where
     row = getD rows i 0
 
     heard-is : Members (heardSet senders row i) n (hears air i)
-    unfolding airOf
+    unfolding airIn
     heard-is = hearers air i senders row sends (λ j lj s. ap (λ (x : ℕ). bit x j) (row-of stop active mark rows i))
 
     sends-bit : (j : ℕ) → j < n → air .sends j ≡ true → bit senders j ≡ true
@@ -202,24 +203,24 @@ module _ (n k stop active mark : ℕ) (rows : List ℕ) (ts : List Truck) where
 
     -- the values that truck i hears
     values-heard : valuesHeard air ts i ≡ map (estimates ts) (who (bit (heardSet senders row i)) n)
-    unfolding valuesHeard heardBy airOf
+    unfolding valuesIn heardBy airIn
     values-heard = ap (map (estimates ts)) (who-members heard-is)
 
     -- it hears a veto
     any-heard : ltb 0 (heard air i) ≡ not (eqb (heardSet senders row i) 0)
-    unfolding heard heardBy airOf
+    unfolding heard heardBy airIn
     any-heard = some-members heard-is
 
     proposed-is : odd k ≡ true
         → plays air k w ts i ≡ proposed (markBit w i) (different (map (estimates ts) (who (bit (heardSet senders row i)) n)))
         (leastOr (estimates ts i) (map (estimates ts) (who (bit (heardSet senders row i)) n))) (truck ts i)
-    unfolding airOf
+    unfolding airIn
     proposed-is o =
         plays-proposal n (activeBit w) k w ts i o
         ∙ ap (λ (vs : List ℕ). proposed (markBit w i) (different vs) (leastOr (estimates ts i) vs) (truck ts i)) values-heard
 
     vetoed-is : odd k ≡ false → plays air k w ts i ≡ vetoed k (markBit w i) (not (eqb (heardSet senders row i) 0)) (truck ts i)
-    unfolding airOf
+    unfolding airIn
     vetoed-is o = plays-veto n (activeBit w) k w ts i o ∙ ap (λ (b : Bool). vetoed k (markBit w i) b (truck ts i)) any-heard
 
     -- a proposal round in which nobody sends does nothing to one that has no mark and whose memory is empty
@@ -286,5 +287,5 @@ module _ (n k stop active mark : ℕ) (rows : List ℕ) (ts : List Truck) where
 
 pub next-is : (f : Fleet) (stop active mark : ℕ) (rows : List ℕ)
     → nextFleet f (roundOf stop active mark rows) ≡ played (f .n) (f .done + 1) stop active mark rows (f .trucks)
-unfolding nextFleet after
+unfolding nextFleetIn afterIn
 next-is f stop active mark rows = refl

@@ -25,7 +25,7 @@ use Rattle.recording.specs.Checks.{checkOf}
 use Rattle.recording.proofs.Accepted.{bytes-good}
 use Rattle.protocol.specs.declared.Fleet.{Fleet}
 use Rattle.protocol.specs.declared.Answer.{Answer}
-use Rattle.protocol.specs.Fleets.{answer, blank, fleetAt, ran}
+use Rattle.protocol.specs.Fleets.{answer, blank, fleetAt, ran, ranIn, fleetIn}
 use Rattle.listing.specs.Writing.{Put, openingText, spaced}
 
 -- one byte more of a text
@@ -174,7 +174,7 @@ put-count {t = t} p = (let e : _ ≡ length t = omega (arith, p .next) in e) ∙
 
 -- no run has more than 32 trucks
 pub run-small : (s : List ℕ) (a : Answer) → a ≡ ran s → a .fleet .n ≤ 32
-unfolding ran fleetAt blank
+unfolding ranIn fleetIn blank
 run-small s a e = rw e (go (checkOf s) refl)
   where
     f : Fleet

@@ -1,44 +1,41 @@
 -- The whole of demand 3, for the definitions that the contracts of starting, stepping and running cite.
-use mathlib.Core.Path.{_≡_, ap, sym, _∙_}
+use mathlib.Core.Path.{_≡_}
+use mathlib.Core.Bool.{true}
 use mathlib.Core.List.{List}
-use Prim.Native.Nat.{ℕ, _≤_}
-use native.Mathlib.Omega.{arith}
-use lib.ListN.{length}
-use Rattle.refusals.specs.declared.Outcome.the-variants.{Accepted}
-use Rattle.recording.specs.Packed.{trucksOf, roundsOf, openingsOf, roundAt}
-use Rattle.recording.specs.Checks.{checkOf}
-use Rattle.recording.proofs.Accepted.{bytes-good}
+use Prim.Native.Nat.{ℕ, _+_, _≤_, _<_}
 use Rattle.protocol.specs.declared.Fleet.{Fleet}
-use Rattle.protocol.specs.Fleets.{blank, startCheck, started, fleetAt, ran}
-use Rattle.protocol.specs.Steps.{taken, roundIn}
-use Rattle.protocol.specs.Runs.{openedTrucks}
-use Rattle.protocol.specs.Claims.{Claim, StepsClaim, RunClaim, Demand}
-use Rattle.protocol.proofs.Whole.{majority-agreed, decided-by}
-use Rattle.protocol.proofs.Steps.{accepted-by, Start, start-by, taken-few, step-outcome, steps-are, recording-run}
+use Rattle.protocol.specs.Rules.{truck}
+use Rattle.protocol.specs.Runs.{calm}
+use Rattle.protocol.specs.Fleets.{twoRound, fleetAt}
+use Rattle.protocol.specs.Claims.{EndedBy, Agreed, calmIn, ClaimIn, Demand, MajorityMarks, MixedMarks}
+use Rattle.protocol.proofs.OneRound.{sound-two}
+use Rattle.protocol.proofs.Whole.{mixed-agrees, majority-agrees, calm-ends}
+use Rattle.protocol.proofs.Demand.{Facts, agreed-by, demand-by}
 
--- the claim for what R rounds leave of up to 32 trucks
-claim-at : (n : ℕ) (openings : List ℕ) (rounds : ℕ → List ℕ) (R : ℕ) → n ≤ 32 → Claim n openings rounds R (fleetAt n openings rounds R)
-unfolding fleetAt
-claim-at n openings rounds R small =
-    record { agreement = majority-agreed n openings rounds small R; deciding = λ S b h. decided-by n openings rounds small R S b h }
-
-steps-claim : (n : ℕ) (openings : List ℕ) (steps : List (List ℕ)) → started n openings .outcome ≡ Accepted → StepsClaim n openings steps
-unfolding started
-steps-claim n openings steps h =
-    let s : Start n openings = start-by n openings (accepted-by (startCheck n openings) (record { n = n; done = 0; trucks = openedTrucks openings }) blank h .0) in
-    let e = steps-are n openings s steps in
+facts-two : Facts twoRound
+facts-two =
     record {
-      claim = rw e (claim-at n openings (roundIn (taken n steps)) (length (taken n steps)) (s .most));
-      nextStep = λ w. rw e (step-outcome n openings s (roundIn (taken n steps)) (length (taken n steps)) w (omega (arith, taken-few n 0 steps (omega arith))));
-      asRun = recording-run n openings s steps ∙ ap (λ (f : Fleet). record { outcome = Accepted; fleet = f }) (sym e);
+      sound = sound-two;
+      agrees = λ n openings rounds R small good. majority-agrees n openings rounds small R;
+      ends = calm-ends;
     }
-
-run-claim : (s : List ℕ) → ran s .outcome ≡ Accepted → RunClaim s
-unfolding ran
-run-claim s h =
-    let a = accepted-by (checkOf s) (fleetAt (trucksOf s) (openingsOf s) (roundAt s) (roundsOf s)) blank h in
-    rw (a .1) (claim-at (trucksOf s) (openingsOf s) (roundAt s) (roundsOf s) (bytes-good s (a .0) .frame .most))
 
 -- demand 3
 pub demand-3 : Demand
-demand-3 = record { steps = steps-claim; run = run-claim }
+demand-3 = demand-by twoRound facts-two
+
+-- what the claim says of document 01's protocol: with majority complete marks in every round no two trucks decide differently and decisions are openings; with
+-- calm from S with b, rounds S to S + 4, each truck is decided or stopped by round S + 4
+module _ (n : ℕ) (openings : List ℕ) (rounds : ℕ → List ℕ) (R : ℕ) (f : Fleet) (claim : ClaimIn twoRound n openings rounds R f) where
+  pub claim-agreed : MajorityMarks n openings rounds R → Agreed n openings f
+  claim-agreed = claim .agreement
+
+  pub claim-decided : (S b : ℕ) → calm n openings rounds R S b ≡ true → (i : ℕ) → i < n → EndedBy (S + 4) (truck (f .trucks) i .state)
+  unfolding calm calmIn
+  claim-decided = claim .deciding
+
+-- agreement with majority complete proposal rounds and zero complete veto rounds
+pub mixed-agreed : (n : ℕ) (openings : List ℕ) (rounds : ℕ → List ℕ) → n ≤ 32 → (R : ℕ) → MixedMarks n openings rounds R
+    → Agreed n openings (fleetAt n openings rounds R)
+mixed-agreed n openings rounds small R marks =
+    agreed-by twoRound (sound-two .takes) n openings rounds R small (mixed-agrees n openings rounds small R marks)

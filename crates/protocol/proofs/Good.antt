@@ -1,131 +1,128 @@
--- A record that refusal 7 lets pass is one after a round, too.
-use mathlib.Core.Path.{_≡_, refl, ap}
-use mathlib.Core.Bool.{Bool, true, false, cond, not, _&&_, _||_}
+-- Laws of what refusal 7 asks of a truck; and a record that it lets pass is one after a round, too, by any protocol.
+use mathlib.Core.Path.{_≡_, refl, ap, _∙_}
+use mathlib.Core.Bool.{Bool, true, false, _&&_}
 use mathlib.Core.List.{List}
+use mathlib.Core.Logic.{_⊎_, inl, inr}
 use Prim.Native.Nat.{ℕ, suc, _<_}
 use native.Mathlib.Omega.{arith}
 use borrow.Author.Tests.{lt-ltb, le-leb, leb-true}
 use lib.Dec.{ltb, leb}
-use Rattle.basics.specs.Bits.{odd}
 use Rattle.basics.proofs.Laws.{and-left, and-right, and-both}
-use Rattle.air.specs.Air.{Air, implies, heard}
-use Rattle.air.proofs.Laws.{implies-mp, implies-by}
+use Rattle.air.specs.Round.{activeBit}
+use Rattle.air.specs.Air.{Air}
 use Rattle.protocol.specs.declared.State.{State}
 use Rattle.protocol.specs.declared.State.the-variants.{Running, Stopped, Decided}
 use Rattle.protocol.specs.declared.Truck.{Truck}
-use Rattle.protocol.specs.Rules.{truck, isRunning, runs, different, decides, valuesHeard, plays}
-use Rattle.protocol.specs.Fleets.{isEmpty, goodState, goodTruck}
-use Rattle.protocol.proofs.OneRound.{air, next, after-cases, plays-proposal, plays-veto, estimate-next}
+use Rattle.protocol.specs.Cycles.{valuesIn}
+use Rattle.protocol.specs.Rules.{opened, recorded, truck, runs}
+use Rattle.protocol.specs.Fleets.{Protocol, isDone, goodStateIn, goodTruckIn}
+use Rattle.protocol.proofs.AnyRound.{Stamps, Takes, air, next, after-cases, plays-is, estimate-next}
 
 -- what refusal 7 asks of one truck, part by part
-pub record Good (done : ℕ) (t : Truck) : Type 0 where
+pub record Good (p : Protocol) (done : ℕ) (t : Truck) : Type 0 where
   pub opening : leb (t .opening) 15 ≡ true
   pub estimate : leb (t .estimate) 15 ≡ true
-  pub state : goodState done (t .state) ≡ true
-  pub memory : implies (not (odd done) || not (runs t)) (isEmpty (t .mark) (t .heard)) ≡ true
+  pub state : goodStateIn p done (t .state) ≡ true
+  pub memory : p .goodMemory done t ≡ true
 
-pub good-parts : (done : ℕ) (t : Truck) → goodTruck done t ≡ true → Good done t
-unfolding goodTruck
-good-parts done t h =
-    let three = and-left (leb (t .opening) 15 && leb (t .estimate) 15 && goodState done (t .state))
-    (implies (not (odd done) || not (runs t)) (isEmpty (t .mark) (t .heard))) h in
-    let two = and-left (leb (t .opening) 15 && leb (t .estimate) 15) (goodState done (t .state)) three in
+pub good-parts : (p : Protocol) (done : ℕ) (t : Truck) → goodTruckIn p done t ≡ true → Good p done t
+unfolding goodTruckIn
+good-parts p done t h =
+    let three = and-left (leb (t .opening) 15 && leb (t .estimate) 15 && goodStateIn p done (t .state)) (p .goodMemory done t) h in
+    let two = and-left (leb (t .opening) 15 && leb (t .estimate) 15) (goodStateIn p done (t .state)) three in
     record {
       opening = and-left (leb (t .opening) 15) (leb (t .estimate) 15) two;
       estimate = and-right (leb (t .opening) 15) (leb (t .estimate) 15) two;
-      state = and-right (leb (t .opening) 15 && leb (t .estimate) 15) (goodState done (t .state)) three;
-      memory = and-right (leb (t .opening) 15 && leb (t .estimate) 15 && goodState done (t .state))
-          (implies (not (odd done) || not (runs t)) (isEmpty (t .mark) (t .heard))) h;
+      state = and-right (leb (t .opening) 15 && leb (t .estimate) 15) (goodStateIn p done (t .state)) three;
+      memory = and-right (leb (t .opening) 15 && leb (t .estimate) 15 && goodStateIn p done (t .state)) (p .goodMemory done t) h;
     }
 
-pub good-whole : (done : ℕ) (t : Truck) → Good done t → goodTruck done t ≡ true
-unfolding goodTruck
-good-whole done t g = rw (g .opening, g .estimate, g .state, g .memory)
+pub good-whole : (p : Protocol) (done : ℕ) (t : Truck) → Good p done t → goodTruckIn p done t ≡ true
+unfolding goodTruckIn
+good-whole p done t g = rw (g .opening, g .estimate, g .state, g .memory)
 
--- a round that is not later than those done is not later with one more done
-later : (done : ℕ) (s : State) → goodState done s ≡ true → goodState (suc done) s ≡ true
-later done Running h = refl
-later done (Stopped r) h = and-both (ltb 0 r) (leb r (suc done)) (and-left (ltb 0 r) (leb r done) h) (more r (and-right (ltb 0 r) (leb r done) h))
-  where
-    more : (r : ℕ) → leb r done ≡ true → leb r (suc done) ≡ true
-    more r g = le-leb r (suc done) (omega (arith, leb-true r done g))
-later done (Decided r) h =
-    let two = and-left (ltb 0 r && leb r done) (not (odd r)) h in
-    rw (and-left (ltb 0 r) (leb r done) two, le-leb r (suc done) (omega (arith, leb-true r done (and-right (ltb 0 r) (leb r done) two))))
-    (and-right (ltb 0 r && leb r done) (not (odd r)) h)
+-- a round done stays one with one more done, and the one done now is one
+done-later : (done k : ℕ) → isDone done k ≡ true → isDone (suc done) k ≡ true
+done-later done k h =
+    and-both (ltb 0 k) (leb k (suc done)) (and-left (ltb 0 k) (leb k done) h)
+    (le-leb k (suc done) (omega (arith, leb-true k done (and-right (ltb 0 k) (leb k done) h))))
 
-module _ (n : ℕ) (active : ℕ → Bool) (done : ℕ) (w : List ℕ) (ts : List Truck) (before : (i : ℕ) → i < n → Good done (truck ts i)) where
+done-now : (done : ℕ) → isDone (suc done) (suc done) ≡ true
+done-now done = rw (lt-ltb 0 (suc done) (omega arith), le-leb (suc done) (suc done) (omega arith))
+
+-- states with one more round done: of before, of a stop now, and of a truck that played now
+module _ (p : Protocol) (done : ℕ) where
+  state-later : (s : State) → goodStateIn p done s ≡ true → goodStateIn p (suc done) s ≡ true
+  state-later Running h = refl
+  state-later (Stopped k) h = done-later done k h
+  state-later (Decided k) h =
+      and-both (isDone (suc done) k) (p .decisions k) (done-later done k (and-left (isDone done k) (p .decisions k) h))
+      (and-right (isDone done k) (p .decisions k) h)
+
+  state-stopped : (s : State) → s ≡ Stopped (suc done) → goodStateIn p (suc done) s ≡ true
+  state-stopped s e = rw e (done-now done)
+
+  state-played : (s : State) → (s ≡ Decided (suc done) → p .decisions (suc done) ≡ true) → (s ≡ Running) ⊎ (s ≡ Decided (suc done))
+      → goodStateIn p (suc done) s ≡ true
+  state-played s h (inl e) = rw e
+  state-played s h (inr e) = rw e (and-both (isDone (suc done) (suc done)) (p .decisions (suc done)) (done-now done) (h e))
+
+-- what a protocol has to show of its rules: nothing of it speaks of a round on the radio
+pub record Sound (p : Protocol) : Type 0 where
+  pub stamps : Stamps (p .rules)
+  pub takes : Takes (p .rules)
+  -- openings stay
+  pub stops-opening : (k : ℕ) (t : Truck) → p .rules .stops k t .opening ≡ t .opening
+  pub plays-opening : (k : ℕ) (b m : Bool) (vs : List ℕ) (t : Truck) → p .rules .plays k b m vs t .opening ≡ t .opening
+  -- decisions are made in their rounds
+  pub in-time : (k : ℕ) (b m : Bool) (vs : List ℕ) (t : Truck) → runs t ≡ true → p .rules .plays k b m vs t .state ≡ Decided k → p .decisions k ≡ true
+  -- memories stay good
+  pub opened-memory : (v : ℕ) → p .goodMemory 0 (opened v) ≡ true
+  pub idle-memory : (done : ℕ) (t : Truck) → runs t ≡ false → p .goodMemory done t ≡ true → p .goodMemory (suc done) t ≡ true
+  pub stops-memory : (done : ℕ) (t : Truck) → p .goodMemory (suc done) (p .rules .stops (suc done) t) ≡ true
+  pub plays-memory : (done : ℕ) (b m : Bool) (vs : List ℕ) (t : Truck) → runs t ≡ true → p .goodMemory done t ≡ true
+      → p .goodMemory (suc done) (p .rules .plays (suc done) b m vs t) ≡ true
+
+module _ (p : Protocol) (sound : Sound p) (n : ℕ) (active : ℕ → Bool) (done : ℕ) (w : List ℕ) (ts : List Truck)
+    (before : (i : ℕ) → i < n → Good p done (truck ts i)) where
   abbrev a : Air
-  a = air n active (suc done) w ts
+  a = air (p .rules) n active (suc done) w ts
 
   abbrev ts′ : List Truck
-  ts′ = next n active (suc done) w ts
+  ts′ = next (p .rules) n active (suc done) w ts
 
   -- opening, state and memory; the estimate is `estimate-next`'s
   abbrev Rest : Truck → Type 0
-  Rest t =
-      (leb (t .opening) 15 ≡ true) × (goodState (suc done) (t .state) ≡ true)
-      × (implies (not (odd (suc done)) || not (runs t)) (isEmpty (t .mark) (t .heard)) ≡ true)
-
-  played : (i : ℕ) → i < n → runs (truck ts i) ≡ true → Rest (plays a (suc done) w ts i)
-  played i l r = go (odd (suc done)) refl
-    where
-      g : Good done (truck ts i)
-      g = before i l
-
-      decided : Bool
-      decided = decides (a .marked i) (ltb 0 (heard a i)) (truck ts i)
-
-      open-memory : (b : Bool) (s : State) (c : Bool) → b ≡ true → isRunning s ≡ true → implies (not b || not (isRunning s)) c ≡ true
-      open-memory b s c e h = rw (e, h)
-
-      empty : (b : Bool) → implies b true ≡ true
-      empty true = refl
-      empty false = refl
-
-      state : (d : Bool) (s : State) → odd (suc done) ≡ false → goodState (suc done) s ≡ true → goodState (suc done) (cond d (Decided (suc done)) s) ≡ true
-      state true s e h = rw (lt-ltb 0 (suc done) (omega arith), le-leb (suc done) (suc done) (omega arith), e)
-      state false s e h = h
-
-      go : (b : Bool) → odd (suc done) ≡ b → Rest (plays a (suc done) w ts i)
-      go true e =
-          rw (plays-proposal n active (suc done) w ts i e)
-          (g .opening, later done (truck ts i .state) (g .state), open-memory (odd (suc done)) (truck ts i .state) (isEmpty (a .marked i) (different (valuesHeard a ts i))) e r)
-      go false e =
-          rw (plays-veto n active (suc done) w ts i e) (
-            g .opening,
-            state decided (truck ts i .state) e (later done (truck ts i .state) (g .state)),
-            empty (not (odd (suc done)) || not (isRunning (cond decided (Decided (suc done)) (truck ts i .state)))),
-          )
+  Rest t = (leb (t .opening) 15 ≡ true) × (goodStateIn p (suc done) (t .state) ≡ true) × (p .goodMemory (suc done) t ≡ true)
 
   rest : (i : ℕ) → i < n → Rest (truck ts′ i)
   rest i l =
-      after-cases n active (suc done) w ts Rest i l
-      (λ h. (
-        before i l .opening,
-        later done (truck ts i .state) (before i l .state),
-        implies-by (not (odd (suc done)) || not (runs (truck ts i))) (isEmpty (truck ts i .mark) (truck ts i .heard))
-            (λ z. implies-mp (not (odd done) || not (runs (truck ts i))) (isEmpty (truck ts i .mark) (truck ts i .heard)) (before i l .memory)
-            (either (not (odd done)) (runs (truck ts i)) h)),
-      ))
+      let t = truck ts i in
+      let g = before i l in
+      after-cases (p .rules) n active (suc done) w ts Rest i l
+      (λ h. (g .opening, state-later p done (t .state) (g .state), sound .idle-memory done t h (g .memory)))
       (λ h s. (
-        before i l .opening,
-        and-both (ltb 0 (suc done)) (leb (suc done) (suc done)) (lt-ltb 0 (suc done) (omega arith)) (le-leb (suc done) (suc done) (omega arith)),
-        implies-by (not (odd (suc done)) || true) true (λ z. refl),
+        ap (λ (v : ℕ). leb v 15) (sound .stops-opening (suc done) t) ∙ g .opening,
+        state-stopped p done (p .rules .stops (suc done) t .state) (sound .stamps .stops (suc done) t),
+        sound .stops-memory done t,
       ))
-      (λ h r. played i l h)
-    where
-      either : (b c : Bool) → c ≡ false → (b || not c) ≡ true
-      either true c e = refl
-      either false c e = ap not e
+      (λ h r.
+      let b = activeBit w i in
+      let m = a .marked i in
+      let vs = valuesIn recorded a ts i in
+      rw (plays-is (p .rules) n active (suc done) w ts i) (
+        ap (λ (v : ℕ). leb v 15) (sound .plays-opening (suc done) b m vs t) ∙ g .opening,
+        state-played p done (p .rules .plays (suc done) b m vs t .state) (sound .in-time (suc done) b m vs t h) (sound .stamps .plays (suc done) b m vs t h),
+        sound .plays-memory done b m vs t h (g .memory),
+      ))
 
   -- the record after a round
-  pub good-next : (i : ℕ) → i < n → Good (suc done) (truck ts′ i)
+  pub good-next : (i : ℕ) → i < n → Good p (suc done) (truck ts′ i)
   good-next i l =
       let r = rest i l in
       record {
         opening = r .0;
-        estimate = estimate-next n active (suc done) w ts (λ (u : ℕ). leb u 15 ≡ true) i l (before i l .estimate) (λ j lj s. before j lj .estimate);
+        estimate = estimate-next (p .rules) n active (suc done) w ts (sound .takes) (λ (u : ℕ). leb u 15 ≡ true) i l (before i l .estimate) (λ j lj s. before j lj .estimate);
         state = r .1;
         memory = r .2;
       }

@@ -1,8 +1,14 @@
+pub mod Values
+pub mod Rules
+pub mod Decisions
 pub mod Opened
+pub mod AnyRound
+pub mod AnyRun
+pub mod Good
+pub mod Steps
+pub mod Demand
 pub mod OneRound
 pub mod Agree
 pub mod Settle
-pub mod Good
 pub mod Whole
-pub mod Steps
 pub mod Demand3

@@ -6,17 +6,22 @@ use native.Mathlib.Decide.{decLt}
 use native.Mathlib.Omega.{arith}
 use lib.ListN.{length, getD, List·getD-eq-default}
 use Rattle.basics.proofs.Laws.{length-tab, getD-tab}
-use Rattle.protocol.specs.Rules.{opened, truck}
-use Rattle.protocol.specs.Runs.{openedTrucks}
+use Rattle.protocol.specs.Cycles.{Kind, truckIn}
+use Rattle.protocol.specs.Rules.{opened, recorded, truck}
+use Rattle.protocol.specs.Runs.{openedIn, openedTrucks}
+
+-- the truck in a place, of any kind
+pub place-opened : {T : Type 0} (K : Kind T) (openings : List ℕ) (i : ℕ) → i < 32 → truckIn K (openedIn K openings) i ≡ K .opened (getD openings i 0)
+unfolding openedIn
+place-opened K openings i l = getD-tab (λ i. K .opened (getD openings i 0)) 32 i (K .opened 0) l
 
 module _ (openings : List ℕ) where
   pub length-opened : length (openedTrucks openings) ≡ 32
-  unfolding openedTrucks
+  unfolding openedIn
   length-opened = length-tab (λ i. opened (getD openings i 0)) 32
 
   pub truck-opened : (i : ℕ) → i < 32 → truck (openedTrucks openings) i ≡ opened (getD openings i 0)
-  unfolding openedTrucks
-  truck-opened i l = getD-tab (λ i. opened (getD openings i 0)) 32 i (opened 0) l
+  truck-opened i l = place-opened recorded openings i l
 
   -- past the openings
   pub truck-unopened : (i : ℕ) → length openings ≤ i → truck (openedTrucks openings) i ≡ opened 0

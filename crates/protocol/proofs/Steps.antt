@@ -1,4 +1,4 @@
--- A list of steps leaves the record of the run of its taken rounds.
+-- A list of steps leaves the record of the run of its taken rounds, in any cycle.
 use mathlib.Core.Path.{_≡_, refl, ap, ap₂, sym, _∙_}
 use mathlib.Core.Bool.{Bool, true, false, cond, _&&_, false≢true}
 use mathlib.Core.List.{List, [], _∷_, _++_, append-assoc, append-nil}
@@ -23,19 +23,13 @@ use Rattle.recording.proofs.RoundTrip.{read-back}
 use Rattle.recording.proofs.Rounds.{joined-accepted, round-back}
 use Rattle.protocol.specs.declared.Truck.{Truck}
 use Rattle.protocol.specs.declared.Fleet.{Fleet}
-use Rattle.protocol.specs.Rules.{truck, after}
-use Rattle.protocol.specs.Runs.{trucksAt, openedTrucks}
-use Rattle.protocol.specs.Fleets.{answer, blank, startCheck, started, goodTruck, goodFleet, stepCheck, nextFleet, stepped, fleetAt, ran}
-use Rattle.protocol.specs.Steps.{lastRecord, isTaken, takenFrom, taken, roundIn, recordingOf}
-use Rattle.protocol.proofs.Good.{Good, good-whole, good-next}
-use Rattle.protocol.proofs.Whole.{at-suc, opened-truck, throughout}
-
--- a run looks at its own rounds only
-pub rounds-ext : (n : ℕ) (openings : List ℕ) (r q : ℕ → List ℕ) (R : ℕ) → ((k : ℕ) → k < R → r k ≡ q k) → trucksAt n openings r R ≡ trucksAt n openings q R
-unfolding trucksAt stateAt
-rounds-ext n openings r q zero h = refl
-rounds-ext n openings r q (suc k) h =
-    ap₂ (λ (w : List ℕ) (ts : List Truck). after n (activeBit w) (suc k) w ts) (h k (omega arith)) (rounds-ext n openings r q k (λ j l. h j (omega arith)))
+use Rattle.protocol.specs.Cycles.{Rules, afterIn}
+use Rattle.protocol.specs.Rules.{recorded, truck}
+use Rattle.protocol.specs.Runs.{trucksIn, openedTrucks}
+use Rattle.protocol.specs.Fleets.{Protocol, answer, blank, startCheck, started, goodTruckIn, goodFleetIn, stepCheckIn, nextFleetIn, steppedIn, fleetIn, ranIn}
+use Rattle.protocol.specs.Steps.{lastRecordIn, isTaken, takenFrom, taken, roundIn, recordingOf}
+use Rattle.protocol.proofs.AnyRun.{rounds-ext, at-suc, opened-truck, throughout}
+use Rattle.protocol.proofs.Good.{Good, Sound, good-whole, good-next}
 
 -- what was taken: rounds that 8 and 6 accept, and no more than 400
 pub taken-accepted : (n c : ℕ) (ws : List (List ℕ)) (k : ℕ) → k < length (takenFrom n c ws) → roundCheck n (getD (takenFrom n c ws) k []) ≡ Accepted
@@ -94,47 +88,50 @@ start-by n openings h =
       accept = h;
     }
 
-module _ (n : ℕ) (openings : List ℕ) (start : Start n openings) where
+module _ (p : Protocol) (sound : Sound p) (n : ℕ) (openings : List ℕ) (start : Start n openings) where
+  abbrev c : Rules recorded
+  c = p .rules
+
   -- every record on the way passes refusal 7
-  good-at : (rounds : ℕ → List ℕ) (k i : ℕ) → i < n → Good k (truck (trucksAt n openings rounds k) i)
+  good-at : (rounds : ℕ → List ℕ) (k i : ℕ) → i < n → Good p k (truck (trucksIn c n openings rounds k) i)
   good-at rounds k =
-      throughout n openings rounds (λ k ts. (i : ℕ) → i < n → Good k (truck ts i)) k
+      throughout c n openings rounds (λ k ts. (i : ℕ) → i < n → Good p k (truck ts i)) k
       (λ i l.
       let o : leb (getD openings i 0) 15 ≡ true = le-leb (getD openings i 0) 15 (openings-in n openings (start .crushers) .opening i l) in
-      rw (opened-truck n openings rounds i (omega (arith, start .most))) (record { opening = o; estimate = o; state = refl; memory = refl }))
-      (λ k l h. good-next n (activeBit (rounds k)) k (rounds k) (trucksAt n openings rounds k) h)
+      rw (opened-truck c n openings rounds i (omega (arith, start .most))) (record { opening = o; estimate = o; state = refl; memory = sound .opened-memory (getD openings i 0) }))
+      (λ k l h. good-next p sound n (activeBit (rounds k)) k (rounds k) (trucksIn c n openings rounds k) h)
       k (omega arith)
 
-  pub good-fleet : (rounds : ℕ → List ℕ) (k : ℕ) → k ≤ 400 → goodFleet (fleetAt n openings rounds k) ≡ true
-  unfolding goodFleet fleetAt
+  pub good-fleet : (rounds : ℕ → List ℕ) (k : ℕ) → k ≤ 400 → goodFleetIn p (fleetIn p n openings rounds k) ≡ true
+  unfolding goodFleetIn fleetIn
   good-fleet rounds k l =
       rw (start .trucks, le-leb k 400 l)
-      (allBelow-all (λ i. goodTruck k (truck (trucksAt n openings rounds k) i)) n (λ i li. good-whole k (truck (trucksAt n openings rounds k) i) (good-at rounds k i li)))
+      (allBelow-all (λ i. goodTruckIn p k (truck (trucksIn c n openings rounds k) i)) n (λ i li. good-whole p k (truck (trucksIn c n openings rounds k) i) (good-at rounds k i li)))
 
   -- of such a record a step can only be refused 14, 8 and 6
   pub step-outcome : (rounds : ℕ → List ℕ) (k : ℕ) (w : List ℕ) → k ≤ 400
-      → stepped (fleetAt n openings rounds k) w .outcome ≡ refuse (eqb k 400) RoundsDone (roundCheck n w)
-  unfolding stepped stepCheck fleetAt
+      → steppedIn p (fleetIn p n openings rounds k) w .outcome ≡ refuse (eqb k 400) RoundsDone (roundCheck n w)
+  unfolding steppedIn stepCheckIn fleetIn
   step-outcome rounds k w l = rw (good-fleet rounds k l) (go (refuse (eqb k 400) RoundsDone (roundCheck n w)))
     where
       f : Fleet
-      f = fleetAt n openings rounds k
+      f = fleetIn p n openings rounds k
 
-      go : (o : Outcome) → answer o (nextFleet f w) f .outcome ≡ o
+      go : (o : Outcome) → answer o (nextFleetIn p f w) f .outcome ≡ o
       go Accepted = refl
       go (Refused r) = refl
 
   -- what a step makes of such a record: the next one where its round is taken, else the same
   step-taken : (rounds : ℕ → List ℕ) (k : ℕ) (w : List ℕ) → k ≤ 400
-      → stepped (fleetAt n openings rounds k) w .fleet ≡ cond (isTaken n k w) (nextFleet (fleetAt n openings rounds k) w) (fleetAt n openings rounds k)
-  unfolding stepped stepCheck isTaken fleetAt
+      → steppedIn p (fleetIn p n openings rounds k) w .fleet ≡ cond (isTaken n k w) (nextFleetIn p (fleetIn p n openings rounds k) w) (fleetIn p n openings rounds k)
+  unfolding steppedIn stepCheckIn isTaken fleetIn
   step-taken rounds k w l = rw (good-fleet rounds k l) (go (roundCheck n w) (eqb k 400) refl)
     where
       f : Fleet
-      f = fleetAt n openings rounds k
+      f = fleetIn p n openings rounds k
 
       go : (o : Outcome) (b : Bool) → eqb k 400 ≡ b
-          → answer (refuse b RoundsDone o) (nextFleet f w) f .fleet ≡ cond (accepted o && ltb k 400) (nextFleet f w) f
+          → answer (refuse b RoundsDone o) (nextFleetIn p f w) f .fleet ≡ cond (accepted o && ltb k 400) (nextFleetIn p f w) f
       go Accepted true e = rw (le-ltb k 400 (omega (arith, eqb-true k 400 e)))
       go (Refused r) true e = refl
       go Accepted false e = rw (lt-ltb k 400 (let x : k ≡ 400 → ⊥ = eqb-false k 400 e in omega arith))
@@ -142,31 +139,31 @@ module _ (n : ℕ) (openings : List ℕ) (start : Start n openings) where
 
   -- a taken round is one more round of the run
   next-is : (pre : List (List ℕ)) (w : List ℕ)
-      → nextFleet (fleetAt n openings (roundIn pre) (length pre)) w ≡ fleetAt n openings (roundIn (pre ++ (w ∷ []))) (length (pre ++ (w ∷ [])))
-  unfolding nextFleet fleetAt
+      → nextFleetIn p (fleetIn p n openings (roundIn pre) (length pre)) w ≡ fleetIn p n openings (roundIn (pre ++ (w ∷ []))) (length (pre ++ (w ∷ [])))
+  unfolding nextFleetIn fleetIn
   next-is pre w =
       ap₂ (λ (c : ℕ) (ts : List Truck). record { n = n; done = c; trucks = ts }) (add-one (length pre) ∙ sym longer)
-      (ap (λ (c : ℕ). after n (activeBit w) c w (trucksAt n openings (roundIn pre) (length pre))) (add-one (length pre))
-      ∙ ap₂ (λ (v : List ℕ) (ts : List Truck). after n (activeBit v) (suc (length pre)) v ts) (sym (getD-append-seam pre w [] []))
-      (rounds-ext n openings (roundIn pre) (roundIn (pre ++ (w ∷ []))) (length pre) (λ k l. sym (List·getD-append pre (w ∷ []) [] k l)))
-      ∙ sym (at-suc n openings (roundIn (pre ++ (w ∷ []))) (length pre))
-      ∙ ap (trucksAt n openings (roundIn (pre ++ (w ∷ [])))) (sym longer))
+      (ap (λ (k : ℕ). afterIn c n (activeBit w) k w (trucksIn c n openings (roundIn pre) (length pre))) (add-one (length pre))
+      ∙ ap₂ (λ (v : List ℕ) (ts : List Truck). afterIn c n (activeBit v) (suc (length pre)) v ts) (sym (getD-append-seam pre w [] []))
+      (rounds-ext c n openings (roundIn pre) (roundIn (pre ++ (w ∷ []))) (length pre) (λ k l. sym (List·getD-append pre (w ∷ []) [] k l)))
+      ∙ sym (at-suc c n openings (roundIn (pre ++ (w ∷ []))) (length pre))
+      ∙ ap (trucksIn c n openings (roundIn (pre ++ (w ∷ [])))) (sym longer))
     where
       longer : length (pre ++ (w ∷ [])) ≡ suc (length pre)
       longer = length-append pre (w ∷ []) ∙ add-one (length pre)
 
   -- the record returned last, after the rounds `pre` were taken
   steps-from : (pre ws : List (List ℕ)) → length pre ≤ 400
-      → lastRecord (fleetAt n openings (roundIn pre) (length pre)) ws
-      ≡ fleetAt n openings (roundIn (pre ++ takenFrom n (length pre) ws)) (length (pre ++ takenFrom n (length pre) ws))
-  unfolding lastRecord takenFrom isTaken
-  steps-from pre [] l = ap (λ (rs : List (List ℕ)). fleetAt n openings (roundIn rs) (length rs)) (sym (append-nil pre))
+      → lastRecordIn p (fleetIn p n openings (roundIn pre) (length pre)) ws
+      ≡ fleetIn p n openings (roundIn (pre ++ takenFrom n (length pre) ws)) (length (pre ++ takenFrom n (length pre) ws))
+  unfolding lastRecordIn takenFrom isTaken
+  steps-from pre [] l = ap (λ (rs : List (List ℕ)). fleetIn p n openings (roundIn rs) (length rs)) (sym (append-nil pre))
   steps-from pre (w ∷ ws) l =
-      ap (λ (f : Fleet). lastRecord f ws) (step-taken (roundIn pre) (length pre) w l)
+      ap (λ (f : Fleet). lastRecordIn p f ws) (step-taken (roundIn pre) (length pre) w l)
       ∙ go (isTaken n (length pre) w) refl (steps-from (pre ++ (w ∷ [])) ws) (steps-from pre ws l)
     where
       f : Fleet
-      f = fleetAt n openings (roundIn pre) (length pre)
+      f = fleetIn p n openings (roundIn pre) (length pre)
 
       longer : length (pre ++ (w ∷ [])) ≡ suc (length pre)
       longer = length-append pre (w ∷ []) ∙ add-one (length pre)
@@ -175,37 +172,37 @@ module _ (n : ℕ) (openings : List ℕ) (start : Start n openings) where
       below e = omega (arith, longer, ltb-true (length pre) 400 (and-right (accepted (roundCheck n w)) (ltb (length pre) 400) e))
 
       go : (b : Bool) → isTaken n (length pre) w ≡ b
-          → (length (pre ++ (w ∷ [])) ≤ 400 → lastRecord (fleetAt n openings (roundIn (pre ++ (w ∷ []))) (length (pre ++ (w ∷ [])))) ws
-          ≡ fleetAt n openings (roundIn ((pre ++ (w ∷ [])) ++ takenFrom n (length (pre ++ (w ∷ []))) ws)) (length ((pre ++ (w ∷ [])) ++ takenFrom n (length (pre ++ (w ∷ []))) ws)))
-          → lastRecord f ws ≡ fleetAt n openings (roundIn (pre ++ takenFrom n (length pre) ws)) (length (pre ++ takenFrom n (length pre) ws))
-          → lastRecord (cond b (nextFleet f w) f) ws
-          ≡ fleetAt n openings (roundIn (pre ++ cond b (w ∷ takenFrom n (suc (length pre)) ws) (takenFrom n (length pre) ws)))
+          → (length (pre ++ (w ∷ [])) ≤ 400 → lastRecordIn p (fleetIn p n openings (roundIn (pre ++ (w ∷ []))) (length (pre ++ (w ∷ [])))) ws
+          ≡ fleetIn p n openings (roundIn ((pre ++ (w ∷ [])) ++ takenFrom n (length (pre ++ (w ∷ []))) ws)) (length ((pre ++ (w ∷ [])) ++ takenFrom n (length (pre ++ (w ∷ []))) ws)))
+          → lastRecordIn p f ws ≡ fleetIn p n openings (roundIn (pre ++ takenFrom n (length pre) ws)) (length (pre ++ takenFrom n (length pre) ws))
+          → lastRecordIn p (cond b (nextFleetIn p f w) f) ws
+          ≡ fleetIn p n openings (roundIn (pre ++ cond b (w ∷ takenFrom n (suc (length pre)) ws) (takenFrom n (length pre) ws)))
           (length (pre ++ cond b (w ∷ takenFrom n (suc (length pre)) ws) (takenFrom n (length pre) ws)))
       go true e ih same =
-          ap (λ (g : Fleet). lastRecord g ws) (next-is pre w) ∙ ih (below e)
-          ∙ ap (λ (rs : List (List ℕ)). fleetAt n openings (roundIn rs) (length rs))
+          ap (λ (g : Fleet). lastRecordIn p g ws) (next-is pre w) ∙ ih (below e)
+          ∙ ap (λ (rs : List (List ℕ)). fleetIn p n openings (roundIn rs) (length rs))
           (append-assoc pre (w ∷ []) (takenFrom n (length (pre ++ (w ∷ []))) ws) ∙ ap (λ (c : ℕ). pre ++ w ∷ takenFrom n c ws) longer)
       go false e ih same = same
 
   -- the record returned last by a list of steps
-  pub steps-are : (ws : List (List ℕ)) → lastRecord (started n openings .fleet) ws ≡ fleetAt n openings (roundIn (taken n ws)) (length (taken n ws))
-  unfolding started fleetAt trucksAt stateAt
-  steps-are ws = ap (λ (f : Fleet). lastRecord f ws) begun ∙ steps-from [] ws (omega arith)
+  pub steps-are : (ws : List (List ℕ)) → lastRecordIn p (started n openings .fleet) ws ≡ fleetIn p n openings (roundIn (taken n ws)) (length (taken n ws))
+  unfolding started fleetIn trucksIn stateAt
+  steps-are ws = ap (λ (f : Fleet). lastRecordIn p f ws) begun ∙ steps-from [] ws (omega arith)
     where
-      begun : started n openings .fleet ≡ fleetAt n openings (roundIn []) 0
+      begun : started n openings .fleet ≡ fleetIn p n openings (roundIn []) 0
       begun = ap (λ (o : Outcome). answer o (record { n = n; done = 0; trucks = openedTrucks openings }) blank .fleet) (start .accept)
 
   -- running the list's recording
   pub recording-run : (ws : List (List ℕ))
-      → ran (recordingOf n openings ws) ≡ record { outcome = Accepted; fleet = fleetAt n openings (roundIn (taken n ws)) (length (taken n ws)) }
-  unfolding ran recordingOf fleetAt
+      → ranIn p (recordingOf n openings ws) ≡ record { outcome = Accepted; fleet = fleetIn p n openings (roundIn (taken n ws)) (length (taken n ws)) }
+  unfolding ranIn recordingOf fleetIn
   recording-run ws =
-      ap (λ (o : Outcome). answer o (fleetAt (trucksOf s) (openingsOf s) (roundAt s) (roundsOf s)) blank) (back .0)
+      ap (λ (o : Outcome). answer o (fleetIn p (trucksOf s) (openingsOf s) (roundAt s) (roundsOf s)) blank) (back .0)
       ∙ ap (λ (f : Fleet). record { outcome = Accepted; fleet = f })
-      (ap₂ (λ (m R : ℕ). fleetAt m (openingsOf s) (roundAt s) R) (back .1) (back .2)
-      ∙ ap (λ (os : List ℕ). fleetAt n os (roundAt s) (length rs)) (back .3)
+      (ap₂ (λ (m R : ℕ). fleetIn p m (openingsOf s) (roundAt s) R) (back .1) (back .2)
+      ∙ ap (λ (os : List ℕ). fleetIn p n os (roundAt s) (length rs)) (back .3)
       ∙ ap (λ (ts : List Truck). record { n = n; done = length rs; trucks = ts })
-      (rounds-ext n openings (roundAt s) (roundIn rs) (length rs) (round-back n rs each openings (start .some) (start .most) few (start .crushers))))
+      (rounds-ext c n openings (roundAt s) (roundIn rs) (length rs) (round-back n rs each openings (start .some) (start .most) few (start .crushers))))
     where
       rs : List (List ℕ)
       rs = taken n ws

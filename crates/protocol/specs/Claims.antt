@@ -1,4 +1,5 @@
--- What demand 3 says (document 01, 'Whole lists of steps'). Who runs, sends, hears, misses, stops and decides is `trucksAt` and `airAt`: it follows from n, the openings and the words of the rounds.
+-- What demand 3 says (document 01, 'Whole lists of steps'), for any protocol. Who runs, sends, hears, misses, stops and decides is `trucksIn` and `airsIn`:
+-- it follows from n, the openings and the words of the rounds.
 use mathlib.Core.Path.{_≡_}
 use mathlib.Core.Bool.{Bool, true, false}
 use mathlib.Core.List.{List}
@@ -6,7 +7,7 @@ use Prim.Native.Nat.{ℕ, _+_, _≤_, _<_}
 use lib.Dec.{eqb}
 use lib.ListN.{length, getD}
 use Rattle.basics.specs.Bits.{odd}
-use Rattle.air.specs.Air.{majorityComplete, zeroComplete}
+use Rattle.air.specs.Air.{majorityComplete, zeroComplete, calmFor}
 use Rattle.refusals.specs.declared.Outcome.the-variants.{Accepted}
 use Rattle.refusals.specs.declared.Refusal.the-variants.{RoundsDone}
 use Rattle.recording.specs.Checks.{refuse, roundCheck}
@@ -15,9 +16,9 @@ use Rattle.protocol.specs.declared.State.{State}
 use Rattle.protocol.specs.declared.State.the-variants.{Running, Stopped, Decided}
 use Rattle.protocol.specs.declared.Fleet.{Fleet}
 use Rattle.protocol.specs.Rules.{truck}
-use Rattle.protocol.specs.Runs.{airAt, calm}
-use Rattle.protocol.specs.Fleets.{started, stepped, ran}
-use Rattle.protocol.specs.Steps.{lastRecord, taken, roundIn, recordingOf}
+use Rattle.protocol.specs.Runs.{airsIn, airAt}
+use Rattle.protocol.specs.Fleets.{Protocol, twoRound, started, steppedIn, ranIn}
+use Rattle.protocol.specs.Steps.{lastRecordIn, taken, roundIn, recordingOf}
 
 abbrev pub isDecided : State → Bool
 isDecided Running = false
@@ -37,6 +38,44 @@ pub record Agreed (n : ℕ) (openings : List ℕ) (f : Fleet) : Type 0 where
   pub opening : (i : ℕ) → i < n → isDecided (truck (f .trucks) i .state) ≡ true
       → (j : ℕ) × (j < n) × (truck (f .trucks) i .estimate ≡ getD openings j 0)
 
+module _ (p : Protocol) where
+  -- marks are worth what agreement asks in each of R rounds
+  abbrev pub WorthMarks : ℕ → List ℕ → (ℕ → List ℕ) → ℕ → Type 0
+  WorthMarks n openings rounds R = (k : ℕ) → 1 ≤ k → k ≤ R → p .worth k (airsIn (p .rules) n openings rounds k) ≡ true
+
+  -- the R rounds are calm from S with b
+  unfoldable pub calmIn : ℕ → List ℕ → (ℕ → List ℕ) → ℕ → ℕ → ℕ → Bool
+  calmIn n openings rounds R S b = calmFor (p .calmSpan) (p .proposes) (airsIn (p .rules) n openings rounds) R S b
+
+  -- what demand 3 says of the record f that R rounds leave
+  pub record ClaimIn (n : ℕ) (openings : List ℕ) (rounds : ℕ → List ℕ) (R : ℕ) (f : Fleet) : Type 0 where
+    -- with marks of that worth in every round taken
+    pub agreement : WorthMarks n openings rounds R → Agreed n openings f
+    -- with calm from S with b: each truck below n is decided or stopped, in a round no later than the last calm one
+    pub deciding : (S b : ℕ) → calmIn n openings rounds R S b ≡ true → (i : ℕ) → i < n → EndedBy (S + p .calmSpan) (truck (f .trucks) i .state)
+
+  -- of a start with n and openings and a list of steps, refused ones included: the claim for the record returned last and the rounds taken, and that
+  -- running the list's recording is accepted and returns that record
+  pub record StepsClaimIn (n : ℕ) (openings : List ℕ) (steps : List (List ℕ)) : Type 0 where
+    pub claim : ClaimIn n openings (roundIn (taken n steps)) (length (taken n steps)) (lastRecordIn p (started n openings .fleet) steps)
+    -- of the next step only 14, 8 and 6 can be refused: no record that a start and steps returned is refused 7
+    pub nextStep : (w : List ℕ) → steppedIn p (lastRecordIn p (started n openings .fleet) steps) w .outcome
+        ≡ refuse (eqb (length (taken n steps)) 400) RoundsDone (roundCheck n w)
+    pub asRun : ranIn p (recordingOf n openings steps) ≡ record { outcome = Accepted; fleet = lastRecordIn p (started n openings .fleet) steps }
+
+  -- of a recording
+  abbrev pub RunClaimIn : List ℕ → Type 0
+  RunClaimIn s = ClaimIn (trucksOf s) (openingsOf s) (roundAt s) (roundsOf s) (ranIn p s .fleet)
+
+  -- the whole of demand 3: of every list of steps after an accepted start, and of every accepted recording run
+  pub record DemandIn : Type 0 where
+    pub steps : (n : ℕ) (openings : List ℕ) (steps : List (List ℕ)) → started n openings .outcome ≡ Accepted → StepsClaimIn n openings steps
+    pub run : (s : List ℕ) → ranIn p s .outcome ≡ Accepted → RunClaimIn s
+
+-- demand 3 of document 01's protocol
+abbrev pub Demand : Type 0
+Demand = DemandIn twoRound
+
 -- marks are majority complete in each of R rounds
 abbrev pub MajorityMarks : ℕ → List ℕ → (ℕ → List ℕ) → ℕ → Type 0
 MajorityMarks n openings rounds R = (k : ℕ) → 1 ≤ k → k ≤ R → majorityComplete (airAt n openings rounds k) ≡ true
@@ -46,28 +85,3 @@ abbrev pub MixedMarks : ℕ → List ℕ → (ℕ → List ℕ) → ℕ → Type
 MixedMarks n openings rounds R =
     (k : ℕ) → 1 ≤ k → k ≤ R
     → (odd k ≡ true → majorityComplete (airAt n openings rounds k) ≡ true) × (odd k ≡ false → zeroComplete (airAt n openings rounds k) ≡ true)
-
--- what demand 3 says of the record f that R rounds leave
-pub record Claim (n : ℕ) (openings : List ℕ) (rounds : ℕ → List ℕ) (R : ℕ) (f : Fleet) : Type 0 where
-  -- with majority complete marks in every round taken
-  pub agreement : MajorityMarks n openings rounds R → Agreed n openings f
-  -- with calm from S with b: each truck below n is decided or stopped, in a round of at most S + 4
-  pub deciding : (S b : ℕ) → calm n openings rounds R S b ≡ true → (i : ℕ) → i < n → EndedBy (S + 4) (truck (f .trucks) i .state)
-
--- of a start with n and openings and a list of steps, refused ones included: the claim for the record returned last and the rounds taken, and that running the list's recording
--- is accepted and returns that record
-pub record StepsClaim (n : ℕ) (openings : List ℕ) (steps : List (List ℕ)) : Type 0 where
-  pub claim : Claim n openings (roundIn (taken n steps)) (length (taken n steps)) (lastRecord (started n openings .fleet) steps)
-  -- of the next step only 14, 8 and 6 can be refused: no record that a start and steps returned is refused 7
-  pub nextStep : (w : List ℕ) → stepped (lastRecord (started n openings .fleet) steps) w .outcome
-      ≡ refuse (eqb (length (taken n steps)) 400) RoundsDone (roundCheck n w)
-  pub asRun : ran (recordingOf n openings steps) ≡ record { outcome = Accepted; fleet = lastRecord (started n openings .fleet) steps }
-
--- of a recording
-abbrev pub RunClaim : List ℕ → Type 0
-RunClaim s = Claim (trucksOf s) (openingsOf s) (roundAt s) (roundsOf s) (ran s .fleet)
-
--- the whole of demand 3: of every list of steps after an accepted start, and of every accepted recording run
-pub record Demand : Type 0 where
-  pub steps : (n : ℕ) (openings : List ℕ) (steps : List (List ℕ)) → started n openings .outcome ≡ Accepted → StepsClaim n openings steps
-  pub run : (s : List ℕ) → ran s .outcome ≡ Accepted → RunClaim s

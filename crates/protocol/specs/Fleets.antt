@@ -6,7 +6,7 @@ use lib.Dec.{eqb, leb, ltb}
 use Rattle.basics.specs.Lists.{allBelow}
 use Rattle.basics.specs.Bits.{odd}
 use Rattle.air.specs.Round.{activeBit}
-use Rattle.air.specs.Air.{implies}
+use Rattle.air.specs.Air.{Air, implies, majorityComplete}
 use Rattle.refusals.specs.declared.Refusal.the-variants.{TruckCount, Record, RoundsDone}
 use Rattle.refusals.specs.declared.Outcome.{Outcome}
 use Rattle.refusals.specs.declared.Outcome.the-variants.{Accepted, Refused}
@@ -19,11 +19,13 @@ use Rattle.protocol.specs.declared.State.the-variants.{Running, Stopped,
 use Rattle.protocol.specs.declared.Truck.{Truck}
 use Rattle.protocol.specs.declared.Fleet.{Fleet}
 use Rattle.protocol.specs.declared.Answer.{Answer}
+use Rattle.protocol.specs.declared.Grades.{Grades}
 use Rattle.protocol.specs.declared.Grading.{Grading}
 use Rattle.protocol.specs.declared.Grading.the-variants.{Graded}
 use Rattle.protocol.specs.declared.Grading.the-variants as grading
-use Rattle.protocol.specs.Rules.{truck, runs, after}
-use Rattle.protocol.specs.Runs.{openedTrucks, trucksAt, gradesOf}
+use Rattle.protocol.specs.Cycles.{Rules, afterIn}
+use Rattle.protocol.specs.Rules.{recorded, twoRules, truck, runs}
+use Rattle.protocol.specs.Runs.{openedTrucks, trucksIn, airsIn, gradesFor}
 
 -- the record that a refused start or run holds: n 0, no rounds done, and in every place a running truck of opening and estimate 0 with empty memory
 unfoldable pub blank : Fleet
@@ -42,54 +44,116 @@ startCheck n openings = refuse (badTrucks n) TruckCount (refuse (badOpenings n o
 unfoldable pub started : ℕ → List ℕ → Answer
 started n openings = answer (startCheck n openings) (record { n = n; done = 0; trucks = openedTrucks openings }) blank
 
+-- a protocol by which fleets are stepped and recordings run: the rules of its cycle, and what refusal 7 and demand 3 ask by it
+pub record Protocol : Type 0 where
+  pub rules : Rules recorded
+  -- the rounds in which trucks decide
+  pub decisions : ℕ → Bool
+  -- what refusal 7 asks of a truck's memory with some rounds done
+  pub goodMemory : ℕ → Truck → Bool
+  -- what the marks of round k must be worth for agreement
+  pub worth : ℕ → Air → Bool
+  -- calm from S lasts from round S to round S + `calmSpan`
+  pub calmSpan : ℕ
+  -- the rounds for proposals, in which calm asks for senders
+  pub proposes : ℕ → Bool
+
 -- the memory reads no mark and no value
 abbrev pub isEmpty : Bool → Heard → Bool
 isEmpty mark Nothing = not mark
 isEmpty mark One = false
 isEmpty mark Several = false
 
--- a stop round is not 0 and not later than the rounds done; a decided round is besides even
+-- in the two-round cycle the memory is empty where the rounds done are even or the truck isn't running
+abbrev pub twoMemory : ℕ → Truck → Bool
+twoMemory done t = implies (not (odd done) || not (runs t)) (isEmpty (t .mark) (t .heard))
+
+-- document 01's protocol
+abbrev pub twoRound : Protocol
+twoRound =
+    record {
+      rules = twoRules;
+      decisions = λ k. not (odd k);
+      goodMemory = twoMemory;
+      worth = λ k. majorityComplete;
+      calmSpan = 4;
+      proposes = odd;
+    }
+
+-- an outcome with the grades of an accepted call
+abbrev pub gradingFor : Outcome → Grades → Grading
+gradingFor Accepted g = Graded g
+gradingFor (Refused r) g = grading.Refused r
+
+-- round k is not 0 and not later than the rounds done
+abbrev pub isDone : ℕ → ℕ → Bool
+isDone done k = ltb 0 k && leb k done
+
+module _ (p : Protocol) where
+  -- a stop round is one of the rounds done; a decided round is besides one in which trucks decide
+  abbrev pub goodStateIn : ℕ → State → Bool
+  goodStateIn done Running = true
+  goodStateIn done (Stopped k) = isDone done k
+  goodStateIn done (Decided k) = isDone done k && p .decisions k
+
+  -- what refusal 7 asks of one truck: no crusher above 15, a good round, and a good memory
+  unfoldable pub goodTruckIn : ℕ → Truck → Bool
+  goodTruckIn done t = leb (t .opening) 15 && leb (t .estimate) 15 && goodStateIn done (t .state) && p .goodMemory done t
+
+  -- a fleet record that refusal 7 lets pass; places n and above are not read
+  unfoldable pub goodFleetIn : Fleet → Bool
+  goodFleetIn f =
+      not (badTrucks (f .n)) && leb (f .done) 400 && allBelow (λ i. goodTruckIn (f .done) (truck (f .trucks) i)) (f .n)
+
+  -- a step checks 7, 14, 8, 6
+  unfoldable pub stepCheckIn : Fleet → List ℕ → Outcome
+  stepCheckIn f w = refuse (not (goodFleetIn f)) Record (refuse (eqb (f .done) 400) RoundsDone (roundCheck (f .n) w))
+
+  -- the record after a round in plain form
+  unfoldable pub nextFleetIn : Fleet → List ℕ → Fleet
+  nextFleetIn f w =
+      record { n = f .n; done = f .done + 1; trucks = afterIn (p .rules) (f .n) (activeBit w) (f .done + 1) w (f .trucks) }
+
+  -- a step by a round in plain form; a refused step returns the record it was given
+  unfoldable pub steppedIn : Fleet → List ℕ → Answer
+  steppedIn f w = answer (stepCheckIn f w) (nextFleetIn f w) f
+
+  -- the record of n trucks after R rounds
+  unfoldable pub fleetIn : ℕ → List ℕ → (ℕ → List ℕ) → ℕ → Fleet
+  fleetIn n openings rounds R = record { n = n; done = R; trucks = trucksIn (p .rules) n openings rounds R }
+
+  -- running a recording: all its rounds
+  unfoldable pub ranIn : List ℕ → Answer
+  ranIn s = answer (checkOf s) (fleetIn (trucksOf s) (openingsOf s) (roundAt s) (roundsOf s)) blank
+
+  -- grading a recording
+  unfoldable pub gradedIn : List ℕ → Grading
+  gradedIn s = gradingFor (checkOf s) (gradesFor (airsIn (p .rules) (trucksOf s) (openingsOf s) (roundAt s)) (roundsOf s))
+
+-- the same by document 01's protocol
 abbrev pub goodState : ℕ → State → Bool
-goodState done Running = true
-goodState done (Stopped k) = ltb 0 k && leb k done
-goodState done (Decided k) = ltb 0 k && leb k done && not (odd k)
+goodState = goodStateIn twoRound
 
--- what refusal 7 asks of one truck: no crusher above 15, a good round, and an empty memory where the rounds done are even or the truck isn't running
-unfoldable pub goodTruck : ℕ → Truck → Bool
-goodTruck done t =
-    leb (t .opening) 15 && leb (t .estimate) 15 && goodState done (t .state)
-    && implies (not (odd done) || not (runs t)) (isEmpty (t .mark) (t .heard))
+abbrev pub goodTruck : ℕ → Truck → Bool
+goodTruck = goodTruckIn twoRound
 
--- a fleet record that refusal 7 lets pass; places n and above are not read
-unfoldable pub goodFleet : Fleet → Bool
-goodFleet f =
-    not (badTrucks (f .n)) && leb (f .done) 400 && allBelow (λ i. goodTruck (f .done) (truck (f .trucks) i)) (f .n)
+abbrev pub goodFleet : Fleet → Bool
+goodFleet = goodFleetIn twoRound
 
--- a step checks 7, 14, 8, 6
-unfoldable pub stepCheck : Fleet → List ℕ → Outcome
-stepCheck f w = refuse (not (goodFleet f)) Record (refuse (eqb (f .done) 400) RoundsDone (roundCheck (f .n) w))
+abbrev pub stepCheck : Fleet → List ℕ → Outcome
+stepCheck = stepCheckIn twoRound
 
--- the record after a round in plain form
-unfoldable pub nextFleet : Fleet → List ℕ → Fleet
-nextFleet f w =
-    record { n = f .n; done = f .done + 1; trucks = after (f .n) (activeBit w) (f .done + 1) w (f .trucks) }
+abbrev pub nextFleet : Fleet → List ℕ → Fleet
+nextFleet = nextFleetIn twoRound
 
--- a step by a round in plain form; a refused step returns the record it was given
-unfoldable pub stepped : Fleet → List ℕ → Answer
-stepped f w = answer (stepCheck f w) (nextFleet f w) f
+abbrev pub stepped : Fleet → List ℕ → Answer
+stepped = steppedIn twoRound
 
--- the record of n trucks after R rounds
-unfoldable pub fleetAt : ℕ → List ℕ → (ℕ → List ℕ) → ℕ → Fleet
-fleetAt n openings rounds R = record { n = n; done = R; trucks = trucksAt n openings rounds R }
+abbrev pub fleetAt : ℕ → List ℕ → (ℕ → List ℕ) → ℕ → Fleet
+fleetAt = fleetIn twoRound
 
--- running a recording: all its rounds
-unfoldable pub ran : List ℕ → Answer
-ran s = answer (checkOf s) (fleetAt (trucksOf s) (openingsOf s) (roundAt s) (roundsOf s)) blank
+abbrev pub ran : List ℕ → Answer
+ran = ranIn twoRound
 
-abbrev pub gradingFor : Outcome → List ℕ → Grading
-gradingFor Accepted s = Graded (gradesOf (trucksOf s) (openingsOf s) (roundAt s) (roundsOf s))
-gradingFor (Refused r) s = grading.Refused r
-
--- grading a recording
-unfoldable pub graded : List ℕ → Grading
-graded s = gradingFor (checkOf s) s
+abbrev pub graded : List ℕ → Grading
+graded = gradedIn twoRound

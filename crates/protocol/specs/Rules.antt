@@ -1,31 +1,28 @@
--- The rules of one round (document 01, 'The fleet and its rounds').
+-- The rules of the two-round cycle (document 01, 'The fleet and its rounds'): odd rounds are for proposals, even rounds for vetoes.
 use Prim.Native.Nat.{ℕ, min}
 use mathlib.Core.Bool.{Bool, true, false, cond, not, _&&_, _||_}
-use mathlib.Core.List.{List, [], _∷_, map}
+use mathlib.Core.List.{List, [], _∷_}
 use lib.Dec.{eqb, ltb}
-use lib.ListN.{getD}
-use Rattle.basics.specs.Lists.{filled}
+use lib.ListN.{length, getD}
 use Rattle.basics.specs.Bits.{odd}
-use Rattle.air.specs.Round.{stopBit, markBit, lossBit}
-use Rattle.air.specs.Air.{Air, heard, heardBy}
+use Rattle.air.specs.Air.{Air}
 use Rattle.protocol.specs.declared.Heard.{Heard}
 use Rattle.protocol.specs.declared.Heard.the-variants.{Nothing, One, Several}
-use Rattle.protocol.specs.declared.State.{State}
 use Rattle.protocol.specs.declared.State.the-variants.{Running, Stopped, Decided}
 use Rattle.protocol.specs.declared.Truck.{Truck}
+use Rattle.protocol.specs.Cycles.{isRunning, Kind, Rules, airIn, valuesIn, playsIn, afterIn}
 
--- a truck before round 1: running, its estimate is its opening, its memory reads no mark and no value
+-- a truck of a fleet record before round 1, in any cycle: running, its estimate is its opening, its memory reads no mark and no value
 abbrev pub opened : ℕ → Truck
 opened v = record { opening = v; estimate = v; mark = false; heard = Nothing; state = Running }
+
+-- what the trucks of a fleet record show
+abbrev pub recorded : Kind Truck
+recorded = record { opened = opened; state = λ t. t .state; estimate = λ t. t .estimate }
 
 -- truck i of a list of trucks
 abbrev pub truck : List Truck → ℕ → Truck
 truck ts i = getD ts i (opened 0)
-
-abbrev pub isRunning : State → Bool
-isRunning Running = true
-isRunning (Stopped k) = false
-isRunning (Decided k) = false
 
 abbrev pub isSeveral : Heard → Bool
 isSeveral Nothing = false
@@ -83,36 +80,24 @@ vetoed k m veto t =
       state = cond (decides m veto t) (Decided k) (t .state);
     }
 
--- any protocol's round for one truck: a truck that isn't running is left alone; a running one with its stop bit set stops; any other plays
-abbrev pub turn : State → Bool → Truck → Truck → Truck → Truck
-turn Running true stopped played t = stopped
-turn Running false stopped played t = played
-turn (Stopped k) b stopped played t = t
-turn (Decided k) b stopped played t = t
-
--- round k, with the words w, of n trucks on the radio: odd rounds are for proposals, even rounds for vetoes; `active` says who would propose
-unfoldable pub airOf : ℕ → (ℕ → Bool) → ℕ → List ℕ → List Truck → Air
-airOf n active k w ts =
+-- the rules of the two-round cycle: in odd rounds a truck sends its estimate if it is active, in even rounds its veto if it has one
+abbrev pub twoRules : Rules recorded
+twoRules =
     record {
-      trucks = n;
-      running = λ i. runs (truck ts i) && not (stopBit w i);
-      sends = λ i. runs (truck ts i) && not (stopBit w i) && cond (odd k) (active i) (vetoes (truck ts i));
-      marked = markBit w;
-      lost = lossBit w;
+      sends = λ k active t. cond (odd k) active (vetoes t);
+      stops = stops;
+      plays = λ k active m vs t. cond (odd k) (proposed m (different vs) (leastOr (t .estimate) vs) t) (vetoed k m (ltb 0 (length vs)) t);
     }
 
--- the values that truck i hears in a proposal round
-unfoldable pub valuesHeard : Air → List Truck → ℕ → List ℕ
-valuesHeard a ts i = map (λ j. truck ts j .estimate) (heardBy a i)
+-- one round of it: on the radio, the values that a truck hears, what it makes of a truck that plays, and of all trucks
+abbrev pub airOf : ℕ → (ℕ → Bool) → ℕ → List ℕ → List Truck → Air
+airOf = airIn twoRules
 
--- what round k makes of truck i, if it runs and doesn't stop
-unfoldable pub plays : Air → ℕ → List ℕ → List Truck → ℕ → Truck
-plays a k w ts i =
-    cond (odd k)
-    (proposed (markBit w i) (different (valuesHeard a ts i)) (leastOr (truck ts i .estimate) (valuesHeard a ts i)) (truck ts i))
-    (vetoed k (markBit w i) (ltb 0 (heard a i)) (truck ts i))
+abbrev pub valuesHeard : Air → List Truck → ℕ → List ℕ
+valuesHeard = valuesIn recorded
 
--- the trucks after round k with the words w; places n and above stay as they are
-unfoldable pub after : ℕ → (ℕ → Bool) → ℕ → List ℕ → List Truck → List Truck
-after n active k w ts =
-    filled (λ i. turn (truck ts i .state) (stopBit w i) (stops k (truck ts i)) (plays (airOf n active k w ts) k w ts i) (truck ts i)) n ts
+abbrev pub plays : Air → ℕ → List ℕ → List Truck → ℕ → Truck
+plays = playsIn twoRules
+
+abbrev pub after : ℕ → (ℕ → Bool) → ℕ → List ℕ → List Truck → List Truck
+after = afterIn twoRules

@@ -1,4 +1,4 @@
--- Whole runs of the two-round protocol: everything follows from n, the openings and the words of the rounds.
+-- Whole runs: everything follows from n, the openings and the words of the rounds.
 use Prim.Native.Nat.{ℕ, _-_}
 use mathlib.Core.Bool.{Bool}
 use mathlib.Core.List.{List}
@@ -10,33 +10,48 @@ use Rattle.air.specs.Air.{Air, complete, majorityComplete, zeroComplete, accura
 use Rattle.air.specs.Runs.{stateAt}
 use Rattle.protocol.specs.declared.Truck.{Truck}
 use Rattle.protocol.specs.declared.Grades.{Grades}
-use Rattle.protocol.specs.Rules.{opened, airOf, after}
+use Rattle.protocol.specs.Cycles.{Kind, Rules, airIn, afterIn}
+use Rattle.protocol.specs.Rules.{recorded, twoRules}
 
--- the 32 places of a fleet that opens with these crushers; a place past the openings holds a running truck of opening and estimate 0 with empty memory
-unfoldable pub openedTrucks : List ℕ → List Truck
-openedTrucks openings = tab (λ i. opened (getD openings i 0)) 32
+-- the 32 places of a fleet that opens with these crushers; a place past the openings holds a truck of opening 0
+unfoldable pub openedIn : {T : Type 0} → Kind T → List ℕ → List T
+openedIn K openings = tab (λ i. K .opened (getD openings i 0)) 32
 
--- the trucks after k rounds. `rounds` gives the words of each round, counted from 0
-unfoldable pub trucksAt : ℕ → List ℕ → (ℕ → List ℕ) → ℕ → List Truck
-trucksAt n openings rounds k = stateAt (λ k w. after n (activeBit w) k w) (openedTrucks openings) rounds k
+module _ {T : Type 0} {K : Kind T} (c : Rules K) (n : ℕ) (openings : List ℕ) (rounds : ℕ → List ℕ) where
+  -- the trucks after k rounds. `rounds` gives the words of each round, counted from 0
+  unfoldable pub trucksIn : ℕ → List T
+  trucksIn k = stateAt (λ k w. afterIn c n (activeBit w) k w) (openedIn K openings) rounds k
 
--- round k on the radio, counted from 1
-unfoldable pub airAt : ℕ → List ℕ → (ℕ → List ℕ) → ℕ → Air
-airAt n openings rounds k =
-    let w = rounds (k - 1) in
-    airOf n (activeBit w) k w (trucksAt n openings rounds (k - 1))
-
--- the R rounds are calm from S with b: rounds S to S + 4
-unfoldable pub calm : ℕ → List ℕ → (ℕ → List ℕ) → ℕ → ℕ → ℕ → Bool
-calm n openings rounds R S b = calmFor 4 odd (airAt n openings rounds) R S b
+  -- round k on the radio, counted from 1
+  unfoldable pub airsIn : ℕ → Air
+  airsIn k =
+      let w = rounds (k - 1) in
+      airIn c n (activeBit w) k w (trucksIn (k - 1))
 
 -- a grading: for each of the four classes the first of R rounds that breaks it, or 0
-unfoldable pub gradesOf : ℕ → List ℕ → (ℕ → List ℕ) → ℕ → Grades
-gradesOf n openings rounds R =
-    let airs = airAt n openings rounds in
+unfoldable pub gradesFor : (ℕ → Air) → ℕ → Grades
+gradesFor airs R =
     record {
       complete = firstBreak complete airs R;
       majority = firstBreak majorityComplete airs R;
       zero = firstBreak zeroComplete airs R;
       accurate = firstBreak accurate airs R;
     }
+
+-- the 32 places of a fleet record before round 1; a place past the openings holds a running truck of opening and estimate 0 with empty memory
+abbrev pub openedTrucks : List ℕ → List Truck
+openedTrucks = openedIn recorded
+
+-- of the two-round cycle: the trucks after k rounds, round k on the radio, and a grading
+abbrev pub trucksAt : ℕ → List ℕ → (ℕ → List ℕ) → ℕ → List Truck
+trucksAt = trucksIn twoRules
+
+abbrev pub airAt : ℕ → List ℕ → (ℕ → List ℕ) → ℕ → Air
+airAt = airsIn twoRules
+
+abbrev pub gradesOf : ℕ → List ℕ → (ℕ → List ℕ) → ℕ → Grades
+gradesOf n openings rounds = gradesFor (airAt n openings rounds)
+
+-- the R rounds are calm from S with b: rounds S to S + 4
+unfoldable pub calm : ℕ → List ℕ → (ℕ → List ℕ) → ℕ → ℕ → ℕ → Bool
+calm n openings rounds R S b = calmFor 4 odd (airAt n openings rounds) R S b

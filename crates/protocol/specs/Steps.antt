@@ -8,12 +8,15 @@ use Rattle.refusals.specs.Numbers.{accepted}
 use Rattle.recording.specs.Packed.{joined, packed}
 use Rattle.recording.specs.Checks.{roundCheck}
 use Rattle.protocol.specs.declared.Fleet.{Fleet}
-use Rattle.protocol.specs.Fleets.{stepped}
+use Rattle.protocol.specs.Fleets.{Protocol, twoRound, steppedIn}
 
 -- the record returned last by a list of steps, each on what the step before it returned
-unfoldable pub lastRecord : Fleet → List (List ℕ) → Fleet
-lastRecord f [] = f
-lastRecord f (w ∷ ws) = lastRecord (stepped f w .fleet) ws
+unfoldable pub lastRecordIn : Protocol → Fleet → List (List ℕ) → Fleet
+lastRecordIn p f [] = f
+lastRecordIn p f (w ∷ ws) = lastRecordIn p (steppedIn p f w .fleet) ws
+
+abbrev pub lastRecord : Fleet → List (List ℕ) → Fleet
+lastRecord = lastRecordIn twoRound
 
 -- a round is taken if neither 8 nor 6 holds of it and fewer than 400 were taken before; c were
 unfoldable pub isTaken : ℕ → ℕ → List ℕ → Bool

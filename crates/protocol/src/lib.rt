@@ -1,4 +1,5 @@
-// The fleet record and the answers about it. specs/ has the rules of the two-round protocol, proofs/Demand3 the theorem about whole lists of steps and whole runs; there is no code here.
+// The fleet record and the answers about it. specs/ has the rules of a round, runs, steps and the claim for any cycle of rounds, with document 01's
+// two-round protocol as an instance; proofs/Demand3 has the theorem about whole lists of steps and whole runs. There is no code here.
 use refusals::Outcome;
 use refusals::Refusal;
 

@@ -16,13 +16,13 @@ use Rattle.protocol.specs.declared.Truck.{Truck}
 use Rattle.protocol.specs.declared.Fleet.{Fleet}
 use Rattle.protocol.specs.Rules.{opened, truck}
 use Rattle.air.specs.Runs.{stateAt}
-use Rattle.protocol.specs.Runs.{openedTrucks, trucksAt}
-use Rattle.protocol.specs.Fleets.{blank, goodTruck, goodFleet}
+use Rattle.protocol.specs.Runs.{openedTrucks, trucksAt, trucksIn}
+use Rattle.protocol.specs.Fleets.{blank, goodTruck, goodFleet, goodFleetIn}
 use Rattle.start.specs.Opens.{openFleet}
 
 -- a run before round 1
 pub length-start : (n : ℕ) (openings : List ℕ) (rounds : ℕ → List ℕ) → length (trucksAt n openings rounds 0) ≡ 32
-unfolding trucksAt stateAt
+unfolding trucksIn stateAt
 length-start n openings rounds = length-opened openings
 
 module _ (openings : List ℕ) where
@@ -65,13 +65,13 @@ module _ (n : ℕ) (openings : List ℕ) where
 
 -- refusal 7, test by test
 pub bad-count : (f : Fleet) → badTrucks (f .n) ≡ true → goodFleet f ≡ false
-unfolding goodFleet
+unfolding goodFleetIn
 bad-count f h = rw h
 
 pub bad-done : (f : Fleet) → badTrucks (f .n) ≡ false → 400 < f .done → goodFleet f ≡ false
-unfolding goodFleet
+unfolding goodFleetIn
 bad-done f h l = rw (h, lt-leb (f .done) 400 l)
 
 pub good-count : (f : Fleet) → badTrucks (f .n) ≡ false → f .done ≤ 400 → goodFleet f ≡ allBelow (λ i. goodTruck (f .done) (truck (f .trucks) i)) (f .n)
-unfolding goodFleet
+unfolding goodFleetIn
 good-count f h l = rw (h, le-leb (f .done) 400 l)

@@ -1,8 +1,9 @@
 -- What a round makes of one truck (document 01, 'The fleet and its rounds').
 use Prim.Native.Nat.{ℕ}
 use mathlib.Core.Bool.{false}
+use Rattle.protocol.specs.Cycles.{turn}
 use Rattle.protocol.specs.declared.Truck.{Truck}
-use Rattle.protocol.specs.Rules.{stops, proposed, vetoed, turn}
+use Rattle.protocol.specs.Rules.{stops, proposed, vetoed}
 use Rattle.truck.specs.declared.Event.{Event}
 use Rattle.truck.specs.declared.Event.the-variants.{Stop, Proposals, Vetoes}
 

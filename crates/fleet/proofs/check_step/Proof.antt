@@ -2,20 +2,20 @@
 use mathlib.Core.Path.{sym, _∙_}
 use borrow.Author.Tests.{eq-eqb, ne-eqb, not-true, not-false}
 use borrow.Author.Needs.{needs}
-use Rattle.protocol.specs.Fleets.{stepCheck}
+use Rattle.protocol.specs.Fleets.{stepCheckIn}
 use Rattle.fleet.proofs.check_step.Statement.{statement}
 use Rattle.fleet.proofs.check_step.Tie as tie
 
 returns : tie.Need-returns
-unfolding stepCheck
+unfolding stepCheckIn
 returns c = rw (sym (c .before .good-fleet .ensures) ∙ not-true _ (c .if1 .taken))
 
 returns-2 : tie.Need-returns-2
-unfolding stepCheck
+unfolding stepCheckIn
 returns-2 c = rw (sym (c .before .before .before .good-fleet .ensures) ∙ not-false _ (c .before .before .if1 .left), eq-eqb _ 400 (c .if2 .taken))
 
 returns-3 : tie.Need-returns-3
-unfolding stepCheck
+unfolding stepCheckIn
 returns-3 c = rw (sym (c .before .before .before .before .good-fleet .ensures) ∙ not-false _ (c .before .before .before .if1 .left), ne-eqb _ 400 (c .before .if2 .left)) (c .check-round .ensures)
 
 pub check-step-spec : {M : Type 1} → statement M

@@ -1,7 +1,7 @@
 -- `grade` meets its contract.
 use mathlib.Core.Path.{sym, _∙_}
 use borrow.Author.Needs.{needs}
-use Rattle.protocol.specs.Fleets.{graded}
+use Rattle.protocol.specs.Fleets.{gradedIn}
 use Rattle.fleet.specs.Replays.{gradesAfter}
 use Rattle.fleet.proofs.grade.Statement.{statement}
 use Rattle.fleet.proofs.grade.Tie as tie
@@ -10,11 +10,11 @@ replay-requires : tie.Need-replay-requires
 replay-requires c κs = sym (c .before .before .check .ensures) ∙ c .enum-told .given .1
 
 returns : tie.Need-returns
-unfolding graded gradesAfter
+unfolding gradedIn gradesAfter
 returns c = rw (sym (c .before .before .before .before .check .ensures) ∙ c .before .before .enum-told .given .1, c .before .replay .ensures .marks)
 
 returns-2 : tie.Need-returns-2
-unfolding graded
+unfolding gradedIn
 returns-2 c = rw (sym (c .before .before .before .check .ensures) ∙ c .before .outcome .given .1)
 
 pub grade-spec : {M : Type 1} → statement M

@@ -1,7 +1,7 @@
 -- `run` meets its contract.
 use mathlib.Core.Path.{sym, _∙_}
 use borrow.Author.Needs.{needs}
-use Rattle.protocol.specs.Fleets.{ran}
+use Rattle.protocol.specs.Fleets.{ranIn}
 use Rattle.fleet.proofs.run.Statement.{statement}
 use Rattle.fleet.proofs.run.Tie as tie
 
@@ -9,11 +9,11 @@ replay-requires : tie.Need-replay-requires
 replay-requires c κs = sym (c .before .before .check .ensures) ∙ c .enum-told .given .1
 
 returns : tie.Need-returns
-unfolding ran
+unfolding ranIn
 returns c = rw (sym (c .before .before .before .before .check .ensures) ∙ c .before .before .enum-told .given .1, c .before .replay .ensures .fleet)
 
 returns-2 : tie.Need-returns-2
-unfolding ran
+unfolding ranIn
 returns-2 c = c .refused .ensures ∙ rw (sym (c .before .before .before .before .check .ensures) ∙ c .before .before .outcome .given .1)
 
 pub run-spec : {M : Type 1} → statement M

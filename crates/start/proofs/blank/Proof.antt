@@ -1,13 +1,13 @@
 -- `blank` meets its contract.
 use borrow.Author.Needs.{needs}
 use Rattle.basics.specs.Lists.{tab, tabFrom}
-use Rattle.protocol.specs.Runs.{openedTrucks}
+use Rattle.protocol.specs.Runs.{openedIn}
 use Rattle.protocol.specs.Fleets.{blank}
 use Rattle.start.proofs.blank.Statement.{statement}
 use Rattle.start.proofs.blank.Tie as tie
 
 returns : tie.Need-returns
-unfolding blank openedTrucks tab tabFrom
+unfolding blank openedIn tab tabFrom
 returns c = rw (c .opened .ensures)
 
 pub blank-spec : {M : Type 1} → statement M

@@ -1,11 +1,11 @@
 -- `good_truck` meets its contract.
 use borrow.Author.Needs.{needs}
-use Rattle.protocol.specs.Fleets.{goodTruck}
+use Rattle.protocol.specs.Fleets.{goodTruckIn}
 use Rattle.start.proofs.good_truck.Statement.{statement}
 use Rattle.start.proofs.good_truck.Tie as tie
 
 returns : tie.Need-returns
-unfolding goodTruck
+unfolding goodTruckIn
 returns c = rw (c .good-state .ensures, c .before .before .before .is-empty .ensures, c .before .before .before .before .runs .ensures, c .before .before .before .before .before .is-odd .ensures)
 
 pub good-truck-spec : {M : Type 1} → statement M

@@ -1,4 +1,4 @@
--- One round of any cycle: what depends only on stops and hearing (document 01, 'The fleet and its rounds').
+-- One round of any cycle: what depends only on stops and hearing (document 01, 'The fleet and its rounds'). The laws of it are in proofs/AnyRound.
 use Prim.Native.Nat.{ℕ}
 use mathlib.Core.Bool.{Bool, true, false, not, _&&_}
 use mathlib.Core.List.{List, map}

@@ -1,4 +1,5 @@
--- Starting, stepping, running and grading a fleet, with their refusals (document 01, 'Who can cause which refusal').
+-- Starting, stepping, running and grading a fleet, with their refusals (document 01, 'Who can cause which refusal'). The laws of what refusal 7 asks are in
+-- proofs/Good.
 use Prim.Native.Nat.{ℕ, _+_}
 use mathlib.Core.Bool.{Bool, true, false, not, _&&_, _||_}
 use mathlib.Core.List.{List, []}

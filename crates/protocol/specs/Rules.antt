@@ -1,16 +1,17 @@
--- The rules of the two-round cycle (document 01, 'The fleet and its rounds'): odd rounds are for proposals, even rounds for vetoes.
+-- The rules of the two-round cycle (document 01, 'The fleet and its rounds'): odd rounds are for proposals, even rounds for vetoes. Their laws are in proofs/Rules
+-- and, for lists of values, in proofs/Values.
 use Prim.Native.Nat.{ℕ, min}
 use mathlib.Core.Bool.{Bool, true, false, cond, not, _&&_, _||_}
 use mathlib.Core.List.{List, [], _∷_}
 use lib.Dec.{eqb, ltb}
-use lib.ListN.{length, getD}
+use lib.ListN.{length}
 use Rattle.basics.specs.Bits.{odd}
 use Rattle.air.specs.Air.{Air}
 use Rattle.protocol.specs.declared.Heard.{Heard}
 use Rattle.protocol.specs.declared.Heard.the-variants.{Nothing, One, Several}
 use Rattle.protocol.specs.declared.State.the-variants.{Running, Stopped, Decided}
 use Rattle.protocol.specs.declared.Truck.{Truck}
-use Rattle.protocol.specs.Cycles.{isRunning, Kind, Rules, airIn, valuesIn, playsIn, afterIn}
+use Rattle.protocol.specs.Cycles.{Kind, Rules, truckIn, runsIn, valuesIn, airIn, playsIn, afterIn}
 
 -- a truck of a fleet record before round 1, in any cycle: running, its estimate is its opening, its memory reads no mark and no value
 abbrev pub opened : ℕ → Truck
@@ -22,7 +23,11 @@ recorded = record { opened = opened; state = λ t. t .state; estimate = λ t. t 
 
 -- truck i of a list of trucks
 abbrev pub truck : List Truck → ℕ → Truck
-truck ts i = getD ts i (opened 0)
+truck = truckIn recorded
+
+-- the truck is running
+abbrev pub runs : Truck → Bool
+runs = runsIn recorded
 
 abbrev pub isSeveral : Heard → Bool
 isSeveral Nothing = false
@@ -33,10 +38,6 @@ abbrev pub isOne : Heard → Bool
 isOne Nothing = false
 isOne One = true
 isOne Several = false
-
--- the truck is running
-abbrev pub runs : Truck → Bool
-runs t = isRunning (t .state)
 
 -- the truck sends a veto if in the round before it had a mark or heard several different values
 abbrev pub vetoes : Truck → Bool

@@ -1,16 +1,16 @@
--- Laws of what is sent, heard and missed in one round.
-use mathlib.Core.Path.{_≡_, refl, ap, ap₂, sym, _∙_}
+-- Laws of what is sent, heard and missed in one round, and of calm rounds.
+use mathlib.Core.Path.{_≡_, refl, ap, ap₂, sym, subst, _∙_}
 use mathlib.Core.Bool.{Bool, true, false, cond, not, _&&_, _||_, true≢false, false≢true}
 use mathlib.Core.List.{List, [], _∷_, _++_}
-use Prim.Native.Nat.{ℕ, zero, suc, _+_, _*_, _≤_, _<_}
+use Prim.Native.Nat.{ℕ, zero, suc, _+_, _-_, _*_, _≤_, _<_}
 use native.Mathlib.Decide.{decLt}
 use native.Mathlib.Omega.{arith}
-use borrow.Author.Tests.{ltb-true, lt-ltb, leb-false, eq-eqb, eqb-true, not-true}
+use borrow.Author.Tests.{ltb-true, lt-ltb, leb-true, leb-false, eq-eqb, eqb-true, not-true}
 use lib.Dec.{ltb, leb, eqb}
 use lib.ListN.{length, length-append}
-use Rattle.basics.specs.Lists.{who, someBelow}
+use Rattle.basics.specs.Lists.{who, allBelow, someBelow}
 use Rattle.basics.proofs.Laws.{and-left, and-right, and-both, allBelow-at, allBelow-all, someBelow-at, someBelow-by, someBelow-none, none-someBelow}
-use Rattle.air.specs.Air.{Air, implies, sent, hears, heardBy, heard, misses, missesAny, judged, majorityComplete, zeroComplete, accurate, inFull, fewSenders, someRunning, calmRound}
+use Rattle.air.specs.Air.{Air, implies, sent, hears, heardBy, heard, misses, missesAny, judged, majorityComplete, zeroComplete, accurate, inFull, fewSenders, someRunning, calmRound, calmFor}
 
 -- how many of the first m have p
 abbrev count : (ℕ → Bool) → ℕ → ℕ
@@ -262,3 +262,22 @@ unfolding calmRound
 calm-accurate b proposes a c =
     and-left (accurate a) (implies (fewSenders b a) (inFull a))
     (and-left (accurate a && implies (fewSenders b a) (inFull a)) (implies (proposes && someRunning a) (fewSenders b a)) c)
+
+-- the rounds S to S + d are calm with b
+abbrev pub CalmRounds : ℕ → (ℕ → Bool) → (ℕ → Air) → ℕ → ℕ → Type 0
+CalmRounds d proposes airs S b = (k : ℕ) → S ≤ k → k ≤ S + d → calmRound b (proposes k) (airs k) ≡ true
+
+-- what calm says, round by round
+pub calm-parts : (d : ℕ) (proposes : ℕ → Bool) (airs : ℕ → Air) (R S b : ℕ) → calmFor d proposes airs R S b ≡ true
+    → (1 ≤ S) × (S + d ≤ R) × CalmRounds d proposes airs S b
+unfolding calmFor
+calm-parts d proposes airs R S b h =
+    let front = and-left (leb 1 S && leb (S + d) R) (allBelow round (suc d)) h in (
+      leb-true 1 S (and-left (leb 1 S) (leb (S + d) R) front),
+      leb-true (S + d) R (and-right (leb 1 S) (leb (S + d) R) front),
+      λ k s l. subst (λ (j : ℕ). calmRound b (proposes j) (airs j) ≡ true) (let e : S + (k - S) ≡ k = omega arith in e)
+          (allBelow-at round (suc d) (and-right (leb 1 S && leb (S + d) R) (allBelow round (suc d)) h) (k - S) (omega arith)),
+    )
+  where
+    round : ℕ → Bool
+    round e = calmRound b (proposes (S + e)) (airs (S + e))

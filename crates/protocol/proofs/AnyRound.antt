@@ -26,9 +26,8 @@ turn-cases P Running false stopped played t idle stop play = play refl refl
 turn-cases P (Stopped r) b stopped played t idle stop play = idle refl
 turn-cases P (Decided r) b stopped played t idle stop play = idle refl
 
--- what a cycle has to show of states: trucks open running, and a stop and a decision hold their rounds
+-- what a cycle has to show of states: a stop and a decision hold their rounds
 pub record Stamps {T : Type 0} {K : Kind T} (c : Rules K) : Type 0 where
-  pub opened : (v : ℕ) → K .state (K .opened v) ≡ Running
   pub stops : (k : ℕ) (t : T) → K .state (c .stops k t) ≡ Stopped k
   pub plays : (k : ℕ) (b m : Bool) (vs : List ℕ) (t : T) → runsIn K t ≡ true
       → (K .state (c .plays k b m vs t) ≡ Running) ⊎ (K .state (c .plays k b m vs t) ≡ Decided k)

@@ -6,20 +6,21 @@ use mathlib.Core.Logic.{_⊎_, ⊎-elim}
 use Prim.Native.Nat.{ℕ, _+_, _≤_}
 use native.Mathlib.Omega.{arith}
 use lib.ListN.{length}
+use Rattle.air.proofs.Laws.{CalmRounds, calm-parts}
 use Rattle.refusals.specs.declared.Outcome.the-variants.{Accepted}
 use Rattle.recording.specs.Packed.{trucksOf, roundsOf, openingsOf, roundAt}
 use Rattle.recording.specs.Checks.{checkOf}
 use Rattle.recording.proofs.Accepted.{GoodOpenings, openings-in, bytes-good}
 use Rattle.recording.proofs.RoundTrip.{openings-read}
 use Rattle.protocol.specs.declared.Fleet.{Fleet}
-use Rattle.protocol.specs.Rules.{recorded}
+use Rattle.protocol.specs.Rules.{recorded, truck}
 use Rattle.protocol.specs.Runs.{openedTrucks, trucksIn, airsIn}
 use Rattle.protocol.specs.Fleets.{Protocol, blank, startCheck, started, fleetIn, ranIn}
 use Rattle.protocol.specs.Steps.{taken, roundIn}
 use Rattle.protocol.specs.Claims.{Agreed, WorthMarks, calmIn, ClaimIn, StepsClaimIn, RunClaimIn, DemandIn}
 use Rattle.protocol.proofs.AnyRound.{Takes, EndedIn, UndecidedIn, SettledIn}
-use Rattle.protocol.proofs.AnyRun.{CalmRounds, calm-parts, estimates-open, ended-by}
-use Rattle.protocol.proofs.Good.{Sound}
+use Rattle.protocol.proofs.AnyRun.{estimates-open, ended-kept}
+use Rattle.protocol.proofs.Good.{Sound, state-ended, good-at}
 use Rattle.protocol.proofs.Steps.{accepted-by, Start, start-by, taken-few, step-outcome, steps-are, recording-run}
 
 -- what R rounds leave of up to 32 trucks, where nobody has decided or all hold one crusher
@@ -52,9 +53,12 @@ module _ (p : Protocol) (facts : Facts p) where
   claim-at n openings rounds R small good =
       record {
         agreement = λ marks. agreed-by p (facts .sound .takes) n openings rounds R small (facts .agrees n openings rounds R small good marks);
-        deciding = λ S b h.
+        deciding = λ S b h i l.
             (let c = calm-parts (p .calmSpan) (p .proposes) (airsIn (p .rules) n openings rounds) R S b h in
-            ended-by (p .rules) n openings rounds small (facts .sound .stamps) (S + p .calmSpan) R (c .1) (facts .ends n openings rounds S b (c .0) (c .2)));
+            let e = facts .ends n openings rounds S b (c .0) (c .2) in
+            rw (ended-kept (p .rules) n openings rounds (S + p .calmSpan) R (c .1) e i l)
+            (state-ended p (S + p .calmSpan) (truck (trucksIn (p .rules) n openings rounds (S + p .calmSpan)) i .state) (e i l)
+            (good-at p (facts .sound) n openings small good rounds (S + p .calmSpan) i l .state)));
       }
 
   steps-claim : (n : ℕ) (openings : List ℕ) (steps : List (List ℕ)) → started n openings .outcome ≡ Accepted → StepsClaimIn p n openings steps

@@ -1,22 +1,27 @@
 -- Laws of what refusal 7 asks of a truck; and a record that it lets pass is one after a round, too, by any protocol.
 use mathlib.Core.Path.{_≡_, refl, ap, _∙_}
-use mathlib.Core.Bool.{Bool, true, false, _&&_}
+use mathlib.Core.Bool.{Bool, true, false, _&&_, true≢false}
 use mathlib.Core.List.{List}
 use mathlib.Core.Logic.{_⊎_, inl, inr}
-use Prim.Native.Nat.{ℕ, suc, _<_}
+use Prim.Native.Nat.{ℕ, suc, _≤_, _<_}
 use native.Mathlib.Omega.{arith}
 use borrow.Author.Tests.{lt-ltb, le-leb, leb-true}
 use lib.Dec.{ltb, leb}
+use lib.ListN.{getD}
 use Rattle.basics.proofs.Laws.{and-left, and-right, and-both}
 use Rattle.air.specs.Round.{activeBit}
 use Rattle.air.specs.Air.{Air}
+use Rattle.recording.proofs.Accepted.{GoodOpenings}
 use Rattle.protocol.specs.declared.State.{State}
 use Rattle.protocol.specs.declared.State.the-variants.{Running, Stopped, Decided}
 use Rattle.protocol.specs.declared.Truck.{Truck}
-use Rattle.protocol.specs.Cycles.{valuesIn}
+use Rattle.protocol.specs.Cycles.{isRunning, valuesIn}
 use Rattle.protocol.specs.Rules.{opened, recorded, truck, runs}
+use Rattle.protocol.specs.Runs.{trucksIn}
 use Rattle.protocol.specs.Fleets.{Protocol, isDone, goodStateIn, goodTruckIn}
+use Rattle.protocol.specs.Claims.{EndedBy}
 use Rattle.protocol.proofs.AnyRound.{Stamps, Takes, air, next, after-cases, plays-is, estimate-next}
+use Rattle.protocol.proofs.AnyRun.{opened-truck, throughout}
 
 -- what refusal 7 asks of one truck, part by part
 pub record Good (p : Protocol) (done : ℕ) (t : Truck) : Type 0 where
@@ -66,6 +71,12 @@ module _ (p : Protocol) (done : ℕ) where
       → goodStateIn p (suc done) s ≡ true
   state-played s h (inl e) = rw e
   state-played s h (inr e) = rw e (and-both (isDone (suc done) (suc done)) (p .decisions (suc done)) (done-now done) (h e))
+
+-- a stop or a decision is not later than the rounds done
+pub state-ended : (p : Protocol) (done : ℕ) (s : State) → isRunning s ≡ false → goodStateIn p done s ≡ true → EndedBy done s
+state-ended p done Running r h = absurd (true≢false r)
+state-ended p done (Stopped k) r h = leb-true k done (and-right (ltb 0 k) (leb k done) h)
+state-ended p done (Decided k) r h = leb-true k done (and-right (ltb 0 k) (leb k done) (and-left (isDone done k) (p .decisions k) h))
 
 -- what a protocol has to show of its rules: nothing of it speaks of a round on the radio
 pub record Sound (p : Protocol) : Type 0 where
@@ -126,3 +137,15 @@ module _ (p : Protocol) (sound : Sound p) (n : ℕ) (active : ℕ → Bool) (don
         state = r .1;
         memory = r .2;
       }
+
+-- every record of a run
+pub good-at : (p : Protocol) → Sound p → (n : ℕ) (openings : List ℕ) → n ≤ 32 → GoodOpenings n openings → (rounds : ℕ → List ℕ) (k i : ℕ) → i < n
+    → Good p k (truck (trucksIn (p .rules) n openings rounds k) i)
+good-at p sound n openings small good rounds k =
+    throughout (p .rules) n openings rounds (λ k ts. (i : ℕ) → i < n → Good p k (truck ts i)) k
+    (λ i l.
+    let o : leb (getD openings i 0) 15 ≡ true = le-leb (getD openings i 0) 15 (good .opening i l) in
+    rw (opened-truck (p .rules) n openings rounds i (omega arith))
+    (record { opening = o; estimate = o; state = refl; memory = sound .opened-memory (getD openings i 0) }))
+    (λ k l h. good-next p sound n (activeBit (rounds k)) k (rounds k) (trucksIn (p .rules) n openings rounds k) h)
+    k (omega arith)

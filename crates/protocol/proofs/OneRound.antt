@@ -27,7 +27,6 @@ pub sound-two : Sound twoRound
 sound-two =
     record {
       stamps = record {
-        opened = λ v. refl;
         stops = λ k t. refl;
         plays = λ k b m vs t h.
             plays-cases k b m vs t (λ (u : Truck). (u .state ≡ Running) ⊎ (u .state ≡ Decided k))

@@ -6,7 +6,7 @@ use Prim.Native.Nat.{ℕ, zero, suc, _+_, _≤_, _<_}
 use native.Mathlib.Numerals.{add-one}
 use native.Mathlib.Omega.{arith}
 use borrow.Author.Tests.{lt-ltb, le-ltb, le-leb, ltb-true, eqb-true, eqb-false}
-use lib.Dec.{leb, ltb, eqb}
+use lib.Dec.{ltb, eqb}
 use lib.ListN.{length, getD, length-append, List·getD-append}
 use lib.Seq.{getD-append-seam}
 use Rattle.basics.proofs.Laws.{and-left, and-right, allBelow-all}
@@ -28,8 +28,8 @@ use Rattle.protocol.specs.Rules.{recorded, truck}
 use Rattle.protocol.specs.Runs.{trucksIn, openedTrucks}
 use Rattle.protocol.specs.Fleets.{Protocol, answer, blank, startCheck, started, goodTruckIn, goodFleetIn, stepCheckIn, nextFleetIn, steppedIn, fleetIn, ranIn}
 use Rattle.protocol.specs.Steps.{lastRecordIn, isTaken, takenFrom, taken, roundIn, recordingOf}
-use Rattle.protocol.proofs.AnyRun.{rounds-ext, at-suc, opened-truck, throughout}
-use Rattle.protocol.proofs.Good.{Good, Sound, good-whole, good-next}
+use Rattle.protocol.proofs.AnyRun.{rounds-ext, at-suc}
+use Rattle.protocol.proofs.Good.{Sound, good-whole, good-at}
 
 -- what was taken: rounds that 8 and 6 accept, and no more than 400
 pub taken-accepted : (n c : ℕ) (ws : List (List ℕ)) (k : ℕ) → k < length (takenFrom n c ws) → roundCheck n (getD (takenFrom n c ws) k []) ≡ Accepted
@@ -93,20 +93,11 @@ module _ (p : Protocol) (sound : Sound p) (n : ℕ) (openings : List ℕ) (start
   c = p .rules
 
   -- every record on the way passes refusal 7
-  good-at : (rounds : ℕ → List ℕ) (k i : ℕ) → i < n → Good p k (truck (trucksIn c n openings rounds k) i)
-  good-at rounds k =
-      throughout c n openings rounds (λ k ts. (i : ℕ) → i < n → Good p k (truck ts i)) k
-      (λ i l.
-      let o : leb (getD openings i 0) 15 ≡ true = le-leb (getD openings i 0) 15 (openings-in n openings (start .crushers) .opening i l) in
-      rw (opened-truck c n openings rounds i (omega (arith, start .most))) (record { opening = o; estimate = o; state = refl; memory = sound .opened-memory (getD openings i 0) }))
-      (λ k l h. good-next p sound n (activeBit (rounds k)) k (rounds k) (trucksIn c n openings rounds k) h)
-      k (omega arith)
-
   pub good-fleet : (rounds : ℕ → List ℕ) (k : ℕ) → k ≤ 400 → goodFleetIn p (fleetIn p n openings rounds k) ≡ true
   unfolding goodFleetIn fleetIn
   good-fleet rounds k l =
       rw (start .trucks, le-leb k 400 l)
-      (allBelow-all (λ i. goodTruckIn p k (truck (trucksIn c n openings rounds k) i)) n (λ i li. good-whole p k (truck (trucksIn c n openings rounds k) i) (good-at rounds k i li)))
+      (allBelow-all (λ i. goodTruckIn p k (truck (trucksIn c n openings rounds k) i)) n (λ i li. good-whole p k (truck (trucksIn c n openings rounds k) i) (good-at p sound n openings (start .most) (openings-in n openings (start .crushers)) rounds k i li)))
 
   -- of such a record a step can only be refused 14, 8 and 6
   pub step-outcome : (rounds : ℕ → List ℕ) (k : ℕ) (w : List ℕ) → k ≤ 400

@@ -9,13 +9,13 @@ use Rattle.basics.specs.Bits.{odd}
 use Rattle.basics.proofs.Laws.{odd-suc}
 use Rattle.air.specs.Round.{activeBit}
 use Rattle.air.specs.Air.{calmRound}
-use Rattle.air.proofs.Laws.{majority-zero}
+use Rattle.air.proofs.Laws.{majority-zero, CalmRounds}
 use Rattle.protocol.specs.declared.Truck.{Truck}
 use Rattle.protocol.specs.Rules.{recorded, twoRules, isOne, after}
 use Rattle.protocol.specs.Runs.{trucksAt, airAt}
 use Rattle.protocol.specs.Claims.{isDecided, MajorityMarks, MixedMarks}
 use Rattle.protocol.proofs.AnyRound.{EndedIn, UndecidedIn, SettledIn}
-use Rattle.protocol.proofs.AnyRun.{CalmRounds, at-suc, air-suc, opened-truck, ended-on, agrees-by}
+use Rattle.protocol.proofs.AnyRun.{at-suc, air-suc, opened-truck, ended-on, agrees-by}
 use Rattle.protocol.proofs.OneRound.{sound-two}
 use Rattle.protocol.proofs.Agree.{Open, open-proposal, open-veto}
 use Rattle.protocol.proofs.Settle.{Same, Ready, calm-same, calm-ready, veto-same, calm-ended}
@@ -29,7 +29,7 @@ module _ (n : ℕ) (openings : List ℕ) (rounds : ℕ → List ℕ) where
     pub mixed-agrees : (R : ℕ) → MixedMarks n openings rounds R
         → UndecidedIn recorded n (trucksAt n openings rounds R) ⊎ SettledIn recorded n (trucksAt n openings rounds R)
     mixed-agrees R marks =
-        agrees-by twoRules n openings rounds small (sound-two .stamps) (sound-two .takes) (λ k ts. Open n ts) (λ k ts o. o .nobody) R
+        agrees-by twoRules n openings rounds (sound-two .stamps) (sound-two .takes) (λ k ts. Open n ts) (λ k ts o. o .nobody) R
         (record {
           nobody = λ i l. ap (λ (t : Truck). isDecided (t .state)) (opened-truck twoRules n openings rounds i (omega arith));
           alike = λ i j li lj ri rj vi vj oi. absurd (false≢true (sym (ap (λ (t : Truck). isOne (t .heard)) (opened-truck twoRules n openings rounds i (omega arith))) ∙ oi));

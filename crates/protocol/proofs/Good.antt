@@ -90,7 +90,7 @@ pub record Sound (p : Protocol) : Type 0 where
   -- memories stay good
   pub opened-memory : (v : ℕ) → p .goodMemory 0 (opened v) ≡ true
   pub idle-memory : (done : ℕ) (t : Truck) → runs t ≡ false → p .goodMemory done t ≡ true → p .goodMemory (suc done) t ≡ true
-  pub stops-memory : (done : ℕ) (t : Truck) → p .goodMemory (suc done) (p .rules .stops (suc done) t) ≡ true
+  pub stops-memory : (done : ℕ) (t : Truck) → runs t ≡ true → p .goodMemory done t ≡ true → p .goodMemory (suc done) (p .rules .stops (suc done) t) ≡ true
   pub plays-memory : (done : ℕ) (b m : Bool) (vs : List ℕ) (t : Truck) → runs t ≡ true → p .goodMemory done t ≡ true
       → p .goodMemory (suc done) (p .rules .plays (suc done) b m vs t) ≡ true
 
@@ -115,7 +115,7 @@ module _ (p : Protocol) (sound : Sound p) (n : ℕ) (active : ℕ → Bool) (don
       (λ h s. (
         ap (λ (v : ℕ). leb v 15) (sound .stops-opening (suc done) t) ∙ g .opening,
         state-stopped p done (p .rules .stops (suc done) t .state) (sound .stamps .stops (suc done) t),
-        sound .stops-memory done t,
+        sound .stops-memory done t h (g .memory),
       ))
       (λ h r.
       let b = activeBit w i in

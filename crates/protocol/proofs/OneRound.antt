@@ -46,7 +46,7 @@ sound-two =
           (λ e d. absurd (false≢true (sym (ap isRunning d) ∙ h))) (λ e d. ap not e);
       opened-memory = λ v. refl;
       idle-memory = λ done t h g. memory-idle (suc done) t h ∙ sym (memory-idle done t h) ∙ g;
-      stops-memory = λ done t. memory-idle (suc done) (stops (suc done) t) refl;
+      stops-memory = λ done t h g. memory-idle (suc done) (stops (suc done) t) refl;
       plays-memory = λ done b m vs t h g.
           plays-cases (suc done) b m vs t (λ (u : Truck). twoMemory (suc done) u ≡ true)
           (λ e. memory-odd (suc done) (proposed m (different vs) (leastOr (t .estimate) vs) t) e h)

@@ -18,7 +18,7 @@ use Rattle.refusals.specs.declared.Outcome.the-variants.{Accepted, Refused}
 use Rattle.refusals.specs.Numbers.{accepted}
 use Rattle.recording.specs.Packed.{trucksOf, roundsOf, openingsOf, wordsOf, roundAt, packed, joined}
 use Rattle.recording.specs.Checks.{refuse, badTrucks, badOpenings, checkOf, roundCheck}
-use Rattle.recording.proofs.Accepted.{refuse-false, refuse-rest, trucks-in, openings-in}
+use Rattle.recording.proofs.Accepted.{GoodOpenings, refuse-false, refuse-rest, trucks-in, openings-in}
 use Rattle.recording.proofs.RoundTrip.{read-back}
 use Rattle.recording.proofs.Rounds.{joined-accepted, round-back}
 use Rattle.protocol.specs.declared.Truck.{Truck}
@@ -97,7 +97,11 @@ module _ (p : Protocol) (sound : Sound p) (n : ℕ) (openings : List ℕ) (start
   unfolding goodFleetIn fleetIn
   good-fleet rounds k l =
       rw (start .trucks, le-leb k 400 l)
-      (allBelow-all (λ i. goodTruckIn p k (truck (trucksIn c n openings rounds k) i)) n (λ i li. good-whole p k (truck (trucksIn c n openings rounds k) i) (good-at p sound n openings (start .most) (openings-in n openings (start .crushers)) rounds k i li)))
+      (allBelow-all (λ i. goodTruckIn p k (truck (trucksIn c n openings rounds k) i)) n
+      (λ i li. good-whole p k (truck (trucksIn c n openings rounds k) i) (good-at p sound n openings (start .most) good rounds k i li)))
+    where
+      good : GoodOpenings n openings
+      good = openings-in n openings (start .crushers)
 
   -- of such a record a step can only be refused 14, 8 and 6
   pub step-outcome : (rounds : ℕ → List ℕ) (k : ℕ) (w : List ℕ) → k ≤ 400

@@ -1,5 +1,5 @@
 -- Laws of the two-round rules for one truck: who sends and who vetoes, who decides, what each kind of round makes of a truck that plays it, and what
--- refusal 7 asks of its memory. The proofs go by cases and not by the text of the rules. A truck with other memory than t is `proposed` of t.
+-- refusal 7 asks of its memory. Where they can, the proofs go by cases and not by the text of the rules. A truck with other memory than t is `proposed` of t.
 use mathlib.Core.Path.{_≡_, refl, sym, subst}
 use mathlib.Core.Bool.{Bool, true, false, true≢false, false≢true}
 use mathlib.Core.List.{List}

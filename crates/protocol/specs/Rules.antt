@@ -81,7 +81,8 @@ vetoed k m veto t =
       state = cond (decides m veto t) (Decided k) (t .state);
     }
 
--- the rules of the two-round cycle: in odd rounds a truck sends its estimate if it is active, in even rounds its veto if it has one
+-- the rules of the two-round cycle: in odd rounds a truck sends its estimate if it is active, in even rounds its veto if it has one; whoever is heard in an even
+-- round sent a veto, so a truck heard a veto if it heard anybody
 abbrev pub twoRules : Rules recorded
 twoRules =
     record {

@@ -5,7 +5,7 @@ use native.Mathlib.Nat.{mod-lt, mod-eq-of-lt, mul-le-mul-right, pow-suc, div-div
 use native.Mathlib.Decide.{decLt}
 use native.Mathlib.Omega.{arith}
 use lib.Dec.{lit<}
-use lib.Pow.{mod-pow-add, mod-mod-pow, field, high, low, pow-mono, pow-add, shl-exact, shr-shr}
+use lib.Pow.{mod-pow-add, mod-mod-pow, field, high, low, pow-mono, pow-add, shl-exact, shl-shr, shr-shr}
 use Rattle.basics.specs.Bits.{digit}
 use mathlib.Core.List.{List}
 use lib.ListN.{getD}
@@ -114,6 +114,11 @@ module _ (f : ℕ → ℕ) (bits : (i : ℕ) → f i < 2) where
   pub rowAt-is : (p k v : ℕ) → v < 2 ^ k → ((i : ℕ) → i < k → f (p + i) ≡ digit v i) → rowAt f p k ≡ v
   rowAt-is p k v l h = same-digits (rowAt f p k) v k (rowAt-lt p k) l (λ j o. rowAt-digit p k j o ∙ h j o)
 
+-- a single bit
+pub numAt-one : (f : ℕ → ℕ) (p : ℕ) → numAt f p 1 ≡ f p
+unfolding numAt
+numAt-one f p = omega (arith, ap f (add-zero p))
+
 -- a run of bits in two parts
 pub numAt-add : (f : ℕ → ℕ) (p a b : ℕ) → numAt f p (a + b) ≡ numAt f p a * 2 ^ b + numAt f (p + a) b
 unfolding numAt
@@ -146,8 +151,12 @@ numAt-part f bits p a b c =
     ∙ ap (λ (x : ℕ). x % 2 ^ b) (numAt-add f p a b)
     ∙ low (numAt f p a) b (numAt-lt f bits (p + a) b)
 
-pub numAt-fits : (f : ℕ → ℕ) → ((i : ℕ) → f i < 2) → (p k m : ℕ) → k ≤ m → numAt f p k < 2 ^ m
-numAt-fits f bits p k m h = omega (arith, numAt-lt f bits p k, pow-mono {i = k} {j = m} h)
+-- the first k of more bits
+pub numAt-first : (f : ℕ → ℕ) → ((i : ℕ) → f i < 2) → (p k m : ℕ) → k ≤ m → numAt f p m / 2 ^ (m - k) ≡ numAt f p k
+numAt-first f bits p k m h =
+    ap (λ (x : ℕ). numAt f p x / 2 ^ (m - k)) (let e : m ≡ k + (m - k) = omega arith in e)
+    ∙ ap (λ (x : ℕ). x / 2 ^ (m - k)) (numAt-add f p k (m - k))
+    ∙ high (numAt f p k) (m - k) (numAt-lt f bits (p + k) (m - k))
 
 -- ---- bytes
 pub bitAt-lt : (s : List ℕ) (p : ℕ) → bitAt s p < 2
@@ -159,24 +168,18 @@ pub bitAt-byte : (s : List ℕ) (q i : ℕ) → i < 8 → bitAt s (8 * q + i) �
 unfolding bitAt
 bitAt-byte s q i l = ap₂ (λ (a b : ℕ). digit (getD s a 0) b) (omega arith) (omega arith)
 
+-- the bit at a place, with those before it shifted out of its byte
+pub bit-in-byte : (s : List ℕ) (p : ℕ) → getD s (p / 8) 0 < 256 → getD s (p / 8) 0 * 2 ^ (p % 8) % 2 ^ 32 / 128 % 2 ≡ bitAt s p
+unfolding bitAt
+bit-in-byte s p h =
+    let x : ℕ = getD s (p / 8) 0 in
+    let d : ℕ = p % 8 in
+    ap (λ (v : ℕ). v / 128 % 2) (shl-exact {a = x} 8 d 32 h (omega arith))
+    ∙ ap (λ (k : ℕ). x * 2 ^ d / 2 ^ k % 2) (let e : 7 ≡ d + (7 - d) = omega arith in e)
+    ∙ ap (λ (v : ℕ). v % 2) (sym (shr-shr (x * 2 ^ d) d (7 - d)) ∙ ap (λ (v : ℕ). v / 2 ^ (7 - d)) (shl-shr x d))
+
 pub byte-is : (s : List ℕ) (q : ℕ) → getD s q 0 < 256 → numAt (bitAt s) (8 * q) 8 ≡ getD s q 0
 byte-is s q h = numAt-is (bitAt s) (bitAt-lt s) (8 * q) 8 (getD s q 0) h (bitAt-byte s q)
-
--- one byte more
-pub byte-more : (s : List ℕ) (b i v x : ℕ) → x < 256 → v ≡ numAt (bitAt s) (8 * b) (8 * i) → x ≡ getD s (b + i) 0 → v * 256 + x ≡ numAt (bitAt s) (8 * b) (8 * (i + 1))
-byte-more s b i v x h e g =
-    ap₂ (λ (y z : ℕ). y * 256 + z) e
-    (g ∙ sym (byte-is s (b + i) (rw (← g) h)) ∙ ap (λ (p : ℕ). numAt (bitAt s) p 8) (let o : 8 * (b + i) ≡ 8 * b + 8 * i = omega arith in o))
-    ∙ sym (numAt-add (bitAt s) (8 * b) (8 * i) 8)
-    ∙ ap (numAt (bitAt s) (8 * b)) (let o : 8 * i + 8 ≡ 8 * (i + 1) = omega arith in o)
-
--- five bytes one after the other
-pub five-bytes : (s : List ℕ) (b : ℕ) → ((i : ℕ) → getD s i 0 < 256)
-    → (((getD s b 0 * 256 + getD s (b + 1) 0) * 256 + getD s (b + 2) 0) * 256 + getD s (b + 3) 0) * 256 + getD s (b + 4) 0 ≡ numAt (bitAt s) (8 * b) (8 * 5)
-five-bytes s b h = more 4 _ (more 3 _ (more 2 _ (more 1 _ (sym (byte-is s b (h b))))))
-  where
-    more : (i v : ℕ) → v ≡ numAt (bitAt s) (8 * b) (8 * i) → v * 256 + getD s (b + i) 0 ≡ numAt (bitAt s) (8 * b) (8 * (i + 1))
-    more i v e = byte-more s b i v (getD s (b + i) 0) (h (b + i)) e refl
 
 -- k bits from any place, out of m bytes in which they stand
 pub gathered : (s : List ℕ) (at k m : ℕ) → at % 8 + k ≤ 8 * m

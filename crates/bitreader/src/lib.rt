@@ -3,24 +3,19 @@ ghost use mathlib.Core.Path.{_≡_};
 ghost use Prim.Native.Nat.{_+_, _*_, _-_, _<_, _≤_, _^_, _/_, _%_};
 ghost use lib.ListN.{getD, length};
 ghost use Rattle.bitreader.specs.Bits.{bitAt, numAt, rowAt, bitsRead, placeAfter, mirrored, movedBy};
-
-fn wide(b: u8) -> u64
-    ensures { λ r. ⌜ r ≡ b ⌝ }
-{
-    b as u64
-}
+ghost use Rattle.bitreader.specs.Ways.{bytesFrom, EightRemain, byEight, byBytes};
 
 // The byte at a place; past the end it is 0.
 fn byte_at(s: &[u8], i: usize) -> u64
     ensures { λ r. ⌜ r ≡ getD (now (s .entry)) i 0 ⌝ }
 {
-    if i < s.len() { wide(s[i]) } else { 0 }
+    if i < s.len() { s[i] as u64 } else { 0 }
 }
 
 // The number that m bytes make.
 fn bytes_at(s: &[u8], b: usize, m: usize) -> u64
     requires { ⌜ (m ≤ 5) × (b < 2 ^ 61) ⌝ }
-    ensures { λ r. ⌜ r ≡ numAt (bitAt (now (s .entry))) (8 * b) (8 * m) ⌝ }
+    ensures { λ r. ⌜ r ≡ bytesFrom (now (s .entry)) b m ⌝ }
 {
     let mut v: u64 = 0;
     let mut i = 0;
@@ -58,50 +53,70 @@ pub fn low_bits(v: u64, k: usize) -> u64
     v
 }
 
-// Five bytes as a number. The first four make one sum of 32 bits, which the compiler gathers by one load.
-fn joined(a: u8, b: u8, c: u8, d: u8, e: u8) -> u64
-    ensures { λ r. ⌜ r ≡ (((a * 256 + b) * 256 + c) * 256 + d) * 256 + e ⌝ }
+// Four bytes as a number.
+fn four(a: u8, b: u8, c: u8, d: u8) -> u32
+    ensures { λ r. ⌜ r ≡ ((a * 256 + b) * 256 + c) * 256 + d ⌝ }
 {
-    let four = a as u32 * 16777216 + b as u32 * 65536 + c as u32 * 256 + d as u32;
-    four as u64 * 256 + e as u64
+    a as u32 * 16777216 + b as u32 * 65536 + c as u32 * 256 + d as u32
 }
 
-// The number of five bytes that are there.
-fn five_at(s: &[u8], b: usize) -> u64
-    requires { ⌜ b + 5 ≤ length (now s) ⌝ }
-    ensures { λ r. ⌜ r ≡ numAt (bitAt (now (s .entry))) (8 * b) (8 * 5) ⌝ }
+// The number of eight bytes that are there. Two sums of four become one load wherever this is inlined, which a loop does not.
+fn eight_at(s: &[u8], b: usize) -> u64
+    requires { ⌜ b + 8 ≤ length (now s) ⌝ }
+    ensures { λ r. ⌜ r ≡ bytesFrom (now (s .entry)) b 8 ⌝ }
 {
-    joined(s[b], s[b + 1], s[b + 2], s[b + 3], s[b + 4])
+    let high = four(s[b], s[b + 1], s[b + 2], s[b + 3]);
+    let low = four(s[b + 4], s[b + 5], s[b + 6], s[b + 7]);
+    high as u64 * 4294967296 + low as u64
 }
 
-// The w bits after the first `skipped` of m bytes.
-fn cut(v: u64, m: usize, skipped: usize, w: usize) -> u32
-    requires { ⌜ (m ≤ 5) × ((skipped + w ≤ 8 * m) × (w ≤ 32)) ⌝ }
-    ensures { λ r. ⌜ r ≡ v / 2 ^ (8 * m - skipped - w) % 2 ^ w ⌝ }
+// 32 bits out of a word of eight bytes. Shifted to the right: to the left the compiler would load five bytes in two parts.
+fn by_eight(s: &[u8], at: usize) -> u64
+    requires { ⌜ EightRemain (now s) at ⌝ }
+    ensures { λ r. ⌜ r ≡ byEight (now (s .entry)) at 32 ⌝ }
 {
-    low_bits(v >> (8 * m - skipped - w), w) as u32
+    (eight_at(s, at / 8) >> (32 - at % 8)) % 4294967296
 }
 
-// The leaf that gathers bits: everything reads through it.
+// 32 bits out of single bytes.
+fn by_bytes(s: &[u8], at: usize) -> u64
+    ensures { λ r. ⌜ r ≡ byBytes (now (s .entry)) at 32 ⌝ }
+{
+    let m = (at % 8 + 32 + 7) / 8;
+    (bytes_at(s, at / 8, m) >> (8 * m - at % 8 - 32)) % 4294967296
+}
+
+// The 32 bits from a place on, by eight bytes where eight remain. The rare way is asked for first, which keeps it out of the loops that read.
+fn bits_32(s: &[u8], at: usize) -> u64
+    ensures { λ r. ⌜ r ≡ numAt (bitAt (now (s .entry))) at 32 ⌝ }
+{
+    if s.len() < at / 8 + 8 {
+        return by_bytes(s, at);
+    }
+    by_eight(s, at)
+}
+
+// The bit at a place, out of its byte; past the end it is 0.
+fn bit_at(s: &[u8], at: usize) -> u32
+    ensures { λ r. ⌜ r ≡ bitAt (now (s .entry)) at ⌝ }
+{
+    let b = at / 8;
+    if s.len() <= b {
+        return 0;
+    }
+    ((s[b] as u32) << (at % 8)) / 128 % 2
+}
+
+// The leaf that gathers bits: everything reads through it. The first w of 32 bits are asked for at a fixed width, which keeps it short enough to be inlined.
 pub fn bits_at(s: &[u8], at: usize, k: usize) -> u32
     ensures { λ r. ⌜ r ≡ numAt (bitAt (now (s .entry))) at (bitsRead k) ⌝ }
 {
     let w = bits_read(k);
-    let skipped = at % 8;
-    let b = at / 8;
-    // One bit stands in one byte. That it is 0 past the end is answered at once, which keeps a search for a bit short.
+    // A search for single bits is twice as fast by single bytes.
     if w == 1 {
-        if s.len() <= b {
-            return 0;
-        }
-        return cut(wide(s[b]), 1, skipped, w);
+        return bit_at(s, at);
     }
-    // Five bytes hold any 32 bits. A fixed number of them is faster to gather, where they are there.
-    if b + 5 <= s.len() {
-        return cut(five_at(s, b), 5, skipped, w);
-    }
-    let m = (skipped + w + 7) / 8;
-    cut(bytes_at(s, b, m), m, skipped, w)
+    (bits_32(s, at) >> (32 - w)) as u32
 }
 
 // Digits in reverse, by halves.

@@ -1,0 +1,49 @@
+-- Laws of the two ways to gather bits.
+use mathlib.Core.Path.{_≡_, refl, ap, ap₂, sym, _∙_}
+use mathlib.Core.List.{List}
+use Prim.Native.Nat.{ℕ, zero, suc, _+_, _*_, _/_, _%_, _^_, _≤_, _<_}
+use native.Mathlib.Nat.{add-zero}
+use native.Mathlib.Numerals.{add-one}
+use native.Mathlib.Omega.{arith}
+use lib.ListN.{getD}
+use Rattle.bitreader.specs.Bits.{bitAt, numAt}
+use Rattle.bitreader.specs.Ways.{bytesFrom, within, byEight, holding, byBytes, BothWays}
+use Rattle.bitreader.proofs.Digits.{bitAt-lt, numAt-lt, numAt-add, byte-is, gathered}
+
+-- one byte more
+pub bytesFrom-more : (s : List ℕ) (b m : ℕ) → bytesFrom s b m * 256 + getD s (b + m) 0 ≡ bytesFrom s b (m + 1)
+unfolding bytesFrom
+bytesFrom-more s b m = sym (ap (bytesFrom s b) (add-one m))
+
+-- eight bytes in two halves
+pub bytesFrom-eight : (s : List ℕ) (b x y : ℕ)
+    → x ≡ ((getD s b 0 * 256 + getD s (b + 1) 0) * 256 + getD s (b + 2) 0) * 256 + getD s (b + 3) 0
+    → y ≡ ((getD s (b + 4) 0 * 256 + getD s (b + 5) 0) * 256 + getD s (b + 6) 0) * 256 + getD s (b + 7) 0
+    → x * 4294967296 + y ≡ bytesFrom s b 8
+unfolding bytesFrom
+bytesFrom-eight s b x y e g = omega (arith, e, g, ap (λ (i : ℕ). getD s i 0) (add-zero b))
+
+module _ (s : List ℕ) (bytes : (i : ℕ) → getD s i 0 < 256) where
+  -- the number of bytes is that of their bits
+  pub bytesFrom-num : (b m : ℕ) → bytesFrom s b m ≡ numAt (bitAt s) (8 * b) (8 * m)
+  unfolding bytesFrom numAt
+  bytesFrom-num b zero = refl
+  bytesFrom-num b (suc m) =
+      ap₂ (λ (v x : ℕ). v * 256 + x) (bytesFrom-num b m)
+      (sym (byte-is s (b + m) (bytes (b + m))) ∙ ap (λ (p : ℕ). numAt (bitAt s) p 8) (let e : 8 * (b + m) ≡ 8 * b + 8 * m = omega arith in e))
+      ∙ sym (numAt-add (bitAt s) (8 * b) (8 * m) 8)
+      ∙ ap (numAt (bitAt s) (8 * b)) (let e : 8 * m + 8 ≡ 8 * suc m = omega arith in e)
+
+  pub bytesFrom-lt : (b m : ℕ) → bytesFrom s b m < 2 ^ (8 * m)
+  bytesFrom-lt b m = rw (bytesFrom-num b m) (numAt-lt (bitAt s) (bitAt-lt s) (8 * b) (8 * m))
+
+  -- each way gives the bits
+  pub byEight-bits : (p w : ℕ) → p % 8 + w ≤ 64 → byEight s p w ≡ numAt (bitAt s) p w
+  byEight-bits p w h = ap (λ (v : ℕ). within 8 v (p % 8) w) (bytesFrom-num (p / 8) 8) ∙ gathered s p w 8 h
+
+  pub byBytes-bits : (p w : ℕ) → byBytes s p w ≡ numAt (bitAt s) p w
+  byBytes-bits p w =
+      ap (λ (v : ℕ). within (holding p w) v (p % 8) w) (bytesFrom-num (p / 8) (holding p w)) ∙ gathered s p w (holding p w) (omega arith)
+
+pub both-ways : BothWays
+both-ways s bytes p w remain small = byEight-bits s bytes p w (omega arith) ∙ sym (byBytes-bits s bytes p w)

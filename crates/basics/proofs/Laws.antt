@@ -11,7 +11,7 @@ use borrow.Author.Tests.{ltb-true, ltb-false, lt-ltb, le-ltb, eq-eqb, ne-eqb, eq
 use borrow.Author.Count.{below-more}
 use lib.Dec.{ltb}
 use lib.ListN.{length, getD, drop, set, length-append, length-drop, List·getD-append}
-use lib.Seq.{drop-cons, set-at, getD-append-add, getD-drop, ext-getD}
+use lib.Seq.{drop-cons, drop-append-add, set-at, getD-append-add, getD-drop, ext-getD}
 use Rattle.basics.specs.Bits.{odd}
 use Rattle.basics.specs.Lists.{tabFrom, tab, filled, allBelow, first, someBelow}
 
@@ -99,6 +99,13 @@ module _ {ℓ} {A : Type ℓ} where
 
     pub fill-step : (a : A) → i < length d → a ≡ g i → set l i a ≡ filled g (i + 1) d
     fill-step a h e = rw (now, add-one i) (filled-more g i d a h e)
+
+  -- filled once more, only the last filling counts
+  pub filled-again : (f g : ℕ → A) (m : ℕ) (d : List A) → filled g m (filled f m d) ≡ filled g m d
+  unfolding filled
+  filled-again f g m d =
+      ap (λ (l : List A). tab g m ++ l)
+      (ap (λ (k : ℕ). drop k (tab f m ++ drop m d)) (let e : m ≡ length (tab f m) + 0 = omega (arith, length-tab f m) in e) ∙ drop-append-add (tab f m) (drop m d) 0)
 
   -- a list that is filled with what it holds
   pub filled-same : (z : A) (g : ℕ → A) (m : ℕ) (d : List A) → m ≤ length d → ((k : ℕ) → k < m → g k ≡ getD d k z) → filled g m d ≡ d

@@ -1,6 +1,5 @@
 pub mod Tests
 pub mod Outcomes
-pub mod Fills
 pub mod Answers
 pub mod Putting
 pub mod Fields

@@ -1,11 +1,19 @@
--- What the writer's own steps do to the buffer. Only private functions cite these.
+-- What the steps of reading and of writing do to their buffer. Only private functions cite these.
 use Prim.Native.Nat.{ℕ, zero, suc, _+_, _*_, _-_, _/_, _%_, _^_}
 use mathlib.Core.Bool.{cond}
 use mathlib.Core.List.{List}
 use lib.Dec.{ltb}
 use lib.ListN.{getD, set}
-use Rattle.recording.specs.Packed.{packBit, numAt}
+use Rattle.recording.specs.Packed.{bitAt, numAt, packBit}
 use Rattle.bitreader.specs.Bits.{mirrored}
+
+-- the 32 bits from the place of word w on, in the rounds of n trucks: the word as it is packed, and what follows it
+abbrev pub packedWord : List ℕ → ℕ → ℕ → ℕ
+packedWord s n w = numAt (bitAt s) (16 + 4 * n + w * n) 32
+
+-- the word of plain form of n bits that 32 bits begin with
+abbrev pub plainWord : ℕ → ℕ → ℕ
+plainWord n x = mirrored 32 x % 2 ^ n
 
 -- a list in which the m elements from place i on are g 0, g 1, ..
 unfoldable pub over : (ℕ → ℕ) → ℕ → ℕ → List ℕ → List ℕ

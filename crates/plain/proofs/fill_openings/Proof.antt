@@ -4,9 +4,8 @@ use Prim.Native.Nat.{ℕ, _≤_, _-_}
 use native.Mathlib.Omega.{arith}
 use borrow.Author.Needs.{needs}
 use Rattle.basics.specs.Lists.{filled}
-use Rattle.basics.proofs.Laws.{filled-none}
+use Rattle.basics.proofs.Laws.{filled-none, fill-length, fill-step}
 use Rattle.recording.specs.Packed.{openingAt}
-use Rattle.plain.proofs.Fills.{fill-length, fill-step}
 use Rattle.plain.proofs.fill_openings.Statement.{statement}
 use Rattle.plain.proofs.fill_openings.Tie as tie
 

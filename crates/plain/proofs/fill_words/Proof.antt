@@ -1,73 +1,45 @@
--- `fill_words` meets its contract: the loop holds the buffer with the words so far, and the place of the next.
-use mathlib.Core.Path.{_≡_, ap, sym, _∙_}
-use Prim.Native.Nat.{ℕ, _≤_, _+_, _*_, _-_}
+-- `fill_words` meets its contract: the words gathered and turned are those of the recording.
+use mathlib.Core.Path.{_≡_, refl, ap, _∙_}
+use mathlib.Core.List.{List}
+use Prim.Native.Nat.{ℕ, _+_, _*_, _≤_, _%_, _^_, min}
 use native.Mathlib.Omega.{arith}
 use borrow.Author.Needs.{needs}
+use lib.ListN.{getD}
 use Rattle.basics.specs.Lists.{filled}
-use Rattle.basics.proofs.Laws.{filled-none}
-use Rattle.recording.specs.Packed.{wordAt}
+use Rattle.basics.proofs.Laws.{getD-filled, filled-again, filled-ext}
+use Rattle.bitreader.proofs.Digits.{bitAt-lt, mirrored-num, rowAt-low}
+use Rattle.recording.specs.Packed.{bitAt, rowAt, trucksOf, wordAt}
 use Rattle.recording.proofs.Rounds.{word-there}
-use Rattle.plain.proofs.Fills.{fill-length, fill-step, place-fits}
+use Rattle.plain.specs.Steps.{packedWord, plainWord}
 use Rattle.plain.proofs.fill_words.Statement.{statement}
 use Rattle.plain.proofs.fill_words.Tie as tie
 
-abbrev Inv-loop : tie.InvT-loop
-Inv-loop s words₀ n count at₀ w₀ words at w = (w ≤ count) × (at ≡ 16 + 4 * n + w * n) × (words ≡ filled (wordAt s) w words₀)
+module _ (s : List ℕ) (n : ℕ) (counted : n ≡ trucksOf s) (few : n ≤ 32) where
+  -- one word
+  turned-word : (w : ℕ) → plainWord n (packedWord s n w) ≡ wordAt s w
+  turned-word w =
+      let p : ℕ = 16 + 4 * n + w * n in
+      ap (λ (x : ℕ). x % 2 ^ n) (mirrored-num (bitAt s) (bitAt-lt s) p 32)
+      ∙ rowAt-low (bitAt s) (bitAt-lt s) p n 32 few
+      ∙ ap (rowAt (bitAt s) p) (let e : n ≡ min n 32 = omega arith in e)
+      ∙ word-there s n w p (rowAt (bitAt s) p (min n 32)) counted few refl refl
 
-abbrev μ-loop : tie.MeasureT-loop
-μ-loop s words₀ n count at₀ w₀ words at w = count - w
+  -- all words: d is filled to e, and e turned to d′
+  turned-all : (d e d′ : List ℕ) (count : ℕ) → e ≡ filled (packedWord s n) count d → d′ ≡ filled (λ w. plainWord n (getD e w 0)) count e → d′ ≡ filled (wordAt s) count d
+  turned-all d e d′ count h g =
+      let gathered : List ℕ = filled (packedWord s n) count d in
+      let turned : ℕ → ℕ = λ w. plainWord n (getD gathered w 0) in
+      g ∙ ap (λ (l : List ℕ). filled (λ w. plainWord n (getD l w 0)) count l) h
+      ∙ filled-again (packedWord s n) turned count d
+      ∙ filled-ext turned (wordAt s) count d (λ w l. ap (plainWord n) (getD-filled (packedWord s n) count d w 0 l) ∙ turned-word w)
 
-loop-holds : tie.Need-loop-holds Inv-loop μ-loop
-loop-holds c =
-    let a = c .before .before .args in
-    (omega arith, omega arith, sym (filled-none (wordAt (a .s .now)) (a .words .now)))
-
-slice-write-words : tie.Need-slice-write-words Inv-loop μ-loop
-slice-write-words c =
-    let a = c .before .before .before .before .before .args in
-    let l = c .before .before .loop in
-    omega (arith, fill-length (wordAt (a .s .now)) (a .words .now) (l .words) (l .w) (l .inv .2) (omega arith))
-
-add-at-2 : tie.Need-add-at-2 Inv-loop μ-loop
-add-at-2 c =
-    let a = c .before .before .before .before .before .args in
-    let l = c .before .before .loop in
-    omega (arith, l .inv .1, place-fits (a .n) (l .w) (omega arith) (omega arith))
-
-loop-again : tie.Need-loop-again Inv-loop μ-loop
-loop-again c =
-    let s = c .before .before .before .before .before in
-    let a = s .args in
-    let l = c .before .before .loop in
-    (omega arith, omega (arith, l .inv .1), fill-step (wordAt (a .s .now)) (a .words .now) (l .words) (l .w) (l .inv .2) (c .row-at .result) (omega arith) (word-there (a .s .now) (a .n) (l .w) (l .at) (c .row-at .result) (s .pre .0) (omega arith) (l .inv .1) (c .row-at .ensures)))
-
-same-length : tie.Need-same-length Inv-loop μ-loop
-same-length c =
-    let a = c .before .before .before .before .args in
-    let l = c .before .loop in
-    fill-length (wordAt (a .s .now)) (a .words .now) (l .words) (l .w) (l .inv .2) (omega arith)
-
-returns : tie.Need-returns Inv-loop μ-loop
+returns : tie.Need-returns
 returns c =
-    let a = c .before .before .before .before .args in
-    let l = c .before .loop in
-    l .inv .2 ∙ ap (λ (k : ℕ). filled (wordAt (a .s .now)) k (a .words .now)) (omega arith)
+    let start = c .before .before .before .before .before .before .before .before .before .before in
+    let a = start .args in
+    let f = c .before .before .before .before .before .before .gather-words in
+    let g = c .before .before .turn-words in
+    turned-all (a .s .now) (a .n) (start .pre .0) (start .pre .1 .0) (a .words .now) (f .last .1 .0) (g .last .0) (a .count) (f .ensures) (g .ensures)
 
 pub fill-words-spec : {M : Type 1} → statement M
-fill-words-spec =
-    tie.close
-    (tie.spec
-    Inv-loop
-    μ-loop
-    (λ c. search needs)
-    (λ c. search needs)
-    loop-holds
-    (λ c κs. search needs)
-    (λ c. search needs)
-    slice-write-words
-    add-at-2
-    (λ c. search needs)
-    (λ c. search needs)
-    loop-again
-    same-length
-    returns)
+fill-words-spec = tie.close (tie.spec (λ c κs. search needs) (λ c κs. search needs) (λ c. search needs) returns)

@@ -1,6 +1,7 @@
-# From outside the proofs: the archive for other languages, the Rust tests (the independent reading of document 01, its comparison with the library, the safe crate), and the examples.
-build() { rt staticlib ffi > /dev/null 2>&1; }
-expect "rt staticlib ffi" build
+# From outside the proofs: the archive for other languages and that of the bit reader for tests, the Rust tests (the independent reading of document 01, its comparison with the library, the bit reader bit by bit, the safe crate), and the examples.
+build() { rt staticlib "$1" > /dev/null 2>&1; }
+expect "rt staticlib ffi" build ffi
+expect "rt staticlib bitcalls" build bitcalls
 log=$(mktemp)
 (cd rust && cargo test --offline --release) > "$log" 2>&1
 status=$?
@@ -31,6 +32,12 @@ expect "the C example under valgrind" clean "$out/example"
 for case in c01 c02 c07-400 c10 empty; do
     expect "the program under valgrind on $case" clean target/bin/replay < <(bytes_of "tests/cases/$case.hex")
 done
-compare=$(ls -t rust/target/release/deps/compare-* 2> /dev/null | grep -v '\.d$' | head -n 1)
-expect "the comparison under valgrind" clean "$compare" --test-threads=1 small_set
+# one test of a Rust test program, which must be there
+clean_test() { # PROGRAM TEST
+    local program said
+    program=$(ls -t rust/target/release/deps/"$1"-* 2> /dev/null | grep -v '\.d$' | head -n 1)
+    said=$(valgrind -q --error-exitcode=9 "$program" --test-threads=1 "$2" 2> /dev/null) && grep -q 'ok\. 1 passed' <<< "$said"
+}
+expect "the comparison under valgrind" clean_test compare small_set
+expect "the bit reader under valgrind" clean_test boundaries blocks_of_their_own_length
 rm -rf "$out"

@@ -2,7 +2,7 @@
 
 use checks::{record_bytes, times, RECORD};
 use oracle::gen::{self, Limits, Rng, FULL, SMALL, TINY};
-use oracle::{fleet, lists, marks};
+use oracle::{fleet, lists, marks, Header};
 
 /// What a buffer holds before a call, so that a stray write shows.
 const FILL: u8 = 0xA5;
@@ -88,6 +88,49 @@ fn largest_recordings() {
     let mut rng = Rng::new(2);
     for _ in 0..times(20) {
         whole(&gen::largest(&mut rng));
+    }
+}
+
+/// Every size that takes at most 24 bytes: random recordings, one of them with each bit changed in turn, and cut or filled up to each length.
+#[test]
+fn recordings_of_0_to_24_bytes() {
+    let mut rng = Rng::new(15);
+    let mut lengths = [0; 25];
+    for n in 1..=32 {
+        for header in (0..).map(|rounds| Header { n, rounds }).take_while(|h| h.total_bytes() <= 24) {
+            for _ in 0..times(10) {
+                whole(&gen::bytes_of(&gen::plain_of_size(&mut rng, header)));
+            }
+            let bytes = gen::bytes_of(&gen::plain_of_size(&mut rng, header));
+            lengths[bytes.len()] += 1;
+            changed(&bytes, 0..8 * bytes.len());
+            for length in 0..=24 {
+                let mut other = bytes.clone();
+                other.resize(length, 0);
+                whole(&other);
+            }
+        }
+    }
+    // the smallest recording has 20 bits
+    assert!(lengths[..3].iter().all(|k| *k == 0) && lengths[3..].iter().all(|k| *k > 0));
+}
+
+/// A recording with each bit of a range changed in turn.
+fn changed(bytes: &[u8], places: std::ops::Range<usize>) {
+    for place in places {
+        let mut other = bytes.to_vec();
+        other[place / 8] ^= 0x80 >> (place % 8);
+        whole(&other);
+    }
+}
+
+/// The last eight bytes of largest recordings, of 32 trucks and of 31, which leave bits over: each bit changed in turn.
+#[test]
+fn last_bytes_of_largest_recordings() {
+    let mut rng = Rng::new(16);
+    for n in [32, 31] {
+        let bytes = gen::bytes_of(&gen::plain_of_size(&mut rng, Header { n, rounds: 400 }));
+        changed(&bytes, 8 * (bytes.len() - 8)..8 * bytes.len());
     }
 }
 

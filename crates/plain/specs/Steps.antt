@@ -7,13 +7,17 @@ use lib.ListN.{getD, set}
 use Rattle.recording.specs.Packed.{bitAt, numAt, packBit}
 use Rattle.bitreader.specs.Bits.{mirrored}
 
--- the 32 bits from the place of word w on, in the rounds of n trucks: the word as it is packed, and what follows it
-abbrev pub packedWord : List ℕ → ℕ → ℕ → ℕ
-packedWord s n w = numAt (bitAt s) (16 + 4 * n + w * n) 32
+-- the four bytes of a number of 32 bits in reverse
+abbrev pub swapped : ℕ → ℕ
+swapped x = x % 256 * 16777216 + x / 256 % 256 * 65536 + x / 65536 % 256 * 256 + x / 16777216
 
--- the word of plain form of n bits that 32 bits begin with
-abbrev pub plainWord : ℕ → ℕ → ℕ
-plainWord n x = mirrored 32 x % 2 ^ n
+-- word w of the rounds of n trucks as it is gathered: the 32 bits from its place on, their bytes in reverse
+abbrev pub gatheredWord : List ℕ → ℕ → ℕ → ℕ
+gatheredWord s n w = swapped (numAt (bitAt s) (16 + 4 * n + w * n) 32)
+
+-- the word of plain form, of n bits, that was gathered so
+abbrev pub turnedWord : ℕ → ℕ → ℕ
+turnedWord n x = mirrored 32 (swapped x) % 2 ^ n
 
 -- a list in which the m elements from place i on are g 0, g 1, ..
 unfoldable pub over : (ℕ → ℕ) → ℕ → ℕ → List ℕ → List ℕ

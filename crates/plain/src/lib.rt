@@ -8,7 +8,7 @@ ghost use Rattle.basics.specs.Lists.{first, filled};
 ghost use Rattle.recording.specs.Packed.{trucksOf, openingAt, wordAt, bytesFor};
 ghost use Rattle.recording.specs.Checks.{highBit, badOpenings, badWords, ownLoss, roundsCheck, roundCheck, plainCheck};
 ghost use Rattle.plain.specs.Forms.{afterRead, readPlain, afterWrite, writePlain};
-ghost use Rattle.plain.specs.Steps.{packedWord, plainWord, over, byteOf, packedByte, fieldWidth, fieldValue};
+ghost use Rattle.plain.specs.Steps.{swapped, gatheredWord, turnedWord, over, byteOf, packedByte, fieldWidth, fieldValue};
 use refusals::Outcome;
 use refusals::Refusal;
 
@@ -158,40 +158,48 @@ fn fill_openings(s: &[u8], openings: &mut [u8], n: u8)
     }
 }
 
-// The words as they are packed, each with the bits that follow it.
+fn swap_bytes(x: u32) -> u32
+    ensures { λ r. ⌜ r ≡ swapped x ⌝ }
+{
+    x % 256 * 16777216 + x / 256 % 256 * 65536 + x / 65536 % 256 * 256 + x / 16777216
+}
+
+// The words as they are packed, each with the bits that follow it, and with its bytes in reverse.
 fn gather_words(s: &[u8], words: &mut [u32], n: usize, count: usize)
     requires { ⌜ (n ≤ 32) × ((count ≤ 16908030) × (count ≤ length (now words))) ⌝ }
-    ensures { λ r. ⌜ now (words .exit) ≡ filled (packedWord (now (s .entry)) n) count (now (words .entry)) ⌝ }
+    ensures { λ r. ⌜ now (words .exit) ≡ filled (gatheredWord (now (s .entry)) n) count (now (words .entry)) ⌝ }
 {
     let mut at = 16 + 4 * n;
     let mut w = 0;
     while w < count {
         let t = bitreader::read_at(s, at, 32);
-        words[w] = t.value;
+        words[w] = swap_bytes(t.value);
         at = at + n;
         w += 1;
     }
 }
 
-fn plain_word(x: u32, n: usize) -> u32
-    ensures { λ r. ⌜ r ≡ plainWord n x ⌝ }
+fn turned_word(x: u32, n: usize) -> u32
+    ensures { λ r. ⌜ r ≡ turnedWord n x ⌝ }
 {
-    bitreader::low_bits(bitreader::mirror(x, 32) as u64, n) as u32
+    let all = bitreader::mirror(swap_bytes(x), 32) as u64;
+    bitreader::low_bits(all, n) as u32
 }
 
 // The words that were gathered, in plain form.
 fn turn_words(words: &mut [u32], n: usize, count: usize)
     requires { ⌜ count ≤ length (now words) ⌝ }
-    ensures { λ r. ⌜ now (words .exit) ≡ filled (λ w. plainWord n (getD (now (words .entry)) w 0)) count (now (words .entry)) ⌝ }
+    ensures { λ r. ⌜ now (words .exit) ≡ filled (λ w. turnedWord n (getD (now (words .entry)) w 0)) count (now (words .entry)) ⌝ }
 {
     let mut w = 0;
     while w < count {
-        words[w] = plain_word(words[w], n);
+        words[w] = turned_word(words[w], n);
         w += 1;
     }
 }
 
-// In two passes, since the compiler turns four words at once in a loop that does nothing else.
+// In two passes, since a loop that does nothing else turns four words round at once. To turn a word round is to reverse its bytes, and the bits within each.
+// The bytes are reversed when a word is gathered, by one instruction; for turning they are reversed back and again, which the compiler leaves out.
 fn fill_words(s: &[u8], words: &mut [u32], n: usize, count: usize)
     requires { ⌜ (n ≡ trucksOf (now s)) × ((n ≤ 32) × ((count ≤ 16908030) × (count ≤ length (now words)))) ⌝ }
     ensures { λ r. ⌜ now (words .exit) ≡ filled (wordAt (now (s .entry))) count (now (words .entry)) ⌝ }

@@ -6,13 +6,13 @@ use native.Mathlib.Omega.{arith}
 use borrow.Author.Needs.{needs}
 use Rattle.basics.specs.Lists.{filled}
 use Rattle.basics.proofs.Laws.{filled-none, fill-length, fill-step}
-use Rattle.plain.specs.Steps.{packedWord}
+use Rattle.plain.specs.Steps.{swapped, gatheredWord}
 use Rattle.recording.specs.Packed.{bitAt, numAt}
 use Rattle.plain.proofs.gather_words.Statement.{statement}
 use Rattle.plain.proofs.gather_words.Tie as tie
 
 abbrev Inv-loop : tie.InvT-loop
-Inv-loop s words₀ n count at₀ w₀ words at w = (w ≤ count) × (at ≡ 16 + 4 * n + w * n) × (words ≡ filled (packedWord s n) w words₀)
+Inv-loop s words₀ n count at₀ w₀ words at w = (w ≤ count) × (at ≡ 16 + 4 * n + w * n) × (words ≡ filled (gatheredWord s n) w words₀)
 
 abbrev μ-loop : tie.MeasureT-loop
 μ-loop s words₀ n count at₀ w₀ words at w = count - w
@@ -20,40 +20,40 @@ abbrev μ-loop : tie.MeasureT-loop
 loop-holds : tie.Need-loop-holds Inv-loop μ-loop
 loop-holds c =
     let a = c .before .before .args in
-    (omega arith, omega arith, sym (filled-none (packedWord (a .s .now) (a .n)) (a .words .now)))
+    (omega arith, omega arith, sym (filled-none (gatheredWord (a .s .now) (a .n)) (a .words .now)))
 
 slice-write-words : tie.Need-slice-write-words Inv-loop μ-loop
 slice-write-words c =
-    let a = c .before .before .before .before .before .args in
-    let l = c .before .before .loop in
-    omega (arith, fill-length (packedWord (a .s .now) (a .n)) (a .words .now) (l .words) (l .w) (l .inv .2) (omega arith))
+    let a = c .before .before .before .before .before .before .args in
+    let l = c .before .before .before .loop in
+    omega (arith, fill-length (gatheredWord (a .s .now) (a .n)) (a .words .now) (l .words) (l .w) (l .inv .2) (omega arith))
 
 add-at-2 : tie.Need-add-at-2 Inv-loop μ-loop
 add-at-2 c =
-    let a = c .before .before .before .before .before .args in
-    let l = c .before .before .loop in
+    let a = c .before .before .before .before .before .before .args in
+    let l = c .before .before .before .loop in
     let words : l .w ≤ 16908030 = omega arith in
     let trucks : a .n ≤ 32 = omega arith in
     omega (arith, l .inv .1, mul-le-mul words trucks)
 
 loop-again : tie.Need-loop-again Inv-loop μ-loop
 loop-again c =
-    let s = c .before .before .before .before .before in
+    let s = c .before .before .before .before .before .before in
     let a = s .args in
-    let l = c .before .before .loop in
-    (omega arith, omega (arith, l .inv .1), fill-step (packedWord (a .s .now) (a .n)) (a .words .now) (l .words) (l .w) (l .inv .2) (c .read-at .result .value) (omega arith) (c .read-at .ensures .0 ∙ ap (λ (p : ℕ). numAt (bitAt (a .s .now)) p 32) (l .inv .1)))
+    let l = c .before .before .before .loop in
+    (omega arith, omega (arith, l .inv .1), fill-step (gatheredWord (a .s .now) (a .n)) (a .words .now) (l .words) (l .w) (l .inv .2) (c .swap-bytes .result) (omega arith) (c .swap-bytes .ensures ∙ ap swapped (c .before .read-at .ensures .0 ∙ ap (λ (p : ℕ). numAt (bitAt (a .s .now)) p 32) (l .inv .1))))
 
 same-length : tie.Need-same-length Inv-loop μ-loop
 same-length c =
     let a = c .before .before .before .before .args in
     let l = c .before .loop in
-    fill-length (packedWord (a .s .now) (a .n)) (a .words .now) (l .words) (l .w) (l .inv .2) (omega arith)
+    fill-length (gatheredWord (a .s .now) (a .n)) (a .words .now) (l .words) (l .w) (l .inv .2) (omega arith)
 
 returns : tie.Need-returns Inv-loop μ-loop
 returns c =
     let a = c .before .before .before .before .args in
     let l = c .before .loop in
-    l .inv .2 ∙ ap (λ (k : ℕ). filled (packedWord (a .s .now) (a .n)) k (a .words .now)) (omega arith)
+    l .inv .2 ∙ ap (λ (k : ℕ). filled (gatheredWord (a .s .now) (a .n)) k (a .words .now)) (omega arith)
 
 pub gather-words-spec : {M : Type 1} → statement M
 gather-words-spec =
@@ -64,6 +64,7 @@ gather-words-spec =
     (λ c. search needs)
     (λ c. search needs)
     loop-holds
+    (λ c κs. search needs)
     (λ c κs. search needs)
     (λ c. search needs)
     slice-write-words

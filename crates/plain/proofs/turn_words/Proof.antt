@@ -8,13 +8,13 @@ use borrow.Author.Needs.{needs}
 use lib.ListN.{getD}
 use Rattle.basics.specs.Lists.{filled}
 use Rattle.basics.proofs.Laws.{filled-none, getD-filled-past, fill-length, fill-step}
-use Rattle.plain.specs.Steps.{plainWord}
+use Rattle.plain.specs.Steps.{turnedWord}
 use Rattle.plain.proofs.turn_words.Statement.{statement}
 use Rattle.plain.proofs.turn_words.Tie as tie
 
 -- word w of a buffer, turned
 abbrev turned : List ℕ → ℕ → ℕ → ℕ
-turned d n w = plainWord n (getD d w 0)
+turned d n w = turnedWord n (getD d w 0)
 
 abbrev Inv-loop : tie.InvT-loop
 Inv-loop words₀ n count w₀ words w = (w ≤ count) × (words ≡ filled (turned words₀ n) w words₀)
@@ -27,8 +27,8 @@ loop-holds c =
     let a = c .before .args in
     (omega arith, sym (filled-none (turned (a .words .now) (a .n)) (a .words .now)))
 
-slice-read-plain-word : tie.Need-slice-read-plain-word Inv-loop μ-loop
-slice-read-plain-word c =
+slice-read-turned-word : tie.Need-slice-read-turned-word Inv-loop μ-loop
+slice-read-turned-word c =
     let a = c .before .before .before .before .args in
     let l = c .before .before .loop in
     omega (arith, fill-length (turned (a .words .now) (a .n)) (a .words .now) (l .words) (l .w) (l .inv .1) (omega arith))
@@ -46,7 +46,7 @@ loop-again c =
     let g : ℕ → ℕ = turned (a .words .now) (a .n) in
     let here : getD (l .words) (l .w) 0 ≡ getD (a .words .now) (l .w) 0 =
     ap (λ (d : List ℕ). getD d (l .w) 0) (l .inv .1) ∙ getD-filled-past g (l .w) (a .words .now) (l .w) 0 (le-refl (l .w)) in
-    (omega arith, fill-step g (a .words .now) (l .words) (l .w) (l .inv .1) (c .plain-word .result) (omega arith) (c .plain-word .ensures ∙ ap (plainWord (a .n)) here))
+    (omega arith, fill-step g (a .words .now) (l .words) (l .w) (l .inv .1) (c .turned-word .result) (omega arith) (c .turned-word .ensures ∙ ap (turnedWord (a .n)) here))
 
 same-length : tie.Need-same-length Inv-loop μ-loop
 same-length c =
@@ -68,7 +68,7 @@ turn-words-spec =
     μ-loop
     loop-holds
     (λ c. search needs)
-    slice-read-plain-word
+    slice-read-turned-word
     (λ c κs. search needs)
     (λ c. search needs)
     slice-write-words

@@ -1,14 +1,14 @@
 -- Laws of the two ways to gather bits.
 use mathlib.Core.Path.{_≡_, refl, ap, ap₂, sym, _∙_}
 use mathlib.Core.List.{List}
-use Prim.Native.Nat.{ℕ, zero, suc, _+_, _*_, _/_, _%_, _^_, _≤_, _<_}
+use Prim.Native.Nat.{ℕ, zero, suc, _+_, _*_, _-_, _/_, _%_, _^_, _≤_, _<_}
 use native.Mathlib.Nat.{add-zero}
 use native.Mathlib.Numerals.{add-one}
 use native.Mathlib.Omega.{arith}
 use lib.ListN.{getD}
 use Rattle.bitreader.specs.Bits.{bitAt, numAt}
 use Rattle.bitreader.specs.Ways.{bytesFrom, within, byEight, holding, byBytes, BothWays}
-use Rattle.bitreader.proofs.Digits.{bitAt-lt, numAt-lt, numAt-add, byte-is, gathered}
+use Rattle.bitreader.proofs.Digits.{bitAt-lt, numAt-lt, numAt-add, numAt-first, byte-is, gathered}
 
 -- one byte more
 pub bytesFrom-more : (s : List ℕ) (b m : ℕ) → bytesFrom s b m * 256 + getD s (b + m) 0 ≡ bytesFrom s b (m + 1)
@@ -44,6 +44,17 @@ module _ (s : List ℕ) (bytes : (i : ℕ) → getD s i 0 < 256) where
   pub byBytes-bits : (p w : ℕ) → byBytes s p w ≡ numAt (bitAt s) p w
   byBytes-bits p w =
       ap (λ (v : ℕ). within (holding p w) v (p % 8) w) (bytesFrom-num (p / 8) (holding p w)) ∙ gathered s p w (holding p w) (omega arith)
+
+  -- the first w of the 32 bits that either way gathers are the w bits by that way
+  pub byEight-kept : (p w : ℕ) → w ≤ 32 → byEight s p 32 / 2 ^ (32 - w) ≡ byEight s p w
+  byEight-kept p w h =
+      ap (λ (v : ℕ). v / 2 ^ (32 - w)) (byEight-bits p 32 (omega arith))
+      ∙ numAt-first (bitAt s) (bitAt-lt s) p w 32 h
+      ∙ sym (byEight-bits p w (omega arith))
+
+  pub byBytes-kept : (p w : ℕ) → w ≤ 32 → byBytes s p 32 / 2 ^ (32 - w) ≡ byBytes s p w
+  byBytes-kept p w h =
+      ap (λ (v : ℕ). v / 2 ^ (32 - w)) (byBytes-bits p 32) ∙ numAt-first (bitAt s) (bitAt-lt s) p w 32 h ∙ sym (byBytes-bits p w)
 
 pub both-ways : BothWays
 both-ways s bytes p w remain small = byEight-bits s bytes p w (omega arith) ∙ sym (byBytes-bits s bytes p w)

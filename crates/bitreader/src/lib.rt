@@ -60,7 +60,7 @@ fn four(a: u8, b: u8, c: u8, d: u8) -> u32
     a as u32 * 16777216 + b as u32 * 65536 + c as u32 * 256 + d as u32
 }
 
-// The number of eight bytes that are there. Two sums of four become one load wherever this is inlined, which a loop does not.
+// The number of eight bytes that are there. Two sums of four become one load wherever this is inlined; a loop over them does not.
 fn eight_at(s: &[u8], b: usize) -> u64
     requires { ⌜ b + 8 ≤ length (now s) ⌝ }
     ensures { λ r. ⌜ r ≡ bytesFrom (now (s .entry)) b 8 ⌝ }
@@ -78,7 +78,7 @@ fn by_eight(s: &[u8], at: usize) -> u64
     (eight_at(s, at / 8) >> (32 - at % 8)) % 4294967296
 }
 
-// 32 bits out of single bytes.
+// 32 bits out of the single bytes that hold them.
 fn by_bytes(s: &[u8], at: usize) -> u64
     ensures { λ r. ⌜ r ≡ byBytes (now (s .entry)) at 32 ⌝ }
 {
@@ -107,7 +107,7 @@ fn bit_at(s: &[u8], at: usize) -> u32
     ((s[b] as u32) << (at % 8)) / 128 % 2
 }
 
-// The leaf that gathers bits: everything reads through it. The first w of 32 bits are asked for at a fixed width, which keeps it short enough to be inlined.
+// The leaf that gathers bits: everything reads through it. Always 32 bits are gathered, of which the first w are kept: one width keeps it short enough for the compiler to inline.
 pub fn bits_at(s: &[u8], at: usize, k: usize) -> u32
     ensures { λ r. ⌜ r ≡ numAt (bitAt (now (s .entry))) at (bitsRead k) ⌝ }
 {

@@ -5,7 +5,7 @@ use native.Mathlib.Nat.{mod-lt, mod-eq-of-lt, mul-le-mul-right, pow-suc, div-div
 use native.Mathlib.Decide.{decLt}
 use native.Mathlib.Omega.{arith}
 use lib.Dec.{lit<}
-use lib.Pow.{mod-pow-add, mod-mod-pow, field, high, low, pow-mono, pow-add, shl-exact, shl-shr, shr-shr}
+use lib.Pow.{mod-pow-add, mod-mod-pow, field, high, low, pow-add, shl-exact, shl-shr, shr-shr}
 use Rattle.basics.specs.Bits.{digit}
 use mathlib.Core.List.{List}
 use lib.ListN.{getD}

@@ -181,15 +181,6 @@ bit-in-byte s p h =
 pub byte-is : (s : List ℕ) (q : ℕ) → getD s q 0 < 256 → numAt (bitAt s) (8 * q) 8 ≡ getD s q 0
 byte-is s q h = numAt-is (bitAt s) (bitAt-lt s) (8 * q) 8 (getD s q 0) h (bitAt-byte s q)
 
--- k bits from any place, out of m bytes in which they stand
-pub gathered : (s : List ℕ) (at k m : ℕ) → at % 8 + k ≤ 8 * m
-    → numAt (bitAt s) (8 * (at / 8)) (8 * m) / 2 ^ (8 * m - at % 8 - k) % 2 ^ k ≡ numAt (bitAt s) at k
-gathered s at k m h =
-    let past : ℕ = 8 * m - at % 8 - k in
-    ap (λ (n : ℕ). numAt (bitAt s) (8 * (at / 8)) n / 2 ^ past % 2 ^ k) (let e : 8 * m ≡ at % 8 + k + past = omega arith in e)
-    ∙ numAt-part (bitAt s) (bitAt-lt s) (8 * (at / 8)) (at % 8) k past
-    ∙ ap (λ (p : ℕ). numAt (bitAt s) p k) (omega arith)
-
 -- a shift of 1
 pub one-shifted : (k : ℕ) → k < 64 → 1 * 2 ^ k % 2 ^ 64 ≡ 2 ^ k
 one-shifted k h = shl-exact {a = 1} 1 k 64 (lit< tt) (omega arith) ∙ omega arith

@@ -7,8 +7,8 @@ use native.Mathlib.Numerals.{add-one}
 use native.Mathlib.Omega.{arith}
 use lib.ListN.{getD}
 use Rattle.bitreader.specs.Bits.{bitAt, numAt}
-use Rattle.bitreader.specs.Ways.{bytesFrom, within, byEight, holding, byBytes, BothWays}
-use Rattle.bitreader.proofs.Digits.{bitAt-lt, numAt-lt, numAt-add, numAt-first, byte-is, gathered}
+use Rattle.bitreader.specs.Ways.{bytesFrom, outOf, byEight, holding, byBytes, BothWays}
+use Rattle.bitreader.proofs.Digits.{bitAt-lt, numAt-lt, numAt-add, numAt-part, numAt-first, byte-is}
 
 -- one byte more
 pub bytesFrom-more : (s : List ℕ) (b m : ℕ) → bytesFrom s b m * 256 + getD s (b + m) 0 ≡ bytesFrom s b (m + 1)
@@ -37,24 +37,28 @@ module _ (s : List ℕ) (bytes : (i : ℕ) → getD s i 0 < 256) where
   pub bytesFrom-lt : (b m : ℕ) → bytesFrom s b m < 2 ^ (8 * m)
   bytesFrom-lt b m = rw (bytesFrom-num b m) (numAt-lt (bitAt s) (bitAt-lt s) (8 * b) (8 * m))
 
-  -- each way gives the bits
-  pub byEight-bits : (p w : ℕ) → p % 8 + w ≤ 64 → byEight s p w ≡ numAt (bitAt s) p w
-  byEight-bits p w h = ap (λ (v : ℕ). within 8 v (p % 8) w) (bytesFrom-num (p / 8) 8) ∙ gathered s p w 8 h
+  -- the bits, out of any bytes that hold them
+  pub outOf-bits : (m p w : ℕ) → p % 8 + w ≤ 8 * m → outOf m s p w ≡ numAt (bitAt s) p w
+  outOf-bits m p w h =
+      let past : ℕ = 8 * m - p % 8 - w in
+      ap (λ (v : ℕ). v / 2 ^ past % 2 ^ w) (bytesFrom-num (p / 8) m ∙ ap (numAt (bitAt s) (8 * (p / 8))) (let e : 8 * m ≡ p % 8 + w + past = omega arith in e))
+      ∙ numAt-part (bitAt s) (bitAt-lt s) (8 * (p / 8)) (p % 8) w past
+      ∙ ap (λ (q : ℕ). numAt (bitAt s) q w) (omega arith)
+
+  -- the first w of 32 bits are the w bits, out of any bytes that hold them
+  pub outOf-first : (m k p w : ℕ) → w ≤ 32 → p % 8 + 32 ≤ 8 * m → p % 8 + w ≤ 8 * k → outOf m s p 32 / 2 ^ (32 - w) ≡ outOf k s p w
+  outOf-first m k p w few g h =
+      ap (λ (v : ℕ). v / 2 ^ (32 - w)) (outOf-bits m p 32 g) ∙ numAt-first (bitAt s) (bitAt-lt s) p w 32 few ∙ sym (outOf-bits k p w h)
+
+  -- what each way gathers, cut to a smaller width, is what that way gathers at the width
+  pub byEight-first : (p w : ℕ) → w ≤ 32 → byEight s p 32 / 2 ^ (32 - w) ≡ byEight s p w
+  byEight-first p w h = outOf-first 8 8 p w h (omega arith) (omega arith)
+
+  pub byBytes-first : (p w : ℕ) → w ≤ 32 → byBytes s p 32 / 2 ^ (32 - w) ≡ byBytes s p w
+  byBytes-first p w h = outOf-first (holding p 32) (holding p w) p w h (omega arith) (omega arith)
 
   pub byBytes-bits : (p w : ℕ) → byBytes s p w ≡ numAt (bitAt s) p w
-  byBytes-bits p w =
-      ap (λ (v : ℕ). within (holding p w) v (p % 8) w) (bytesFrom-num (p / 8) (holding p w)) ∙ gathered s p w (holding p w) (omega arith)
-
-  -- the first w of the 32 bits that either way gathers are the w bits by that way
-  pub byEight-kept : (p w : ℕ) → w ≤ 32 → byEight s p 32 / 2 ^ (32 - w) ≡ byEight s p w
-  byEight-kept p w h =
-      ap (λ (v : ℕ). v / 2 ^ (32 - w)) (byEight-bits p 32 (omega arith))
-      ∙ numAt-first (bitAt s) (bitAt-lt s) p w 32 h
-      ∙ sym (byEight-bits p w (omega arith))
-
-  pub byBytes-kept : (p w : ℕ) → w ≤ 32 → byBytes s p 32 / 2 ^ (32 - w) ≡ byBytes s p w
-  byBytes-kept p w h =
-      ap (λ (v : ℕ). v / 2 ^ (32 - w)) (byBytes-bits p 32) ∙ numAt-first (bitAt s) (bitAt-lt s) p w 32 h ∙ sym (byBytes-bits p w)
+  byBytes-bits p w = outOf-bits (holding p w) p w (omega arith)
 
 pub both-ways : BothWays
-both-ways s bytes p w remain small = byEight-bits s bytes p w (omega arith) ∙ sym (byBytes-bits s bytes p w)
+both-ways s bytes p w remain small = outOf-bits s bytes 8 p w (omega arith) ∙ sym (byBytes-bits s bytes p w)

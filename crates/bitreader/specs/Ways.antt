@@ -9,25 +9,25 @@ unfoldable pub bytesFrom : List ℕ → ℕ → ℕ → ℕ
 bytesFrom s b zero = 0
 bytesFrom s b (suc m) = bytesFrom s b m * 256 + getD s (b + m) 0
 
--- of the bits of m bytes, whose number is v, the w after the first d
-abbrev pub within : ℕ → ℕ → ℕ → ℕ → ℕ
-within m v d w = v / 2 ^ (8 * m - d - w) % 2 ^ w
+-- w bits from place p, out of the m bytes from its byte on
+abbrev pub outOf : ℕ → List ℕ → ℕ → ℕ → ℕ
+outOf m s p w = bytesFrom s (p / 8) m / 2 ^ (8 * m - p % 8 - w) % 2 ^ w
 
 -- eight bytes remain at place p
 abbrev pub EightRemain : List ℕ → ℕ → Type 0
 EightRemain s p = p / 8 + 8 ≤ length s
 
--- w bits from place p, out of the eight bytes from its byte on
+-- the one way: out of a word of eight bytes
 abbrev pub byEight : List ℕ → ℕ → ℕ → ℕ
-byEight s p w = within 8 (bytesFrom s (p / 8) 8) (p % 8) w
+byEight = outOf 8
 
 -- how many bytes, from the byte of place p on, hold w bits from there
 abbrev pub holding : ℕ → ℕ → ℕ
 holding p w = (p % 8 + w + 7) / 8
 
--- w bits from place p, out of the single bytes that hold them
+-- the other way: out of the single bytes that hold the bits
 abbrev pub byBytes : List ℕ → ℕ → ℕ → ℕ
-byBytes s p w = within (holding p w) (bytesFrom s (p / 8) (holding p w)) (p % 8) w
+byBytes s p w = outOf (holding p w) s p w
 
 -- at every place where eight bytes remain, and for every width up to 32, both ways give the same bits
 abbrev pub BothWays : Type 0

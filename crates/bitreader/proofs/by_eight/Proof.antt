@@ -3,7 +3,6 @@ use mathlib.Core.Path.{_≡_, ap, _∙_}
 use Prim.Native.Nat.{ℕ, _-_, _/_, _%_, _^_}
 use native.Mathlib.Omega.{arith}
 use borrow.Author.Needs.{needs}
-use Rattle.bitreader.specs.Ways.{within}
 use Rattle.bitreader.proofs.by_eight.Statement.{statement}
 use Rattle.bitreader.proofs.by_eight.Tie as tie
 
@@ -12,7 +11,7 @@ returns c =
     let a = c .before .before .args in
     let v = c .eight-at in
     ap (λ (e : ℕ). v .result / 2 ^ e % 2 ^ 32) (let o : 32 - a .at % 8 ≡ 64 - a .at % 8 - 32 = omega arith in o)
-    ∙ ap (λ (x : ℕ). within 8 x (a .at % 8) 32) (v .ensures)
+    ∙ ap (λ (x : ℕ). x / 2 ^ (64 - a .at % 8 - 32) % 2 ^ 32) (v .ensures)
 
 pub by-eight-spec : {M : Type 1} → statement M
 by-eight-spec = tie.close (tie.spec (λ c κs. search needs) (λ c. search needs) (λ c. search needs) returns)

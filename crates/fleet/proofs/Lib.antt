@@ -7,6 +7,10 @@ pub mod Turns
 pub mod Loops
 pub mod Steps
 pub mod Same
-pub mod Verdicts
 pub mod Reading
-pub mod Stages
+pub mod Places
+pub mod Stood
+pub mod Rounded
+pub mod Halts
+pub mod Judged
+pub mod Graded

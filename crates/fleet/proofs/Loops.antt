@@ -371,5 +371,17 @@ module _ (n senders : ℕ) (est : ℕ → ℕ) where
           rw (getD-set-other values (est i) c (bitOr (getD values (est i) 0) (2 ^ i)) 0 d)
           (seen-out (getD values c 0) n left i (λ j. bit senders j && eqb (est j) c) l h (s .sorted c lc) (rw (s .within i h, ne-eqb (est i) c (λ q. d (sym q)))))
 
+  -- one that belongs to none
+  pub sorting-skip : {values : List ℕ} {left : ℕ} → Sorting n senders est values left → (i : ℕ) → i < n → bit left i ≡ true → 16 ≤ est i
+      → (left′ : ℕ) → left′ ≡ bitXor left (2 ^ i) → Sorting n senders est values left′
+  sorting-skip {values} {left} s i l h large left′ e =
+      rw e (record {
+        long = s .long;
+        within = λ j o. s .within j (within-removed left i h j o);
+        sorted = λ c lc.
+            seen-out (getD values c 0) n left i (λ j. bit senders j && eqb (est j) c) l h (s .sorted c lc)
+            (rw (s .within i h, ne-eqb (est i) c (λ q. absurd (omega (arith, q, large, lc)))));
+      })
+
   pub sorting-done : {values : List ℕ} {left : ℕ} → Sorting n senders est values left → left ≡ 0 → Sorted values n senders est
   sorting-done s z c l = seen-all (rw z at (s .sorted c l))

@@ -14,12 +14,11 @@ use Rattle.basics.specs.Lists.{first}
 use Rattle.bitreader.specs.Bits.{mirrored}
 use Rattle.bitreader.proofs.Digits.{mirrored-lt}
 use Rattle.words.proofs.Words.{bit-and, same-bits}
-use Rattle.words.proofs.Mirror.{mirror-bit, mirror-and, mirror-or, mirror-xor, mirror-power, mirror-zero, mirror-eq, mirror-ones}
+use Rattle.words.proofs.Mirror.{mirror-bit, mirror-and, mirror-or, mirror-xor, mirror-power, mirror-zero}
 use Rattle.fleet.specs.declared.hearing.Values.{Values}
 use Rattle.fleet.specs.Sets.{Sorted, heardSet, sentHere, wasHeard, valuesOf}
 use Rattle.truck.specs.declared.Event.the-variants.{Proposals, Vetoes}
 use Rattle.fleet.specs.Rounds.{plainRows, proposalEvent, vetoEvent}
-use Rattle.fleet.specs.Grading.{truckVerdict}
 
 -- a word of plain rows
 pub row-plain : (n : ℕ) (rows : List ℕ) (i : ℕ) → getD (plainRows n rows) i 0 ≡ mirrored n (getD rows i 0)
@@ -40,7 +39,7 @@ module _ (n : ℕ) where
       ∙ ap₂ _&&_ (mirror-bit n a j l) (sym (mirror-bit n x (n - suc j) (omega arith) ∙ ap (bit x) (let e : n - suc (n - suc j) ≡ j = omega arith in e)))
       ∙ sym (mirror-bit n (bitAnd a (mirrored n x)) j l ∙ bit-and a (mirrored n x) (n - suc j)))
 
-  heard-packed : (senders row i : ℕ) → i < n → heardSet (mirrored n senders) row (n - suc i) ≡ mirrored n (heardSet senders (mirrored n row) i)
+  pub heard-packed : (senders row i : ℕ) → i < n → heardSet (mirrored n senders) row (n - suc i) ≡ mirrored n (heardSet senders (mirrored n row) i)
   unfolding heardSet
   heard-packed senders row i l =
       ap₂ (λ (x y : ℕ). bitOr (bitXor (mirrored n senders) x) y) (and-packed senders row)
@@ -66,7 +65,7 @@ module _ (n : ℕ) where
         ap (λ (x : ℕ). eqb x 0) (ap (bitXor (mirrored n heard)) (here-packed c) ∙ sym (mirror-xor n heard (sentHere plain heard c)))
         ∙ mirror-zero n (bitXor heard (sentHere plain heard c)) (xor-lt n heard (sentHere plain heard c) below (here-below c))
 
-    values-packed : valuesOf values (mirrored n heard) e ≡ valuesOf plain heard e
+    pub values-packed : valuesOf values (mirrored n heard) e ≡ valuesOf plain heard e
     unfolding valuesOf
     values-packed = rw (was-packed, rest-packed (first (wasHeard plain heard) 16))
 
@@ -105,8 +104,3 @@ module _ (n : ℕ) where
     veto-packed mark =
         ap (λ (b : Bool). Vetoes (bit mark i) (not b))
         (ap (λ (h : ℕ). eqb h 0) (heard-packed senders row i l) ∙ mirror-zero n plainSet plain-below)
-
-    pub verdict-packed : (m : Bool) → truckVerdict (mirrored n senders) (heardSet (mirrored n senders) row (n - suc i)) m ≡ truckVerdict senders plainSet m
-    unfolding truckVerdict
-    verdict-packed m =
-        rw (heard-packed senders row i l, mirror-eq n plainSet senders plain-below below, mirror-ones n senders below, mirror-ones n plainSet plain-below)

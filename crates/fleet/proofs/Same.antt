@@ -2,13 +2,13 @@
 use mathlib.Core.Path.{_≡_, refl, ap, ap₂, sym, _∙_}
 use mathlib.Core.Bool.{Bool, true, false, cond, not, _&&_, _||_, true≢false}
 use mathlib.Core.List.{List}
-use Prim.Native.Nat.{ℕ, _+_, _≤_, _<_}
+use Prim.Native.Nat.{ℕ, _+_, _<_}
 use borrow.Author.Tests.{lt-ltb}
 use lib.Dec.{eqb, ltb}
 use lib.ListN.{length, getD}
 use Rattle.basics.specs.Bits.{bit, odd}
 use Rattle.basics.specs.Lists.{who, filled}
-use Rattle.basics.proofs.Laws.{filled-ext, getD-filled, filled-same}
+use Rattle.basics.proofs.Laws.{filled-ext, getD-filled}
 use Rattle.air.specs.Round.{stopBit, activeBit, markBit, lossBit}
 use Rattle.air.specs.Air.{Air, hears, heardBy, heard}
 use Rattle.air.proofs.Laws.{who-ext, count-some, hears-itself}
@@ -18,7 +18,7 @@ use Rattle.protocol.specs.declared.State.{State}
 use Rattle.protocol.specs.declared.State.the-variants.{Running, Stopped, Decided}
 use Rattle.protocol.specs.declared.Truck.{Truck}
 use Rattle.protocol.specs.declared.Fleet.{Fleet}
-use Rattle.protocol.specs.Rules.{opened, truck, isOne, runs, vetoes, stops, vetoed, airOf, plays, after}
+use Rattle.protocol.specs.Rules.{truck, isOne, runs, vetoes, stops, vetoed, airOf, plays, after}
 use Rattle.protocol.proofs.OneRound.{plays-veto}
 use Rattle.protocol.specs.Fleets.{nextFleet, nextFleetIn}
 use Rattle.bitreader.specs.Bits.{mirrored}
@@ -151,18 +151,3 @@ plain-next f w =
   where
     rows : List ℕ
     rows = filled (λ i. mirrored (f .n) (getD w (3 + i) 0)) (f .n) noRows
-
--- a round in which nobody runs
-pub idle-next : (f : Fleet) (w : List ℕ) → f .n ≤ length (f .trucks) → ((j : ℕ) → j < f .n → runs (truck (f .trucks) j) ≡ false)
-    → nextFleet f w ≡ record { n = f .n; done = f .done + 1; trucks = f .trucks }
-unfolding nextFleetIn afterIn
-idle-next f w long h =
-    ap (λ (l : List Truck). record { n = f .n; done = f .done + 1; trucks = l })
-    (filled-same (opened 0) _ (f .n) (f .trucks) long (λ i l. go i (truck (f .trucks) i .state) (h i l)))
-  where
-    go : (i : ℕ) (s : State) → isRunning s ≡ false
-        → turn s (stopBit w i) (stops (f .done + 1) (truck (f .trucks) i)) (plays (airOf (f .n) (activeBit w) (f .done + 1) w (f .trucks)) (f .done + 1) w (f .trucks) i) (truck (f .trucks) i)
-        ≡ truck (f .trucks) i
-    go i Running e = absurd (true≢false e)
-    go i (Stopped r) e = refl
-    go i (Decided r) e = refl

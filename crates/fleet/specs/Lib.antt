@@ -1,4 +1,6 @@
 pub mod Sets
 pub mod Rounds
-pub mod Grading
+pub mod Listens
 pub mod Replays
+pub mod Standing
+pub mod Grading

@@ -1,74 +1,60 @@
-// What the marks of a round are worth, and the first round that breaks each class.
-use crate::hearing::heard_set;
-use crate::hearing::holds;
+// What the marks of a round are worth, by sets in packed order, and the first round that breaks each class.
 use crate::hearing::lowest;
 use crate::hearing::rest;
+use crate::listening::first_of;
+use crate::listening::heard_by;
+use crate::listening::less;
+use crate::listening::with_own;
+use crate::replay::listeners;
 use protocol::Grades;
 ghost use mathlib.Core.Path.{_≡_};
-ghost use mathlib.Core.Bool.{false, cond};
-ghost use Prim.Native.Nat.{_≤_, _<_, _^_};
-ghost use lib.Bits.{bitAnd, bitXor};
+ghost use mathlib.Core.Bool.{cond, _&&_};
+ghost use Prim.Native.Nat.{_<_, _≤_, _^_, _*_};
+ghost use lib.Count.{ones};
+ghost use lib.Dec.{eqb, leb};
+ghost use Rattle.basics.specs.Bits.{bit};
 ghost use Rattle.air.specs.Air.{Air};
-ghost use Rattle.fleet.specs.Grading.{carried, carriedAll, Described, truckVerdict, bothOf, verdictOf};
+ghost use Rattle.fleet.specs.Sets.{Members};
+ghost use Rattle.fleet.specs.Grading.{heardAt, missedAt, carried, carriedBy, Aired};
 
-// Whether the marks of a round have each of the four classes.
-pub struct Verdict {
-    pub complete: bool,
-    pub majority: bool,
-    pub zero: bool,
-    pub accurate: bool,
+// Who missed a message, who of them heard none, and who of them no majority.
+pub struct Missed {
+    pub some: u32,
+    pub all: u32,
+    pub half: u32,
 }
 
-// The verdict on one running truck, by the senders, those of them it heard, and its mark.
-fn truck_verdict(senders: u32, heard: u32, mark: bool) -> Verdict
-    ensures { λ r. ⌜ r ≡ truckVerdict senders heard mark ⌝ }
+// What those wanted miss of the senders.
+fn missing(s: &[u8], at: usize, n: usize, senders: u32, wanted: u32) -> Missed
+    requires { ⌜ (n ≤ 32) × (at < 2 ^ 32) ⌝ }
+    ensures { λ r. ⌜ Members (r .some) 32 (λ p. bit wanted p && missedAt (now (s .entry)) at n senders p)
+        × (Members (r .all) 32 (λ p. bit wanted p && (missedAt (now (s .entry)) at n senders p && eqb (heardAt (now (s .entry)) at n senders p) 0))
+        × Members (r .half) 32 (λ p. bit wanted p && (missedAt (now (s .entry)) at n senders p && leb (2 * ones (heardAt (now (s .entry)) at n senders p)) (ones senders)))) ⌝ }
 {
-    let missed = heard != senders;
     let sent = u32::count_ones(senders);
-    let count = u32::count_ones(heard);
-    Verdict {
-        complete: !missed | mark,
-        majority: !((0 < sent) & (2 * count <= sent)) | mark,
-        zero: !((0 < sent) & (count == 0)) | mark,
-        accurate: !mark | missed,
-    }
-}
-
-fn both(a: Verdict, b: Verdict) -> Verdict
-    ensures { λ r. ⌜ r ≡ bothOf a b ⌝ }
-{
-    Verdict {
-        complete: a.complete & b.complete,
-        majority: a.majority & b.majority,
-        zero: a.zero & b.zero,
-        accurate: a.accurate & b.accurate,
-    }
-}
-
-// The verdict on a round of n trucks, by those that run after its stops, the senders, and rows as they are packed.
-fn round_verdict(n: usize, going: u32, sends: u32, mark: u32, rows: &[u32; 32]) -> Verdict
-    requires { ⌜ (n ≤ 32) × (going < 2 ^ n) ⌝ }
-    ensures { λ r. ⌜ ((a : Air) → Described a n going sends mark (now (rows .entry)) → r ≡ verdictOf a) ⌝ }
-{
-    let senders = bitreader::mirror(sends, n);
-    let mut all = Verdict {
-        complete: true,
-        majority: true,
-        zero: true,
-        accurate: true,
-    };
-    let mut left = going;
+    let mut some = 0;
+    let mut all = 0;
+    let mut half = 0;
+    let mut left = wanted;
     while left != 0 {
-        let i = lowest(left);
-        let one = truck_verdict(
-            senders,
-            heard_set(senders, rows[i], n - 1 - i),
-            holds(mark, i),
-        );
-        all = both(all, one);
+        let p = lowest(left);
+        let own = first_of(left);
+        let t = bitreader::read_at(s, at + (31 - p) * n, 32);
+        let heard = heard_by(senders, t.value, own);
+        let missed = heard != senders;
+        let count = u32::count_ones(heard);
+        some = with_own(some, own, missed);
+        all = with_own(all, own, missed & (heard == 0));
+        half = with_own(half, own, missed & (2 * count <= sent));
         left = rest(left);
     }
-    all
+    Missed { some, all, half }
+}
+
+fn where_open(asked: bool, set: u32) -> u32
+    ensures { λ r. ⌜ r ≡ cond asked set 0 ⌝ }
+{
+    if asked { set } else { 0 }
 }
 
 // The first round that breaks a class, where round k is the next one looked at.
@@ -81,31 +67,34 @@ fn carry(first: u16, ok: bool, k: u16) -> u16
     if ok { 0 } else { k }
 }
 
-// The grades with round k, which was sent by those of `sent` that run, where they are asked for.
-pub(crate) fn graded(
+// The grades with round k, of which the first row stands at a place, where they are asked for.
+pub(crate) fn judged(
     judging: bool,
     grades: Grades,
-    k: u16,
+    s: &[u8],
+    at: usize,
     n: usize,
-    running: u32,
-    sent: u32,
-    stop: u32,
+    k: u16,
+    going: u32,
+    senders: u32,
     mark: u32,
-    rows: &[u32; 32],
 ) -> Grades
-    requires { ⌜ (n ≤ 32) × (running < 2 ^ n) ⌝ }
-    ensures { λ r. ⌜ ((a : Air) → Described a n (bitXor running (bitAnd running stop)) (bitAnd (bitXor running (bitAnd running stop)) sent) mark (now (rows .entry))
-        → r ≡ cond judging (carriedAll grades (verdictOf a) k) grades) × (judging ≡ false → r ≡ grades) ⌝ }
+    requires { ⌜ (n ≤ 32) × (at < 2 ^ 32) ⌝ }
+    ensures { λ r. ⌜ ((a : Air) → Aired a (now (s .entry)) at n going senders mark → r ≡ cond judging (carriedBy grades a k) grades) ⌝ }
 {
     if !judging {
         return grades;
     }
-    let going = running ^ (running & stop);
-    let v = round_verdict(n, going, going & sent, mark, rows);
+    let first = where_open(
+        (grades.complete == 0) | (grades.majority == 0) | (grades.zero == 0),
+        less(going, mark),
+    );
+    let last = where_open(grades.accurate == 0, going & mark);
+    let m = missing(s, at, n, senders, listeners(senders, first | last));
     Grades {
-        complete: carry(grades.complete, v.complete, k),
-        majority: carry(grades.majority, v.majority, k),
-        zero: carry(grades.zero, v.zero, k),
-        accurate: carry(grades.accurate, v.accurate, k),
+        complete: carry(grades.complete, less(m.some, mark) == 0, k),
+        majority: carry(grades.majority, less(m.half, mark) == 0, k),
+        zero: carry(grades.zero, less(m.all, mark) == 0, k),
+        accurate: carry(grades.accurate, less(going & mark, m.some) == 0, k),
     }
 }

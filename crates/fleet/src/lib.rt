@@ -15,6 +15,7 @@ ghost use Rattle.fleet.specs.Rounds.{noRows};
 
 mod grading;
 mod hearing;
+mod listening;
 mod replay;
 mod round;
 
@@ -84,7 +85,7 @@ pub fn run(s: &[u8]) -> Answer
     match outcome {
         Outcome::Accepted => {
             let end = replay::replay(s, false);
-            let fleet = end.roster.fleet;
+            let fleet = end.fleet;
             Answer {
                 outcome: Outcome::Accepted,
                 fleet,

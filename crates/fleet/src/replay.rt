@@ -1,183 +1,378 @@
-// A recording run from its bytes: proposal rounds and veto rounds hand on to each other, each with one round fewer left.
-use crate::grading::graded;
+// A recording run from its bytes by sets in packed order, truck j at the bit worth 2 to the 31 - j: proposal rounds and veto rounds hand on to each other, each with one round fewer left.
+use crate::grading::judged;
+use crate::hearing::holds;
 use crate::hearing::lowest;
+use crate::hearing::only;
 use crate::hearing::rest;
-use crate::round::Roster;
-use crate::round::proposal_round;
-use crate::round::roster_of;
-use crate::round::veto_round;
+use crate::listening::deciding;
+use crate::listening::first_heard;
+use crate::listening::hear;
+use crate::listening::less;
+use crate::listening::settle;
 use protocol::Fleet;
 use protocol::Grades;
+use protocol::Heard;
+use protocol::State;
+use protocol::Truck;
 ghost use mathlib.Core.Path.{_≡_};
-ghost use mathlib.Core.Bool.{true, false, cond};
-ghost use Prim.Native.Nat.{_+_, _*_, _<_, _≤_, _^_};
-ghost use lib.Bits.{bitAnd, bitOr, bitXor};
+ghost use mathlib.Core.Bool.{false, true, cond};
+ghost use Prim.Native.Nat.{_+_, _*_, _-_, _<_, _≤_, _^_};
 ghost use lib.Dec.{eqb};
-ghost use lib.ListN.{replicate};
+ghost use lib.ListN.{length};
+ghost use Rattle.basics.specs.Bits.{bit, odd};
+ghost use Rattle.basics.specs.Lists.{filled, first};
 ghost use Rattle.refusals.specs.declared.Outcome.the-variants.{Accepted};
-ghost use Rattle.basics.specs.Bits.{odd};
-ghost use Rattle.basics.specs.Lists.{filled};
-ghost use Rattle.recording.specs.Packed.{roundsOf, openingAt};
-ghost use Rattle.recording.specs.Checks.{checkOf};
-ghost use Rattle.fleet.specs.Replays.{RowsRead, counted, Reached, Moved, Finished};
+ghost use Rattle.recording.specs.Packed.{trucksOf, roundsOf, openingAt};
+ghost use Rattle.recording.specs.Checks.{frameCheck};
+ghost use Rattle.protocol.specs.declared.Heard.the-variants.{Nothing};
+ghost use Rattle.fleet.specs.Sets.{Sorted, wasHeard};
+ghost use Rattle.fleet.specs.Replays.{fleetAfter, gradesAfter};
+ghost use Rattle.fleet.specs.Standing.{stateOf, memoryOf, standing, unreadOf, Proposes, Vetoes, noted, Due, Halted};
 
-// What a run has come to: a roster, and the grades of the rounds so far where they are asked for.
-pub struct Course {
-    pub roster: Roster,
+// Those that go on after a proposal round's stops, its senders and marks, and who heard one value and who several.
+pub struct Proposed {
+    pub going: u32,
+    pub senders: u32,
+    pub mark: u32,
+    pub one: u32,
+    pub several: u32,
+}
+
+// Those that go on after a veto round's stops, its senders and marks, those that run on after it, and those that decided in it.
+pub struct Vetoed {
+    pub going: u32,
+    pub senders: u32,
+    pub mark: u32,
+    pub on: u32,
+    pub done: u32,
+}
+
+// How the trucks stand after some rounds.
+pub struct Sets {
+    pub running: u32,
+    pub decided: u32,
+    pub marked: u32,
+    pub one: u32,
+    pub several: u32,
+    pub done: u16,
     pub grades: Grades,
 }
 
-// Those whose rows matter: nobody's, where nobody sends; else of those that go on all but `without`.
-fn listeners(going: u32, senders: u32, without: u32) -> u32
-    ensures { λ r. ⌜ r ≡ cond (eqb senders 0) 0 (bitXor going (bitAnd going without)) ⌝ }
-{
-    if senders == 0 {
-        0
-    } else {
-        going ^ (going & without)
-    }
+// What a run has come to, and the grades of its rounds where they are asked for.
+pub struct Course {
+    pub fleet: Fleet,
+    pub grades: Grades,
 }
 
-// Those whose rows don't matter in a veto round: with a mark, or with a veto of its own, no truck decides. A round that is judged wants every row.
-fn undecided(judging: bool, mark: u32, vetoing: u32) -> u32
-    ensures { λ r. ⌜ r ≡ cond judging 0 (bitOr mark vetoing) ⌝ }
+// Those of a set came to their end in round k.
+fn ended(ends: &mut [u16; 32], who: u32, k: u16)
+    requires { ⌜ length (now ends) ≡ 32 ⌝ }
+    ensures { λ _. ⌜ now (ends .exit) ≡ filled (noted (now (ends .entry)) who k) 32 (now (ends .entry)) ⌝ }
 {
-    if judging { 0 } else { mark | vetoing }
-}
-
-// The rows of the trucks of a set as they are packed, of a round whose first row stands at a place.
-fn rows_at(s: &[u8], at: usize, n: usize, among: u32) -> [u32; 32]
-    requires { ⌜ (n ≤ 32) × (at < 2 ^ 32) × (among < 2 ^ n) ⌝ }
-    ensures { λ r. ⌜ RowsRead (now (s .entry)) at n among r ⌝ }
-{
-    let mut rows = [0u32; 32];
-    let mut left = among;
+    let mut left = who;
     while left != 0 {
-        let i = lowest(left);
-        let t = bitreader::read_at(s, at + i * n, n);
-        rows[i] = t.value;
+        let p = lowest(left);
+        ends[31 - p] = k;
         left = rest(left);
     }
-    rows
 }
 
-// The rounds left, where nobody runs any more: only the count rises.
-fn pass_over(c: Course, left: u16) -> Course
-    requires { ⌜ c .roster .fleet .done + left ≤ 400 ⌝ }
-    ensures { λ r. ⌜ r ≡ counted c left ⌝ }
+// What trucks with a mark heard is asked for after the last round only.
+fn unread(left: u16, mark: u32) -> u32
+    ensures { λ r. ⌜ r ≡ unreadOf left mark ⌝ }
 {
-    let done = c.roster.fleet.done + left;
-    let mut next = c;
-    next.roster.fleet.done = done;
-    next
+    if left == 1 { 0 } else { mark }
 }
 
-// The proposal round that stands at a place.
-fn propose(s: &[u8], at: usize, judging: bool, c: Course) -> Course
-    requires { ⌜ Reached (now s) at judging c × (c .roster .fleet .done < roundsOf (now s)) × (odd (c .roster .fleet .done) ≡ false) ⌝ }
-    ensures { λ q. ⌜ Moved (now (s .entry)) at judging c q ⌝ }
+// Nobody listens where nobody sends.
+pub(crate) fn listeners(senders: u32, wanted: u32) -> u32
+    ensures { λ r. ⌜ r ≡ cond (eqb senders 0) 0 wanted ⌝ }
 {
-    let running = c.roster.running;
-    let n = c.roster.fleet.n as usize;
-    let k = c.roster.fleet.done + 1;
-    let stop = bitreader::row_at(s, at, n);
-    let active = bitreader::row_at(s, at + n, n);
-    let mark = bitreader::row_at(s, at + 2 * n, n);
-    let going = running ^ (running & stop);
-    let rows = rows_at(s, at + 3 * n, n, listeners(going, going & active, 0));
-    let grades = graded(judging, c.grades, k, n, running, active, stop, mark, &rows);
-    let roster = proposal_round(c.roster, stop, active, mark, &rows);
-    Course { roster, grades }
+    if senders == 0 { 0 } else { wanted }
 }
 
-// The veto round that stands at a place.
-fn veto(s: &[u8], at: usize, judging: bool, c: Course) -> Course
-    requires { ⌜ Reached (now s) at judging c × (c .roster .fleet .done < roundsOf (now s)) × (odd (c .roster .fleet .done) ≡ true) ⌝ }
-    ensures { λ q. ⌜ Moved (now (s .entry)) at judging c q ⌝ }
+// The proposal round at a place.
+fn propose(s: &[u8], at: usize, n: usize, left: u16, running: u32, by: &mut [u32; 16]) -> Proposed
+    requires { ⌜ (n ≤ 32) × ((at < 2 ^ 31) × (length (now by) ≡ 16)) ⌝ }
+    ensures { λ r. ⌜ Proposes (now (s .entry)) at n left running (now (by .entry)) (now (by .exit)) r ⌝ }
 {
-    let running = c.roster.running;
-    let vetoing = c.roster.vetoing;
-    let n = c.roster.fleet.n as usize;
-    let k = c.roster.fleet.done + 1;
-    let stop = bitreader::row_at(s, at, n);
-    let mark = bitreader::row_at(s, at + 2 * n, n);
-    let going = running ^ (running & stop);
-    let among = listeners(going, going & vetoing, undecided(judging, mark, vetoing));
-    let rows = rows_at(s, at + 3 * n, n, among);
-    let grades = graded(judging, c.grades, k, n, running, vetoing, stop, mark, &rows);
-    let roster = veto_round(c.roster, stop, mark, &rows);
-    Course { roster, grades }
+    let stop = bitreader::bits_at(s, at, 32);
+    let active = bitreader::bits_at(s, at + n, 32);
+    let mark = bitreader::bits_at(s, at + 2 * n, 32);
+    let going = less(running, stop);
+    let senders = going & active;
+    let wanted = listeners(senders, less(going, unread(left, mark)));
+    let h = hear(s, at + 3 * n, n, senders, wanted, by);
+    settle(by, &h.taking, less(h.one | h.several, mark));
+    Proposed {
+        going,
+        senders,
+        mark,
+        one: h.one,
+        several: h.several,
+    }
+}
+
+// The veto round at a place.
+fn veto(s: &[u8], at: usize, n: usize, running: u32, marked: u32, one: u32, several: u32) -> Vetoed
+    requires { ⌜ (n ≤ 32) × (at < 2 ^ 31) ⌝ }
+    ensures { λ r. ⌜ Vetoes (now (s .entry)) at n running marked one several r ⌝ }
+{
+    let stop = bitreader::bits_at(s, at, 32);
+    let mark = bitreader::bits_at(s, at + 2 * n, 32);
+    let going = less(running, stop);
+    let senders = going & (marked | several);
+    let may = less(going & one, mark | marked);
+    let done = deciding(s, at + 3 * n, n, senders, may);
+    Vetoed {
+        going,
+        senders,
+        mark,
+        on: going ^ done,
+        done,
+    }
 }
 
 // A proposal round and those after it.
-fn proposals(s: &[u8], at: usize, left: u16, judging: bool, c: Course) -> Course
-    requires { ⌜ Reached (now s) at judging c × (c .roster .fleet .done + left ≡ roundsOf (now s)) × (odd (c .roster .fleet .done) ≡ false) ⌝ }
-    ensures { λ q. ⌜ Finished (now (s .entry)) judging q ⌝ }
+fn proposals(
+    s: &[u8],
+    at: usize,
+    n: usize,
+    left: u16,
+    k: u16,
+    by: &mut [u32; 16],
+    ends: &mut [u16; 32],
+    running: u32,
+    decided: u32,
+    until: u32,
+    judging: bool,
+    grades: Grades,
+) -> Sets
+    requires { ⌜ Due (now s) at n left k (now by) (now ends) running decided 0 0 0 until × ((odd k ≡ false) × (grades ≡ gradesAfter (now s) judging k)) ⌝ }
+    ensures { λ r. ⌜ Halted (now (s .entry)) (k + left) (now (by .exit)) (now (ends .exit)) until r × (r .grades ≡ gradesAfter (now (s .entry)) judging (r .done)) ⌝ }
 {
-    if left == 0 {
-        return c;
+    if (left == 0) | (running == 0) | (decided & until != 0) {
+        return Sets {
+            running,
+            decided,
+            marked: 0,
+            one: 0,
+            several: 0,
+            done: k,
+            grades,
+        };
     }
-    if c.roster.running == 0 {
-        return pass_over(c, left);
-    }
-    let n = c.roster.fleet.n as usize;
-    let q = propose(s, at, judging, c);
-    vetoes(s, at + (3 + n) * n, left - 1, judging, q)
+    let q = propose(s, at, n, left, running, by);
+    let g = judged(
+        judging,
+        grades,
+        s,
+        at + 3 * n,
+        n,
+        k + 1,
+        q.going,
+        q.senders,
+        q.mark,
+    );
+    ended(ends, less(running, q.going), k + 1);
+    vetoes(
+        s,
+        at + (3 + n) * n,
+        n,
+        left - 1,
+        k + 1,
+        by,
+        ends,
+        q.going,
+        decided,
+        q.mark,
+        q.one,
+        q.several,
+        until,
+        judging,
+        g,
+    )
 }
 
 // A veto round and those after it.
-fn vetoes(s: &[u8], at: usize, left: u16, judging: bool, c: Course) -> Course
-    requires { ⌜ Reached (now s) at judging c × (c .roster .fleet .done + left ≡ roundsOf (now s)) × (odd (c .roster .fleet .done) ≡ true) ⌝ }
-    ensures { λ q. ⌜ Finished (now (s .entry)) judging q ⌝ }
+fn vetoes(
+    s: &[u8],
+    at: usize,
+    n: usize,
+    left: u16,
+    k: u16,
+    by: &mut [u32; 16],
+    ends: &mut [u16; 32],
+    running: u32,
+    decided: u32,
+    marked: u32,
+    one: u32,
+    several: u32,
+    until: u32,
+    judging: bool,
+    grades: Grades,
+) -> Sets
+    requires { ⌜ Due (now s) at n left k (now by) (now ends) running decided marked one several until × ((odd k ≡ true) × (grades ≡ gradesAfter (now s) judging k)) ⌝ }
+    ensures { λ r. ⌜ Halted (now (s .entry)) (k + left) (now (by .exit)) (now (ends .exit)) until r × (r .grades ≡ gradesAfter (now (s .entry)) judging (r .done)) ⌝ }
 {
-    if left == 0 {
-        return c;
+    if (left == 0) | (running == 0) | (decided & until != 0) {
+        return Sets {
+            running,
+            decided,
+            marked,
+            one,
+            several,
+            done: k,
+            grades,
+        };
     }
-    if c.roster.running == 0 {
-        return pass_over(c, left);
-    }
-    let n = c.roster.fleet.n as usize;
-    let q = veto(s, at, judging, c);
-    proposals(s, at + (3 + n) * n, left - 1, judging, q)
+    let q = veto(s, at, n, running, marked, one, several);
+    let g = judged(
+        judging,
+        grades,
+        s,
+        at + 3 * n,
+        n,
+        k + 1,
+        q.going,
+        q.senders,
+        q.mark,
+    );
+    ended(ends, less(running, q.on), k + 1);
+    proposals(
+        s,
+        at + (3 + n) * n,
+        n,
+        left - 1,
+        k + 1,
+        by,
+        ends,
+        q.on,
+        decided | q.done,
+        until,
+        judging,
+        g,
+    )
 }
 
-// The openings of n trucks.
-fn openings_of(s: &[u8], n: u8) -> [u8; 32]
-    requires { ⌜ n ≤ 32 ⌝ }
-    ensures { λ r. ⌜ r ≡ filled (openingAt (now (s .entry))) n (replicate 32 0) ⌝ }
+fn state_of(running: bool, decided: bool, end: u16) -> State
+    ensures { λ r. ⌜ r ≡ stateOf running decided end ⌝ }
 {
-    let mut openings = [0u8; 32];
-    let mut i = 0;
+    if running {
+        return State::Running;
+    }
+    if decided {
+        return State::Decided(end);
+    }
+    State::Stopped(end)
+}
+
+fn heard_of(running: bool, one: bool, several: bool) -> Heard
+    ensures { λ r. ⌜ r ≡ cond running (memoryOf one several) Nothing ⌝ }
+{
+    if !running {
+        return Heard::Nothing;
+    }
+    if one {
+        return Heard::One;
+    }
+    if several {
+        return Heard::Several;
+    }
+    Heard::Nothing
+}
+
+// The truck at place p.
+fn truck_of(b: Sets, by: &[u32; 16], opening: u8, end: u16, p: usize) -> Truck
+    requires { ⌜ p < 32 ⌝ }
+    ensures { λ r. ⌜ r ≡ standing opening (first (wasHeard (now (by .entry)) (2 ^ p)) 16) (memoryOf (bit (b .one) p) (bit (b .several) p)) (bit (b .running) p) (bit (b .decided) p) (bit (b .marked) p) end ⌝ }
+{
+    let running = holds(b.running, p);
+    let heard = heard_of(running, holds(b.one, p), holds(b.several, p));
+    let state = state_of(running, holds(b.decided, p), end);
+    let c = first_heard(by, only(p));
+    Truck {
+        opening,
+        estimate: c as u8,
+        mark: running & holds(b.marked, p),
+        heard,
+        state,
+    }
+}
+
+// The record of a run that has come to its end, with all rounds done.
+fn fleet_of(s: &[u8], n: u8, rounds: u16, b: Sets, by: &[u32; 16], ends: &[u16; 32]) -> Fleet
+    requires { ⌜ Halted (now s) rounds (now by) (now ends) 0 b × (n ≡ trucksOf (now s)) ⌝ }
+    ensures { λ r. ⌜ r ≡ fleetAfter (now (s .entry)) rounds ⌝ }
+{
+    let mut f = start::blank();
+    f.n = n;
+    f.done = rounds;
+    let mut i: u8 = 0;
     while i < n {
         let k = i as usize;
-        openings[k] = recording::opening(s, i);
+        let o = recording::opening(s, i);
+        f.trucks[k] = truck_of(b, by, o, ends[k], 31 - k);
         i += 1;
     }
-    openings
+    f
 }
 
-// All rounds of an accepted recording.
+// The trucks of each opening.
+fn openers(s: &[u8], all: u32) -> [u32; 16]
+    ensures { λ r. ⌜ Sorted r 32 all (λ p. openingAt (now (s .entry)) (31 - p)) × (length r ≡ 16) ⌝ }
+{
+    let mut by = [0u32; 16];
+    let mut left = all;
+    while left != 0 {
+        let p = lowest(left);
+        let c = recording::opening(s, (31 - p) as u8) as usize;
+        by[c] = by[c] | only(p);
+        left = rest(left);
+    }
+    by
+}
+
+// The first n trucks.
+fn everyone(n: usize) -> u32
+    requires { ⌜ n ≤ 32 ⌝ }
+    ensures { λ r. ⌜ r ≡ (2 ^ n - 1) * 2 ^ (32 - n) ⌝ }
+{
+    (((1u64 << n) - 1) << (32 - n)) as u32
+}
+
+// All rounds of a recording whose frame is good.
 pub(crate) fn replay(s: &[u8], judging: bool) -> Course
-    requires { ⌜ checkOf (now s) ≡ Accepted ⌝ }
-    ensures { λ q. ⌜ Finished (now (s .entry)) judging q ⌝ }
+    requires { ⌜ frameCheck (now s) ≡ Accepted ⌝ }
+    ensures { λ r. ⌜ (r .fleet ≡ fleetAfter (now (s .entry)) (roundsOf (now (s .entry)))) × (r .grades ≡ gradesAfter (now (s .entry)) judging (roundsOf (now (s .entry)))) ⌝ }
 {
     let trucks = recording::truck_count(s);
+    let rounds = recording::round_count(s);
     let n = trucks as usize;
-    let openings = openings_of(s, trucks);
-    let a = start::start(trucks, &openings[..n]);
-    let f = a.fleet;
-    let grades = Grades {
+    let all = everyone(n);
+    let mut by = openers(s, all);
+    let mut ends = [0u16; 32];
+    let none = Grades {
         complete: 0,
         majority: 0,
         zero: 0,
         accurate: 0,
     };
-    let roster = roster_of(f);
-    proposals(
+    let b = proposals(
         s,
         16 + 4 * n,
-        recording::round_count(s),
+        n,
+        rounds,
+        0,
+        &mut by,
+        &mut ends,
+        all,
+        0,
+        0,
         judging,
-        Course { roster, grades },
-    )
+        none,
+    );
+    let grades = b.grades;
+    let fleet = fleet_of(s, trucks, rounds, b, &by, &ends);
+    Course { fleet, grades }
 }

@@ -1,35 +1,47 @@
 -- `replay` meets its contract.
-use mathlib.Core.Path.{ap, sym, subst, _∙_}
-use Prim.Native.Nat.{_≤_}
-use native.Mathlib.Omega.{arith}
+use mathlib.Core.Path.{refl, ap, subst, _∙_}
+use Prim.Native.Nat.{ℕ, _+_}
+use mathlib.Core.List.{List}
+use native.Mathlib.Nat.{zero-add}
 use borrow.Author.Needs.{needs}
-use Rattle.protocol.specs.declared.Fleet.{Fleet}
-use Rattle.basics.specs.Bits.{odd}
-use Rattle.recording.proofs.Accepted.{bytes-good}
-use Rattle.fleet.proofs.Stages.{start-few, start-takes, start-long, start-opens, start-reached}
+use Rattle.fleet.specs.declared.replay.Sets.{Sets}
+use Rattle.fleet.specs.Replays.{fleetAfter, gradesAfter}
+use Rattle.fleet.specs.Standing.{Halted}
+use Rattle.fleet.proofs.Halts.{first-few, first-due, grades-ended}
+use Rattle.fleet.proofs.Graded.{grades-none}
 use Rattle.fleet.proofs.replay.replay.Statement.{statement}
 use Rattle.fleet.proofs.replay.replay.Tie as tie
 
-openings-of-requires : tie.Need-openings-of-requires
-openings-of-requires c κs = omega (arith, c .truck-count .ensures, bytes-good (c .before .before .args .s .now) (c .before .before .pre) .frame .most)
+-- the rounds are counted from 0
+ended : (s : List ℕ) (rounds : ℕ) (by ends : List ℕ) (b : Sets) → Halted s (0 + rounds) by ends 0 b → Halted s rounds by ends 0 b
+ended s rounds by ends b h = subst (λ (k : ℕ). Halted s k by ends 0 b) (zero-add rounds) h
 
-array-share-prefix-openings : tie.Need-array-share-prefix-openings
-array-share-prefix-openings c = omega (arith, start-few (c .before .before .before .args .s .now) (c .before .truck-count .result) (c .openings-of .result) (c .before .before .before .pre) (c .before .truck-count .ensures) (c .openings-of .ensures), start-long (c .before .before .before .args .s .now) (c .before .truck-count .result) (c .openings-of .result) (c .before .before .before .pre) (c .before .truck-count .ensures) (c .openings-of .ensures))
-
-slice-aggregate-start : tie.Need-slice-aggregate-start
-slice-aggregate-start c = start-takes (c .before .before .before .before .args .s .now) (c .before .before .truck-count .result) (c .before .openings-of .result) (c .before .before .before .before .pre) (c .before .before .truck-count .ensures) (c .before .openings-of .ensures)
-
-roster-of-requires : tie.Need-roster-of-requires
-roster-of-requires c κs =
-    subst (λ (f : Fleet). f .n ≤ 32) (sym (start-opens (c .before .before .before .before .before .before .args .s .now) (c .before .before .before .before .truck-count .result) (c .before .before .before .openings-of .result) (c .before .before .before .before .before .before .pre) (c .before .before .before .before .truck-count .ensures) (c .before .before .before .openings-of .ensures) (c .before .start .result) (c .before .start .ensures))) (start-few (c .before .before .before .before .before .before .args .s .now) (c .before .before .before .before .truck-count .result) (c .before .before .before .openings-of .result) (c .before .before .before .before .before .before .pre) (c .before .before .before .before .truck-count .ensures) (c .before .before .before .openings-of .ensures))
+everyone-requires : tie.Need-everyone-requires
+everyone-requires c κs = first-few (c .before .before .before .args .s .now) (c .before .before .before .pre) (c .before .truck-count .result) (c .before .truck-count .ensures) .0
 
 proposals-requires : tie.Need-proposals-requires
 proposals-requires c κs =
-    let e = c .before .roster-of .ensures .0 ∙ start-opens (c .before .before .before .before .before .before .before .before .args .s .now) (c .before .before .before .before .before .before .truck-count .result) (c .before .before .before .before .before .openings-of .result) (c .before .before .before .before .before .before .before .before .pre) (c .before .before .before .before .before .before .truck-count .ensures) (c .before .before .before .before .before .openings-of .ensures) (c .before .before .before .start .result) (c .before .before .before .start .ensures) in
-    let d = ap (λ (f : Fleet). f .done) e in (
-      start-reached (c .before .before .before .before .before .before .before .before .args .s .now) (c .before .before .before .before .before .before .truck-count .result) (c .before .before .before .before .before .openings-of .result) (c .before .before .before .before .before .before .before .before .pre) (c .before .before .before .before .before .before .truck-count .ensures) (c .before .before .before .before .before .openings-of .ensures) (c .before .before .before .before .before .before .before .before .args .judging) (c .before .roster-of .result) e (c .before .roster-of .ensures .1),
-      omega (arith, d, c .round-count .ensures),
-      ap odd d,
+    let z = c .before .before .before .before .before .before .before in
+    let n = c .before .before .before .before .before .truck-count in
+    let r = c .before .before .before .before .round-count in
+    let all = c .before .before .before .everyone in
+    let by = c .before .before .openers in
+    (first-due (z .args .s .now) (z .pre) (n .result) (n .ensures) (r .result) (all .result) 0 (by .result) (r .ensures) (all .ensures) (by .ensures), (refl, grades-none (z .args .s .now) (z .args .judging)))
+
+fleet-of-requires : tie.Need-fleet-of-requires
+fleet-of-requires c κs =
+    let b = c .before .before .before .proposals in
+    (ended (c .before .before .before .before .before .before .before .before .before .before .before .args .s .now) (c .before .before .before .before .before .before .before .before .round-count .result) (b .last .1 .1 .1 .1 .1 .0) (b .last .1 .1 .1 .1 .1 .1 .0) (b .result) (b .ensures .0), c .before .before .before .before .before .before .before .before .before .truck-count .ensures)
+
+returns : tie.Need-returns
+returns c =
+    let a = c .before .before .before .before .before .before .before .before .before .before .before .before .args in
+    let r = c .before .before .before .before .before .before .before .before .before .round-count in
+    let b = c .before .before .before .before .proposals in (
+      c .fleet-of .ensures ∙ ap (fleetAfter (a .s .now)) (r .ensures),
+      b .ensures .1
+          ∙ grades-ended (ended (a .s .now) (r .result) (b .last .1 .1 .1 .1 .1 .0) (b .last .1 .1 .1 .1 .1 .1 .0) (b .result) (b .ensures .0)) (a .judging)
+          ∙ ap (gradesAfter (a .s .now) (a .judging)) (r .ensures),
     )
 
 pub replay-spec : {M : Type 1} → statement M
@@ -37,14 +49,12 @@ replay-spec =
     tie.close
     (tie.spec
     (λ c κs. search needs)
-    (λ c. search needs)
-    openings-of-requires
-    array-share-prefix-openings
-    slice-aggregate-start
     (λ c κs. search needs)
-    roster-of-requires
     (λ c. search needs)
-    (λ c. search needs)
+    everyone-requires
     (λ c κs. search needs)
+    (λ c. search needs)
+    (λ c. search needs)
     proposals-requires
-    (λ c. search needs))
+    fleet-of-requires
+    returns)

@@ -1,0 +1,354 @@
+-- A run by sets, from round to round and to its end.
+use mathlib.Core.Path.{_≡_, refl, ap, ap₂, sym, subst, subst₂, _∙_}
+use mathlib.Core.Bool.{Bool, true, false, cond, not, _&&_, _||_, and-false, true≢false, false≢true}
+use mathlib.Core.List.{List, []}
+use Prim.Native.Nat.{ℕ, suc, _+_, _*_, _-_, _^_, _≤_, _<_}
+use native.Mathlib.Nat.{mul-le-mul}
+use native.Mathlib.Numerals.{add-one}
+use native.Mathlib.Decide.{decLt, ℕ-discrete}
+use native.Mathlib.Omega.{arith}
+use borrow.Author.Tests.{eq-eqb, ne-eqb, eqb-true, eqb-false, lt-ltb, le-ltb, not-false}
+use lib.Bits.{bitAnd, bitOr, and-le-l, and-zero-l, and-zero-r}
+use lib.Pow.{pow-lt}
+use lib.Dec.{eqb, ltb}
+use lib.ListN.{length, getD, set, replicate}
+use lib.Seq.{ext-getD}
+use Rattle.air.specs.Runs.{stateAt}
+use Rattle.basics.specs.Bits.{bit, odd}
+use Rattle.basics.specs.Lists.{filled, first}
+use Rattle.basics.proofs.Laws.{or-left, or-right, odd-suc, first-unique, getD-filled, getD-filled-past, length-filled, length-tab, getD-tab, filled-none, fill-step}
+use Rattle.refusals.specs.declared.Outcome.the-variants.{Accepted}
+use Rattle.words.proofs.Words.{bit-and, bit-or, bit-power, bit-zero, no-bits}
+use Rattle.recording.specs.Packed.{trucksOf, roundsOf, openingAt, openingsOf, roundAt}
+use Rattle.recording.specs.Checks.{frameCheck}
+use Rattle.recording.proofs.Accepted.{frame-good}
+use Rattle.protocol.specs.declared.Heard.{Heard}
+use Rattle.protocol.specs.declared.Heard.the-variants.{Nothing}
+use Rattle.protocol.specs.declared.Truck.{Truck}
+use Rattle.protocol.specs.declared.Fleet.{Fleet}
+use Rattle.protocol.specs.Cycles.{afterIn}
+use Rattle.protocol.specs.Rules.{opened, truck, after, isOne, isSeveral, twoRules}
+use Rattle.protocol.specs.Runs.{openedTrucks, trucksAt, trucksIn}
+use Rattle.protocol.specs.Fleets.{blank, fleetIn}
+use Rattle.air.specs.Round.{activeBit}
+use Rattle.start.proofs.Records.{length-start}
+use Rattle.protocol.proofs.Opened.{length-opened, truck-unopened}
+use Rattle.protocol.proofs.OneRound.{sound-two}
+use Rattle.protocol.proofs.AnyRun.{at-suc, opened-truck, throughout, estimates-open, kept}
+use Rattle.fleet.specs.declared.replay.Proposed.{Proposed}
+use Rattle.fleet.specs.declared.replay.Vetoed.{Vetoed}
+use Rattle.fleet.specs.declared.replay.Sets.{Sets}
+use Rattle.fleet.specs.Sets.{Sorted, wasHeard}
+use Rattle.fleet.specs.Listens.{without}
+use Rattle.recording.proofs.RoundTrip.{openings-read}
+use Rattle.fleet.specs.Rounds.{estimates}
+use Rattle.fleet.specs.Replays.{fleetAfter, gradesAfter}
+use Rattle.fleet.specs.Grading.{carriedBy, Aired}
+use Rattle.air.specs.Air.{Air}
+use Rattle.protocol.specs.declared.Grades.{Grades}
+use Rattle.fleet.proofs.Graded.{airAfter, grades-next, grades-idle}
+use Rattle.fleet.specs.Standing.{ReadsAs, next, holds, trucksAfter, stateOf, memoryOf, standing, Stands, Proposes, Vetoes, noted, Fresh, Due, Halted}
+use Rattle.fleet.proofs.Reading.{placeOf, word-here, place-small, place-next}
+use Rattle.fleet.proofs.Places.{read-bit, everyone, everyone-lt, everyone-in, everyone-out, turn-back}
+use Rattle.fleet.proofs.Stood.{runs-is, memory-back, proposal-stands, veto-stands, veto-ended, proposal-aired, veto-aired}
+
+-- what the rounds of a recording have in common
+module _ (s : List ℕ) (good : frameCheck s ≡ Accepted) where
+  few : trucksOf s ≤ 32
+  few = frame-good s good .most
+
+  small : (k j : ℕ) → j < trucksOf s → estimates (trucksAfter s k) j < 16
+  small k j l =
+      let e = estimates-open twoRules (trucksOf s) (openingsOf s) (roundAt s) few (sound-two .takes) k j l in
+      omega (arith, e .2, openings-read s .opening (e .0) (e .1))
+
+  read-as : (k at : ℕ) → at ≡ placeOf s k → ReadsAs s at (trucksOf s) (roundAt s k)
+  read-as k at e i j li l =
+      read-bit s (at + i * trucksOf s) (trucksOf s) j few l
+      ∙ ap (λ (x : ℕ). bit x j) (word-here s k i (at + i * trucksOf s) li (ap (λ (x : ℕ). x + i * trucksOf s) e))
+
+-- ---- round by round
+module _ {s : List ℕ} {at n left k : ℕ} {by ends : List ℕ} {running decided marked one several until : ℕ} (d : Due s at n left k by ends running decided marked one several until) where
+  pub due-few : n ≤ 32
+  due-few = omega (arith, d .count, few s (d .good))
+
+  at-place : at ≡ placeOf s k
+  at-place = d .place ∙ ap (λ (m : ℕ). 16 + 4 * m + k * (3 + m) * m) (d .count)
+
+  -- the run has come to its end
+  pub halts : (eqb left 0 || eqb running 0 || not (eqb (bitAnd decided until) 0)) ≡ true → (g : Grades)
+      → Halted s (k + left) by ends until (record { running = running; decided = decided; marked = marked; one = one; several = several; done = k; grades = g })
+  halts h g =
+      record {
+        good = d .good;
+        stands = d .stands;
+        most = omega arith;
+        over = λ some none. go (eqb left 0) refl (eqb running 0) refl (eqb (bitAnd decided until) 0) (eq-eqb (bitAnd decided until) 0 none) h some;
+        fresh = d .fresh;
+      }
+    where
+      go : (x : Bool) → eqb left 0 ≡ x → (y : Bool) → eqb running 0 ≡ y → (z : Bool) → z ≡ true → (x || y || not z) ≡ true → (running ≡ 0 → ⊥) → k ≡ k + left
+      go true ex y ey z ez e some = omega (arith, eqb-true left 0 ex)
+      go false ex true ey z ez e some = absurd (some (eqb-true running 0 ey))
+      go false ex false ey true ez e some = absurd (false≢true e)
+      go false ex false ey false ez e some = absurd (false≢true ez)
+
+  module _ (on : (eqb left 0 || eqb running 0 || not (eqb (bitAnd decided until) 0)) ≡ false) where
+    pub due-left : left ≡ 0 → ⊥
+    due-left = eqb-false left 0 (or-left (eqb left 0) (eqb running 0) (or-left (eqb left 0 || eqb running 0) (not (eqb (bitAnd decided until) 0)) on))
+
+    -- none of `until` has decided yet
+    none-yet : bitAnd decided until ≡ 0
+    none-yet = eqb-true (bitAnd decided until) 0 (not-false (eqb (bitAnd decided until) 0) (or-right (eqb left 0 || eqb running 0) (not (eqb (bitAnd decided until) 0)) on))
+
+    due-more : 0 < left
+    due-more = go (decLt 0 left)
+      where
+        go : Dec (0 < left) → 0 < left
+        go (yes l) = l
+        go (no h) = absurd (due-left (omega arith))
+
+    -- the numbers of the next round are small
+    pub due-room : (n ≤ 32) × (((3 + n) * n ≤ 35 * 32) × ((at < 450000) × ((0 < left) × (k < 400))))
+    due-room = (
+      due-few,
+      (
+        mul-le-mul (let z : 3 + n ≤ 35 = omega (arith, due-few) in z) due-few,
+        (omega (arith, at-place, place-small s k (few s (d .good)) (omega (arith, due-more, d .most))), (due-more, omega (arith, due-more, d .most))),
+      ),
+    )
+
+    further : at + (3 + n) * n ≡ 16 + 4 * n + (k + 1) * (3 + n) * n
+    further =
+        ap₂ (λ (x m : ℕ). x + (3 + m) * m) at-place (d .count) ∙ place-next s k ∙ sym (ap (λ (m : ℕ). 16 + 4 * m + (k + 1) * (3 + m) * m) (d .count))
+
+    -- the sets after the next round, as the code counts
+    recount : (who : ℕ) {by′ : List ℕ} {running′ decided′ marked′ one′ several′ : ℕ} (ends′ : List ℕ) (left′ : ℕ) → ends′ ≡ filled (noted ends who (k + 1)) 32 ends → left′ ≡ left - 1
+        → Stands (trucksOf s) (k + left) (suc k) (openingAt s) (next (trucksOf s) k (roundAt s k) (trucksAfter s k)) by′ (filled (noted ends who (suc k)) 32 ends) running′ decided′ marked′ one′ several′ → Fresh (trucksOf s) (suc k) (filled (noted ends who (suc k)) 32 ends) decided′ until
+        → Due s (at + (3 + n) * n) n left′ (k + 1) by′ ends′ running′ decided′ marked′ one′ several′ until
+    recount who {by′} {running′} {decided′} {marked′} {one′} {several′} ends′ left′ ee el st fr =
+        let f : k + left ≡ k + 1 + left′ = omega (arith, due-more, el) in
+        record {
+          good = d .good;
+          stands = subst (λ (x : List ℕ). Stands (trucksOf s) (k + 1 + left′) (k + 1) (openingAt s) (trucksAfter s (k + 1)) by′ x running′ decided′ marked′ one′ several′) (sym ee)
+              (subst₂ (λ (x y : ℕ). Stands (trucksOf s) x y (openingAt s) (trucksAfter s y) by′ (filled (noted ends who y) 32 ends) running′ decided′ marked′ one′ several′) f (sym (add-one k))
+              (subst (λ (x : List Truck). Stands (trucksOf s) (k + left) (suc k) (openingAt s) x by′ (filled (noted ends who (suc k)) 32 ends) running′ decided′ marked′ one′ several′) (sym (at-suc twoRules (trucksOf s) (openingsOf s) (roundAt s) k)) st));
+          most = omega (arith, f, d .most);
+          count = d .count;
+          place = further;
+          fresh = subst (λ (x : List ℕ). Fresh (trucksOf s) (k + 1) x decided′ until) (sym ee)
+              (subst (λ (y : ℕ). Fresh (trucksOf s) y (filled (noted ends who y) 32 ends) decided′ until) (sym (add-one k)) fr);
+        }
+
+    pub proposal-next : odd k ≡ false → {by′ : List ℕ} {r : Proposed} → Proposes s at n left running by by′ r → (who : ℕ) (ends′ : List ℕ) → who ≡ without running (r .going)
+        → ends′ ≡ filled (noted ends who (k + 1)) 32 ends
+        → Due s (at + (3 + n) * n) n (left - 1) (k + 1) by′ ends′ (r .going) decided (r .mark) (r .one) (r .several) until × (odd (k + 1) ≡ true)
+    proposal-next o {by′} {r} p who ends′ ew ee = (
+      recount (without running (r .going)) ends′ (left - 1) (ee ∙ ap (λ (x : ℕ). filled (noted ends x (k + 1)) 32 ends) ew) refl
+          (proposal-stands (d .stands) (few s (d .good)) (small s (d .good) k) s at (roundAt s k) (read-as s (d .good) k at at-place) (odd-suc k ∙ ap not o) left refl (subst (λ (m : ℕ). Proposes s at m left running by by′ r) (d .count) p))
+          (λ j l h. absurd (true≢false (sym h ∙ ap (λ (x : ℕ). holds x j) none-yet ∙ bit-zero (31 - j)))),
+      ap odd (add-one k) ∙ odd-suc k ∙ ap not o,
+    )
+
+    pub veto-next : odd k ≡ true → {r : Vetoed} → Vetoes s at n running marked one several r → (who : ℕ) (ends′ : List ℕ) → who ≡ without running (r .on)
+        → ends′ ≡ filled (noted ends who (k + 1)) 32 ends
+        → Due s (at + (3 + n) * n) n (left - 1) (k + 1) by ends′ (r .on) (bitOr decided (r .done)) 0 0 0 until × (odd (k + 1) ≡ false)
+    veto-next o {r} p who ends′ ew ee = (
+      recount (without running (r .on)) ends′ (left - 1) (ee ∙ ap (λ (x : ℕ). filled (noted ends x (k + 1)) 32 ends) ew) refl
+          (veto-stands (d .stands) (few s (d .good)) (small s (d .good) k) s at (roundAt s k) (read-as s (d .good) k at at-place) (odd-suc k ∙ ap not o) (subst (λ (m : ℕ). Vetoes s at m running marked one several r) (d .count) p))
+          (λ j l h.
+          veto-ended (d .stands) (few s (d .good)) (small s (d .good) k) s at (roundAt s k) (read-as s (d .good) k at at-place) (odd-suc k ∙ ap not o) (subst (λ (m : ℕ). Vetoes s at m running marked one several r) (d .count) p) j l
+          (new (holds decided j) (holds (r .done) j) (holds until j) (sym (bit-and decided until (31 - j)) ∙ ap (λ (x : ℕ). holds x j) none-yet ∙ bit-zero (31 - j))
+          (sym (bit-and (bitOr decided (r .done)) until (31 - j) ∙ ap (λ (b : Bool). b && holds until j) (bit-or decided (r .done) (31 - j))) ∙ h))),
+      ap odd (add-one k) ∙ odd-suc k ∙ ap not o,
+    )
+      where
+        new : (x y u : Bool) → (x && u) ≡ false → ((x || y) && u) ≡ true → y ≡ true
+        new true y true e f = absurd (true≢false e)
+        new true y false e f = absurd (false≢true f)
+        new false true u e f = refl
+        new false false u e f = absurd (false≢true f)
+
+    -- the grades with the round
+    graded-next : (judging : Bool) {going senders mark : ℕ} → Aired (airAfter s k) s (at + 3 * trucksOf s) (trucksOf s) going senders mark → (g g′ : Grades) → g ≡ gradesAfter s judging k
+        → ((a : Air) → Aired a s (at + 3 * n) n going senders mark → g′ ≡ cond judging (carriedBy g a (k + 1)) g) → g′ ≡ gradesAfter s judging (k + 1)
+    graded-next judging {going} {senders} {mark} aired g g′ eg h =
+        h (airAfter s k) (subst (λ (m : ℕ). Aired (airAfter s k) s (at + 3 * m) m going senders mark) (sym (d .count)) aired)
+        ∙ ap₂ (λ (x : Grades) (j : ℕ). cond judging (carriedBy x (airAfter s k) j) x) eg (add-one k)
+        ∙ sym (ap (gradesAfter s judging) (add-one k) ∙ grades-next s judging k)
+
+    pub proposal-graded : odd k ≡ false → {by′ : List ℕ} {r : Proposed} → Proposes s at n left running by by′ r → (judging : Bool) (g g′ : Grades) → g ≡ gradesAfter s judging k
+        → ((a : Air) → Aired a s (at + 3 * n) n (r .going) (r .senders) (r .mark) → g′ ≡ cond judging (carriedBy g a (k + 1)) g) → g′ ≡ gradesAfter s judging (k + 1)
+    proposal-graded o {by′} {r} p judging =
+        graded-next judging (proposal-aired (d .stands) (few s (d .good)) (small s (d .good) k) s at (roundAt s k) (read-as s (d .good) k at at-place) (odd-suc k ∙ ap not o) left refl (subst (λ (m : ℕ). Proposes s at m left running by by′ r) (d .count) p))
+
+    pub veto-graded : odd k ≡ true → {r : Vetoed} → Vetoes s at n running marked one several r → (judging : Bool) (g g′ : Grades) → g ≡ gradesAfter s judging k
+        → ((a : Air) → Aired a s (at + 3 * n) n (r .going) (r .senders) (r .mark) → g′ ≡ cond judging (carriedBy g a (k + 1)) g) → g′ ≡ gradesAfter s judging (k + 1)
+    veto-graded o {r} p judging =
+        graded-next judging (veto-aired (d .stands) (few s (d .good)) (small s (d .good) k) s at (roundAt s k) (read-as s (d .good) k at at-place) (odd-suc k ∙ ap not o) (subst (λ (m : ℕ). Vetoes s at m running marked one several r) (d .count) p))
+
+    pub same-end : {by′ ends′ : List ℕ} {r : Sets} → Halted s (k + 1 + (left - 1)) by′ ends′ until r → Halted s (k + left) by′ ends′ until r
+    same-end {by′} {ends′} {r} h = subst (λ (x : ℕ). Halted s x by′ ends′ until r) (let e : k + 1 + (left - 1) ≡ k + left = omega (arith, due-more) in e) h
+
+-- ---- the record at the end
+-- the places of a run's record
+module _ (n : ℕ) (openings : List ℕ) (rounds : ℕ → List ℕ) (m : n ≤ 32) where
+  length-after : (active : ℕ → Bool) (k : ℕ) (w : List ℕ) (ts : List Truck) → length ts ≡ 32 → length (after n active k w ts) ≡ 32
+  unfolding afterIn
+  length-after active k w ts e = length-filled _ n ts (omega arith) ∙ e
+
+  places : (k : ℕ) → length (trucksAt n openings rounds k) ≡ 32
+  places k =
+      throughout twoRules n openings rounds (λ k ts. length ts ≡ 32) k start (λ j l h. length-after (activeBit (rounds j)) (suc j) (rounds j) (trucksAt n openings rounds j) h) k (omega arith)
+    where
+      start : length (trucksAt n openings rounds 0) ≡ 32
+      start = length-start n openings rounds
+
+-- crusher c is that of the truck at place q
+own-there : (b q : ℕ) (x : Bool) → q < 32 → bit b q ≡ x → not (eqb (bitAnd (2 ^ q) b) 0) ≡ x
+own-there b q true l e =
+    ap not (ne-eqb (bitAnd (2 ^ q) b) 0 (λ z. true≢false (sym (bit-and (2 ^ q) b q ∙ ap₂ _&&_ (bit-power q q ∙ eq-eqb q q refl) e) ∙ ap (λ (w : ℕ). bit w q) z ∙ bit-zero q)))
+own-there b q false l e =
+    ap not (eq-eqb (bitAnd (2 ^ q) b) 0 (no-bits (bitAnd (2 ^ q) b) 32 (omega (arith, and-le-l (2 ^ q) b, pow-lt l))
+    (λ j lj. bit-and (2 ^ q) b j ∙ ap (λ (y : Bool). y && bit b j) (bit-power q j) ∙ go j (ℕ-discrete q j))))
+  where
+    go : (j : ℕ) → Dec (q ≡ j) → (eqb q j && bit b j) ≡ false
+    go j (yes h) = ap (λ (y : Bool). eqb q j && y) (ap (bit b) (sym h) ∙ e) ∙ and-false (eqb q j)
+    go j (no h) = ap (λ (y : Bool). y && bit b j) (ne-eqb q j h)
+
+-- places past the trucks
+unused : (s : List ℕ) (k j : ℕ) → trucksOf s ≤ j → truck (trucksAfter s k) j ≡ opened 0
+unfolding trucksIn stateAt openingsOf afterIn
+unused s k j h =
+    throughout twoRules (trucksOf s) (openingsOf s) (roundAt s) (λ i ts. truck ts j ≡ opened 0) k
+    (truck-unopened (openingsOf s) j (omega (arith, h, length-tab (openingAt s) (trucksOf s))))
+    (λ i l e. getD-filled-past _ (trucksOf s) (trucksAfter s i) j (opened 0) h ∙ e) k (omega arith)
+
+module _ {s : List ℕ} {last : ℕ} {by ends : List ℕ} {b : Sets} (h : Halted s last by ends 0 b) where
+  pub halted-few : trucksOf s ≤ 32
+  halted-few = few s (h .good)
+
+  abbrev then : List Truck
+  then = trucksAfter s (b .done)
+
+  estimate-is : (j : ℕ) → j < trucksOf s → first (wasHeard by (2 ^ (31 - j))) 16 ≡ truck then j .estimate
+  estimate-is j l =
+      first-unique (wasHeard by (2 ^ (31 - j))) 16 (truck then j .estimate) (omega (arith, small s (h .good) (b .done) j l))
+      (λ c o. is c (omega (arith, small s (h .good) (b .done) j l)) ∙ ne-eqb (truck then j .estimate) c (λ e. omega arith)) (λ o. is (truck then j .estimate) o ∙ eq-eqb (truck then j .estimate) (truck then j .estimate) refl)
+    where
+      is : (c : ℕ) → c < 16 → wasHeard by (2 ^ (31 - j)) c ≡ eqb (truck then j .estimate) c
+      is c lc =
+          own-there (getD by c 0) (31 - j) (eqb (truck then j .estimate) c) (omega arith)
+          (h .stands .sorted c lc j (omega (arith, few s (h .good))) ∙ ap (λ (y : Bool). y && eqb (truck then j .estimate) c) (lt-ltb j (trucksOf s) l))
+
+  -- the rounds that are left leave the trucks as they are
+  stays : (j : ℕ) → j < trucksOf s → truck (trucksAfter s last) j ≡ truck then j
+  stays j l = go (ℕ-discrete (b .running) 0)
+    where
+      go : Dec (b .running ≡ 0) → truck (trucksAfter s last) j ≡ truck then j
+      go (no some) = ap (λ (k : ℕ). truck (trucksAfter s k) j) (sym (h .over some (and-zero-r (b .decided))))
+      go (yes none) =
+          ap (λ (k : ℕ). truck (trucksAfter s k) j) (let e : last ≡ b .done + (last - b .done) = omega (arith, h .most) in e)
+          ∙ kept twoRules (trucksOf s) (openingsOf s) (roundAt s) j l (b .done) (last - b .done) (runs-is (h .stands) (few s (h .good)) (small s (h .good) (b .done)) j l ∙ ap (λ (x : ℕ). holds x j) none ∙ bit-zero (31 - j))
+
+  -- nor do they break a class
+  pub grades-ended : (judging : Bool) → gradesAfter s judging (b .done) ≡ gradesAfter s judging last
+  grades-ended judging = go (ℕ-discrete (b .running) 0)
+    where
+      go : Dec (b .running ≡ 0) → gradesAfter s judging (b .done) ≡ gradesAfter s judging last
+      go (no some) = ap (gradesAfter s judging) (h .over some (and-zero-r (b .decided)))
+      go (yes none) =
+          sym (ap (gradesAfter s judging) (let e : last ≡ b .done + (last - b .done) = omega (arith, h .most) in e)
+          ∙ grades-idle s (b .done) (λ j l. runs-is (h .stands) (few s (h .good)) (small s (h .good) (b .done)) j l ∙ ap (λ (x : ℕ). holds x j) none ∙ bit-zero (31 - j)) judging (last - b .done))
+
+  heard-then : (j : ℕ) → j < trucksOf s → (r : Bool) → holds (b .running) j ≡ r → cond r (truck then j .heard) Nothing ≡ cond r (memoryOf (holds (b .one) j) (holds (b .several) j)) Nothing
+  heard-then j l true e =
+      let m = h .stands .heard j l e (λ x. h .over (λ z. true≢false (sym e ∙ ap (λ (y : ℕ). holds y j) z ∙ bit-zero (31 - j))) (and-zero-r (b .decided))) in
+      sym (memory-back (truck then j .heard)) ∙ ap₂ memoryOf (m .0) (m .1)
+  heard-then j l false e = refl
+
+  pub truck-ended : (j : ℕ) → j < trucksOf s
+      → standing (openingAt s j) (first (wasHeard by (2 ^ (31 - j))) 16) (memoryOf (holds (b .one) j) (holds (b .several) j)) (holds (b .running) j) (holds (b .decided) j) (holds (b .marked) j) (getD ends j 0)
+      ≡ truck (trucksAfter s last) j
+  truck-ended j l =
+      sym (stays j l ∙ h .stands .each j l
+      ∙ ap₂ (λ (e : ℕ) (x : Heard). record { opening = openingAt s j; estimate = e; mark = holds (b .running) j && holds (b .marked) j; heard = x; state = stateOf (holds (b .running) j) (holds (b .decided) j) (getD ends j 0) })
+      (sym (estimate-is j l)) (heard-then j l (holds (b .running) j) refl))
+
+  -- the record, truck by truck
+  abbrev pub Filling : ℕ → Fleet → ℕ → Type 0
+  Filling n f i = f ≡ record { n = n; done = last; trucks = filled (truck (trucksAfter s last)) i (openedTrucks []) }
+
+  pub filling-starts : (n : ℕ) (f : Fleet) → f ≡ blank → Filling n (record { n = n; done = last; trucks = f .trucks }) 0
+  unfolding blank
+  filling-starts n f e =
+      ap (λ (l : List Truck). record { n = n; done = last; trucks = l }) (ap (λ (g : Fleet). g .trucks) e ∙ sym (filled-none (truck (trucksAfter s last)) (openedTrucks [])))
+
+  pub filling-more : (n : ℕ) (f : Fleet) (i : ℕ) (t : Truck) → Filling n f i → i < trucksOf s
+      → t ≡ standing (openingAt s i) (first (wasHeard by (2 ^ (31 - i))) 16) (memoryOf (holds (b .one) i) (holds (b .several) i)) (holds (b .running) i) (holds (b .decided) i) (holds (b .marked) i) (getD ends i 0)
+      → Filling n (record { n = f .n; done = f .done; trucks = set (f .trucks) i t }) (i + 1)
+  filling-more n f i t g l e =
+      ap₂ (λ (a : Fleet) (x : List Truck). record { n = a .n; done = a .done; trucks = x }) g
+      (fill-step (truck (trucksAfter s last)) (openedTrucks []) (f .trucks) i (ap (λ (a : Fleet). a .trucks) g) t (omega (arith, l, few s (h .good), length-opened [])) (e ∙ truck-ended i l))
+
+  pub filling-done : (n : ℕ) (f : Fleet) (i : ℕ) → Filling n f i → n ≡ trucksOf s → i ≡ n → f ≡ fleetAfter s last
+  unfolding fleetIn
+  filling-done n f i g count e =
+      g ∙ ap₂ (λ (m : ℕ) (x : List Truck). record { n = m; done = last; trucks = x }) count
+      (ap (λ (m : ℕ). filled (truck (trucksAfter s last)) m (openedTrucks [])) (e ∙ count)
+      ∙ ext-getD (opened 0) (filled (truck (trucksAfter s last)) (trucksOf s) (openedTrucks [])) (trucksAfter s last)
+      (length-filled (truck (trucksAfter s last)) (trucksOf s) (openedTrucks []) (omega (arith, few s (h .good), length-opened [])) ∙ length-opened []
+      ∙ sym (places (trucksOf s) (openingsOf s) (roundAt s) (few s (h .good)) last)) (λ j o. each j (decLt j (trucksOf s))))
+    where
+      each : (j : ℕ) → Dec (j < trucksOf s) → getD (filled (truck (trucksAfter s last)) (trucksOf s) (openedTrucks [])) j (opened 0) ≡ getD (trucksAfter s last) j (opened 0)
+      each j (yes l) = getD-filled (truck (trucksAfter s last)) (trucksOf s) (openedTrucks []) j (opened 0) l
+      each j (no l) =
+          getD-filled-past (truck (trucksAfter s last)) (trucksOf s) (openedTrucks []) j (opened 0) (omega arith)
+          ∙ truck-unopened [] j (omega arith) ∙ sym (unused s last j (omega arith))
+
+-- ---- before round 1
+module _ (s : List ℕ) (good : frameCheck s ≡ Accepted) (n : ℕ) (count : n ≡ trucksOf s) where
+  pub first-few : (n ≤ 32) × (roundsOf s ≤ 400)
+  first-few = (omega (arith, count, frame-good s good .most), frame-good s good .rounds)
+
+  opening-truck : (j : ℕ) → j < trucksOf s → truck (trucksAfter s 0) j ≡ opened (openingAt s j)
+  unfolding openingsOf
+  opening-truck j l =
+      opened-truck twoRules (trucksOf s) (openingsOf s) (roundAt s) j (omega (arith, frame-good s good .most)) ∙ ap opened (getD-tab (openingAt s) (trucksOf s) j 0 l)
+
+  pub first-due : (rounds all until : ℕ) (by : List ℕ) → rounds ≡ roundsOf s → all ≡ everyone n → Sorted by 32 all (λ p. openingAt s (31 - p)) × (length by ≡ 16)
+      → Due s (16 + 4 * n) n rounds 0 by (replicate 32 0) all 0 0 0 0 until
+  first-due rounds all until by er ea (sorted, long) =
+      record {
+        good = good;
+        stands = record {
+          crushers = long;
+          places = refl;
+          fits = rw ea (everyone-lt n (first-few .0));
+          none = λ j h l. ap (λ (x : ℕ). holds x j) ea ∙ everyone-out n j (omega (arith, count)) l;
+          apart = λ j l h. bit-zero (31 - j);
+          each = λ j l. let e = opening-truck j l in
+              e ∙ sym (ap₂ (λ (x : ℕ) (y : Heard). standing (openingAt s j) x y true false false 0) (ap (λ (t : Truck). t .estimate) e) (ap (λ (t : Truck). t .heard) e))
+              ∙ bits j (truck (trucksAfter s 0) j .estimate) (truck (trucksAfter s 0) j .heard) (in-all j l);
+          heard = λ j l r m. let e = ap (λ (t : Truck). t .heard) (opening-truck j l) in (ap isOne e ∙ sym (bit-zero (31 - j)), ap isSeveral e ∙ sym (bit-zero (31 - j)));
+          sorted = λ c lc j l.
+              sorted c lc .each (31 - j) (omega arith) ∙ ap (λ (x : ℕ). holds all j && eqb (openingAt s x) c) (turn-back j l) ∙ go c j l (decLt j (trucksOf s));
+        };
+        most = omega (arith, er, first-few .1);
+        count = count;
+        place = omega arith;
+        fresh = λ j l h. absurd (true≢false (sym h ∙ ap (λ (x : ℕ). holds x j) (and-zero-l until) ∙ bit-zero (31 - j)));
+      }
+    where
+      in-all : (j : ℕ) → j < trucksOf s → holds all j ≡ true
+      in-all j l = ap (λ (x : ℕ). holds x j) ea ∙ everyone-in n j (first-few .0) (omega (arith, count))
+
+      bits : (j e : ℕ) (x : Heard) → holds all j ≡ true → standing (openingAt s j) e x true false false 0 ≡ standing (openingAt s j) e x (holds all j) (holds 0 j) (holds 0 j) (getD (replicate 32 0) j 0)
+      bits j e x i = rw (i, bit-zero (31 - j))
+
+      go : (c j : ℕ) → j < 32 → Dec (j < trucksOf s) → (holds all j && eqb (openingAt s j) c) ≡ (ltb j (trucksOf s) && eqb (truck (trucksAfter s 0) j .estimate) c)
+      go c j l (yes o) =
+          ap₂ (λ (x : Bool) (y : ℕ). x && eqb y c) (in-all j o ∙ sym (lt-ltb j (trucksOf s) o)) (sym (ap (λ (t : Truck). t .estimate) (opening-truck j o)))
+      go c j l (no o) =
+          ap (λ (x : Bool). x && eqb (openingAt s j) c) (ap (λ (x : ℕ). holds x j) ea ∙ everyone-out n j (omega (arith, count)) l)
+          ∙ sym (ap (λ (x : Bool). x && eqb (truck (trucksAfter s 0) j .estimate) c) (le-ltb j (trucksOf s) (omega arith)))

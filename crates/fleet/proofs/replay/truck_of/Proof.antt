@@ -1,0 +1,45 @@
+-- `truck_of` meets its contract.
+use mathlib.Core.Bool.{Bool}
+use Prim.Native.Nat.{ℕ, _<_}
+use native.Mathlib.Omega.{arith}
+use borrow.Author.Needs.{needs}
+use Rattle.basics.specs.Lists.{first}
+use Rattle.basics.proofs.Laws.{first-le}
+use Rattle.fleet.proofs.replay.truck_of.Statement.{statement}
+use Rattle.fleet.proofs.replay.truck_of.Tie as tie
+
+small-first : (p : ℕ → Bool) → first p 16 < 256
+small-first p = omega (arith, first-le p 16)
+
+cast-t13 : tie.Need-cast-t13
+cast-t13 c = rw (c .first-heard .ensures) (record { fits = small-first _ })
+
+returns : tie.Need-returns
+returns c =
+    rw (
+      c .before .before .before .before .before .heard-of .ensures,
+      c .before .before .before .state-of .ensures,
+      c .before .first-heard .ensures,
+      c .before .before .only .ensures,
+      c .holds5 .ensures,
+      c .before .before .before .before .before .before .before .before .holds .ensures,
+      c .before .before .before .before .before .before .before .holds2 .ensures,
+      c .before .before .before .before .before .before .holds3 .ensures,
+      c .before .before .before .before .holds4 .ensures,
+    )
+
+pub truck-of-spec : {M : Type 1} → statement M
+truck-of-spec =
+    tie.close
+    (tie.spec
+    (λ c κs. search needs)
+    (λ c κs. search needs)
+    (λ c κs. search needs)
+    (λ c κs. search needs)
+    (λ c κs. search needs)
+    (λ c κs. search needs)
+    (λ c κs. search needs)
+    (λ c κs. search needs)
+    cast-t13
+    (λ c κs. search needs)
+    returns)

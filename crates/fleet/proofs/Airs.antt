@@ -5,7 +5,7 @@ use Prim.Native.Nat.{ℕ, _^_, _<_}
 use native.Mathlib.Omega.{arith}
 use native.Mathlib.Decide.{ℕ-discrete}
 use borrow.Author.Tests.{eq-eqb, ne-eqb, lt-ltb, le-ltb}
-use lib.Bits.{bitAnd, bitXor, or-lt}
+use lib.Bits.{bitAnd, bitOr, bitXor, or-lt}
 use lib.Count.{ones, ones-ones}
 use lib.Dec.{eqb, ltb}
 use lib.ListN.{length}
@@ -14,7 +14,7 @@ use Rattle.basics.specs.Lists.{who}
 use Rattle.air.specs.Air.{Air, hears}
 use Rattle.air.proofs.Laws.{who-ext, count-some}
 use Rattle.words.proofs.Words.{bit-or, bit-power, ones-count, some-bit}
-use Rattle.fleet.specs.Sets.{Members, heardSet}
+use Rattle.fleet.specs.Sets.{Members, without, heardSet}
 use Rattle.fleet.proofs.Members.{members-and, members-without}
 
 -- those that a word holds, in their order
@@ -34,6 +34,11 @@ some-members {w} {n} {p} m = go (ℕ-discrete w 0)
     go (no e) =
         let r = some-bit w n (m .below) e in
         lt-ltb 0 (length (who p n)) (count-some p n (r .0) (r .1) (sym (m .each (r .0) (r .1)) ∙ r .2)) ∙ sym (ap not (ne-eqb w 0 e))
+
+-- the senders that a truck hears, whose own set is its bit
+pub heard-by-own : (senders row p own r : ℕ) → r ≡ bitOr (without senders row) (bitAnd senders own) → own ≡ 2 ^ p → r ≡ heardSet senders row p
+unfolding heardSet
+heard-by-own senders row p own r e q = e ∙ ap (λ (x : ℕ). bitOr (without senders row) (bitAnd senders x)) q
 
 -- the trucks that truck i hears
 module _ (a : Air) (i senders row : ℕ) (sends : Members senders (a .trucks) (a .sends)) (lost : (j : ℕ) → j < a .trucks → a .sends j ≡ true → a .lost i j ≡ bit row j) where

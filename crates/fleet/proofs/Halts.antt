@@ -38,8 +38,7 @@ use Rattle.protocol.proofs.AnyRun.{at-suc, opened-truck, throughout, estimates-
 use Rattle.fleet.specs.declared.replay.Proposed.{Proposed}
 use Rattle.fleet.specs.declared.replay.Vetoed.{Vetoed}
 use Rattle.fleet.specs.declared.replay.Sets.{Sets}
-use Rattle.fleet.specs.Sets.{Sorted, wasHeard}
-use Rattle.fleet.specs.Listens.{without}
+use Rattle.fleet.specs.Sets.{Sorted, wasHeard, without}
 use Rattle.recording.proofs.RoundTrip.{openings-read}
 use Rattle.fleet.specs.Rounds.{estimates}
 use Rattle.fleet.specs.Replays.{fleetAfter, gradesAfter}

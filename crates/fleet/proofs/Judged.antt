@@ -18,8 +18,8 @@ use Rattle.bitreader.specs.Bits.{mirrored}
 use Rattle.words.proofs.Words.{bit-and, bit-or, bit-without, bit-zero, same-bits, some-bit}
 use Rattle.words.proofs.Mirror.{mirror-eq, mirror-zero, mirror-ones}
 use Rattle.protocol.specs.declared.Grades.{Grades}
-use Rattle.fleet.specs.Sets.{Members, heardSet}
-use Rattle.fleet.specs.Listens.{rowFrom, without}
+use Rattle.fleet.specs.Sets.{Members, heardSet, without}
+use Rattle.fleet.specs.Listens.{rowFrom}
 use Rattle.fleet.specs.Standing.{holds}
 use Rattle.fleet.specs.Grading.{carried, heardAt, missedAt, carriedBy, Aired, askedOf}
 use Rattle.fleet.specs.declared.grading.Missed.{Missed}

@@ -4,9 +4,8 @@ pub mod Packed
 pub mod ByCrusher
 pub mod Airs
 pub mod Turns
-pub mod Loops
+pub mod Sorting
 pub mod Steps
-pub mod Same
 pub mod Reading
 pub mod Places
 pub mod Stood

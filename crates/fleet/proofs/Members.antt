@@ -142,9 +142,6 @@ module _ {A : Type 0} (z : A) (d : List A) (new : ℕ → A) (n : ℕ) where
   abbrev pub replaced : ℕ → List A
   replaced left = filled (half left) n d
 
-  pub replaced-at : (left i : ℕ) → i < n → bit left i ≡ true → getD (replaced left) i z ≡ getD d i z
-  replaced-at left i l h = getD-filled (half left) n d i z l ∙ ap (λ (b : Bool). cond b (getD d i z) (new i)) h
-
   pub replaced-all : replaced 0 ≡ filled new n d
   replaced-all = filled-ext (half 0) new n d (λ j l. ap (λ (b : Bool). cond b (getD d j z) (new j)) (bit-zero j))
 

@@ -31,15 +31,15 @@ use Rattle.protocol.proofs.OneRound.{plays-proposal, plays-veto}
 use Rattle.fleet.specs.declared.hearing.Values.{Values}
 use Rattle.fleet.specs.declared.replay.Proposed.{Proposed}
 use Rattle.fleet.specs.declared.replay.Vetoed.{Vetoed}
-use Rattle.fleet.specs.Sets.{Members, Sorted, heardSet, valuesOf}
-use Rattle.fleet.specs.Rounds.{estimates, plainRows}
-use Rattle.fleet.specs.Listens.{rowFrom, without, heardFrom, settled}
+use Rattle.fleet.specs.Sets.{Members, Sorted, heardSet, valuesOf, without}
+use Rattle.fleet.specs.Rounds.{estimates}
+use Rattle.fleet.specs.Listens.{rowFrom, heardFrom, settled}
 use Rattle.fleet.specs.Standing.{ReadsAs, next, holds, wordFrom, stateOf, memoryOf, standing, Stands, goingOn, proposersOf, unreadOf, wantedOf, Proposes, mayOf, vetoersOf, Vetoes, noted}
 use Rattle.fleet.specs.Grading.{Aired}
 use Rattle.fleet.proofs.Members.{member-below}
 use Rattle.fleet.proofs.ByCrusher.{values-right, values-silent}
 use Rattle.fleet.proofs.Airs.{who-members, some-members, hearers}
-use Rattle.fleet.proofs.Packed.{row-plain, heard-packed, values-packed}
+use Rattle.fleet.proofs.Packed.{plainRows, row-plain, heard-packed, values-packed}
 use Rattle.fleet.proofs.Places.{turn-back, plain-bit, placed, ones-below}
 
 -- ---- one truck

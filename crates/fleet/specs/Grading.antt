@@ -8,8 +8,8 @@ use lib.Dec.{eqb}
 use Rattle.bitreader.specs.Bits.{mirrored}
 use Rattle.air.specs.Air.{Air, hears, complete, majorityComplete, zeroComplete, accurate}
 use Rattle.protocol.specs.declared.Grades.{Grades}
-use Rattle.fleet.specs.Sets.{Members, heardSet}
-use Rattle.fleet.specs.Listens.{rowFrom, without}
+use Rattle.fleet.specs.Sets.{Members, heardSet, without}
+use Rattle.fleet.specs.Listens.{rowFrom}
 use Rattle.fleet.specs.Standing.{holds}
 
 -- the senders that the truck at place p hears, and whether it misses one

@@ -16,9 +16,13 @@ pub record Members (set n : ℕ) (p : ℕ → Bool) : Type 0 where
   pub below : set < 2 ^ n
   pub each : (j : ℕ) → j < n → bit set j ≡ p j
 
+-- a set without those of another
+abbrev pub without : ℕ → ℕ → ℕ
+without set other = bitXor set (bitAnd set other)
+
 -- the senders that a truck hears: those whose loss bit in its row is clear, and itself, whose bit stands at a place
 unfoldable pub heardSet : ℕ → ℕ → ℕ → ℕ
-heardSet senders row place = bitOr (bitXor senders (bitAnd senders row)) (bitAnd senders (2 ^ place))
+heardSet senders row place = bitOr (without senders row) (bitAnd senders (2 ^ place))
 
 -- of the senders heard, those that sent crusher c
 abbrev pub sentHere : List ℕ → ℕ → ℕ → ℕ
@@ -34,7 +38,7 @@ unfoldable pub valuesOf : List ℕ → ℕ → ℕ → Values
 valuesOf values heard e =
     let c = first (wasHeard values heard) 16 in
     cond (ltb c 16)
-    (record { heard = cond (eqb (bitXor heard (sentHere values heard c)) 0) One Several; least = c })
+    (record { heard = cond (eqb (without heard (getD values c 0)) 0) One Several; least = c })
     (record { heard = Nothing; least = e })
 
 -- the senders of each crusher, where est gives what each sends

@@ -23,8 +23,8 @@ use Rattle.protocol.specs.Runs.{trucksAt}
 use Rattle.fleet.specs.declared.replay.Proposed.{Proposed}
 use Rattle.fleet.specs.declared.replay.Vetoed.{Vetoed}
 use Rattle.fleet.specs.declared.replay.Sets.{Sets}
-use Rattle.fleet.specs.Sets.{Members, Sorted}
-use Rattle.fleet.specs.Listens.{rowFrom, without, heardFrom, settled}
+use Rattle.fleet.specs.Sets.{Members, Sorted, without}
+use Rattle.fleet.specs.Listens.{rowFrom, heardFrom, settled}
 
 -- truck j is in the set
 abbrev pub holds : ℕ → ℕ → Bool

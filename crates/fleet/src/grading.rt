@@ -1,10 +1,10 @@
 // What the marks of a round are worth, by sets in packed order, and the first round that breaks each class.
+use crate::hearing::first_of;
+use crate::hearing::heard_by;
+use crate::hearing::less;
 use crate::hearing::lowest;
 use crate::hearing::rest;
-use crate::listening::first_of;
-use crate::listening::heard_by;
-use crate::listening::less;
-use crate::listening::with_own;
+use crate::hearing::with_own;
 use crate::replay::listeners;
 use protocol::Grades;
 ghost use mathlib.Core.Path.{_≡_};

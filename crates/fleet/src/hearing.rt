@@ -3,12 +3,11 @@ use protocol::Heard;
 ghost use mathlib.Core.Path.{_≡_};
 ghost use mathlib.Core.Bool.{true, cond};
 ghost use Prim.Native.Nat.{_<_, _^_};
-ghost use lib.Bits.{bitOr, bitXor};
+ghost use lib.Bits.{bitAnd, bitOr, bitXor};
 ghost use lib.Count.{trailingZeros};
-ghost use lib.Dec.{eqb};
 ghost use Rattle.basics.specs.Bits.{bit};
-ghost use Rattle.protocol.specs.declared.Heard.the-variants.{One, Several};
-ghost use Rattle.fleet.specs.Sets.{heardSet, valuesOf};
+ghost use Rattle.basics.specs.Lists.{first};
+ghost use Rattle.fleet.specs.Sets.{without, wasHeard, valuesOf};
 
 // The lowest truck of a set that isn't empty.
 pub(crate) fn lowest(set: u32) -> usize
@@ -49,12 +48,47 @@ pub(crate) fn rest(set: u32) -> u32
     set & (set - 1)
 }
 
-// The senders that a truck hears, whose own bit stands at a place.
-pub(crate) fn heard_set(senders: u32, row: u32, place: usize) -> u32
-    requires { ⌜ place < 32 ⌝ }
-    ensures { λ r. ⌜ r ≡ heardSet senders row place ⌝ }
+// The set of the lowest of a set that isn't empty.
+pub(crate) fn first_of(set: u32) -> u32
+    requires { ⌜ 0 < set ⌝ }
+    ensures { λ r. ⌜ r ≡ 2 ^ trailingZeros 32 set ⌝ }
 {
-    (senders ^ (senders & row)) | (senders & only(place))
+    set ^ (set & (set - 1))
+}
+
+// A set without those of another.
+pub(crate) fn less(set: u32, other: u32) -> u32
+    ensures { λ r. ⌜ r ≡ without set other ⌝ }
+{
+    set ^ (set & other)
+}
+
+// The set with a set of one truck, where that one joins.
+pub(crate) fn with_own(set: u32, own: u32, joins: bool) -> u32
+    ensures { λ r. ⌜ r ≡ cond joins (bitOr set own) set ⌝ }
+{
+    if joins { set | own } else { set }
+}
+
+// The senders that a truck hears, whose own set is given.
+pub(crate) fn heard_by(senders: u32, row: u32, own: u32) -> u32
+    ensures { λ r. ⌜ r ≡ bitOr (bitXor senders (bitAnd senders row)) (bitAnd senders own) ⌝ }
+{
+    (senders ^ (senders & row)) | (senders & own)
+}
+
+// The least crusher that was heard, or 16 where none was.
+pub(crate) fn first_heard(by: &[u32; 16], heard: u32) -> usize
+    ensures { λ r. ⌜ r ≡ first (wasHeard (now (by .entry)) heard) 16 ⌝ }
+{
+    let mut c = 0;
+    while c < 16 {
+        if heard & by[c] != 0 {
+            return c;
+        }
+        c += 1;
+    }
+    16
 }
 
 // How many different values were heard, and the least of them.
@@ -63,36 +97,17 @@ pub struct Values {
     pub least: u8,
 }
 
-fn count(heard: u32, here: u32) -> Heard
-    ensures { λ r. ⌜ r ≡ cond (eqb (bitXor heard here) 0) One Several ⌝ }
+// What was heard, where by holds the trucks of each crusher; the least value is the estimate where none was heard.
+pub(crate) fn values_of(by: &[u32; 16], heard: u32, estimate: u8) -> Values
+    ensures { λ r. ⌜ r ≡ valuesOf (now (by .entry)) heard estimate ⌝ }
 {
-    if heard ^ here == 0 {
-        Heard::One
-    } else {
-        Heard::Several
-    }
-}
-
-// What was heard, where values holds the senders of each crusher.
-pub(crate) fn values_of(values: &[u32; 16], heard: u32, estimate: u8) -> Values
-    ensures { λ r. ⌜ r ≡ valuesOf (now (values .entry)) heard estimate ⌝ }
-{
-    if heard == 0 {
+    let c = first_heard(by, heard);
+    if c < 16 {
+        let several = less(heard, by[c]) != 0;
         return Values {
-            heard: Heard::Nothing,
-            least: estimate,
+            heard: if several { Heard::Several } else { Heard::One },
+            least: c as u8,
         };
-    }
-    let mut c = 0;
-    while c < 16 {
-        let here = heard & values[c];
-        if here != 0 {
-            return Values {
-                heard: count(heard, here),
-                least: c as u8,
-            };
-        }
-        c += 1;
     }
     Values {
         heard: Heard::Nothing,

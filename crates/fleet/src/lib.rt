@@ -5,13 +5,7 @@ use protocol::Grading;
 use refusals::Outcome;
 use refusals::Refusal;
 ghost use mathlib.Core.Path.{_≡_};
-ghost use Prim.Native.Nat.{_≤_, _+_};
-ghost use lib.ListN.{length, getD};
-ghost use Rattle.refusals.specs.declared.Outcome.the-variants.{Accepted};
-ghost use Rattle.basics.specs.Lists.{filled};
-ghost use Rattle.bitreader.specs.Bits.{mirrored};
-ghost use Rattle.protocol.specs.Fleets.{stepCheck, nextFleet, stepped, ran, graded};
-ghost use Rattle.fleet.specs.Rounds.{noRows};
+ghost use Rattle.protocol.specs.Fleets.{stepCheck, stepped, ran, graded};
 
 mod grading;
 mod hearing;
@@ -34,32 +28,6 @@ fn check_step(f: Fleet, words: &[u32]) -> Outcome
     plain::check_round(f.n, words)
 }
 
-// The rows of a round in plain form, in the order in which they are packed.
-fn rows_of(words: &[u32], n: usize) -> [u32; 32]
-    requires { ⌜ (n ≤ 32) × (length (now words) ≡ 3 + n) ⌝ }
-    ensures { λ r. ⌜ r ≡ filled (λ i. mirrored n (getD (now (words .entry)) (3 + i) 0)) n noRows ⌝ }
-{
-    let mut rows = [0u32; 32];
-    let mut i = 0;
-    while i < n {
-        rows[i] = bitreader::mirror(words[3 + i], n);
-        i += 1;
-    }
-    rows
-}
-
-fn next_fleet(f: Fleet, words: &[u32]) -> Fleet
-    requires { ⌜ stepCheck f (now words) ≡ Accepted ⌝ }
-    ensures { λ r. ⌜ r ≡ nextFleet f (now (words .entry)) ⌝ }
-{
-    let stop = words[0];
-    let active = words[1];
-    let mark = words[2];
-    let rows = rows_of(words, f.n as usize);
-    let q = round::play(round::roster_of(f), stop, active, mark, &rows);
-    q.fleet
-}
-
 // A step by a round in plain form.
 pub fn step(f: Fleet, words: &[u32]) -> Answer
     ensures { λ r. ⌜ r ≡ stepped f (now (words .entry)) ⌝ }
@@ -68,7 +36,7 @@ pub fn step(f: Fleet, words: &[u32]) -> Answer
     match outcome {
         Outcome::Accepted => Answer {
             outcome: Outcome::Accepted,
-            fleet: next_fleet(f, words),
+            fleet: round::next_fleet(f, words),
         },
         Outcome::Refused(refusal) => Answer {
             outcome: Outcome::Refused(refusal),

@@ -1,60 +1,22 @@
 // Rounds by sets in packed order: the truck at place p of a set is truck 31 - p.
+use crate::hearing::first_heard;
+use crate::hearing::first_of;
+use crate::hearing::heard_by;
 use crate::hearing::joined;
+use crate::hearing::less;
 use crate::hearing::lowest;
 use crate::hearing::rest;
+use crate::hearing::with_own;
 ghost use mathlib.Core.Path.{_≡_};
-ghost use mathlib.Core.Bool.{_&&_, cond};
+ghost use mathlib.Core.Bool.{_&&_};
 ghost use Prim.Native.Nat.{_<_, _≤_, _^_};
 ghost use lib.Dec.{eqb};
 ghost use lib.ListN.{length};
 ghost use Rattle.basics.specs.Bits.{bit};
-ghost use lib.Bits.{bitAnd, bitOr, bitXor};
-ghost use lib.Count.{trailingZeros};
-ghost use Rattle.basics.specs.Lists.{filled, first};
+ghost use Rattle.basics.specs.Lists.{filled};
 ghost use Rattle.protocol.specs.Rules.{isOne, isSeveral};
-ghost use Rattle.fleet.specs.Sets.{Members, Sorted, wasHeard};
-ghost use Rattle.fleet.specs.Listens.{rowFrom, without, heardFrom, settled};
-
-pub(crate) fn less(set: u32, other: u32) -> u32
-    ensures { λ r. ⌜ r ≡ without set other ⌝ }
-{
-    set ^ (set & other)
-}
-
-// The set of the lowest of a set that isn't empty.
-pub(crate) fn first_of(set: u32) -> u32
-    requires { ⌜ 0 < set ⌝ }
-    ensures { λ r. ⌜ r ≡ 2 ^ trailingZeros 32 set ⌝ }
-{
-    set ^ (set & (set - 1))
-}
-
-// The senders that a truck hears, whose own set is given.
-pub(crate) fn heard_by(senders: u32, row: u32, own: u32) -> u32
-    ensures { λ r. ⌜ r ≡ bitOr (bitXor senders (bitAnd senders row)) (bitAnd senders own) ⌝ }
-{
-    (senders ^ (senders & row)) | (senders & own)
-}
-
-pub(crate) fn with_own(set: u32, own: u32, joins: bool) -> u32
-    ensures { λ r. ⌜ r ≡ cond joins (bitOr set own) set ⌝ }
-{
-    if joins { set | own } else { set }
-}
-
-// The least crusher that was heard, or 16 where none was.
-pub(crate) fn first_heard(by: &[u32; 16], heard: u32) -> usize
-    ensures { λ r. ⌜ r ≡ first (wasHeard (now (by .entry)) heard) 16 ⌝ }
-{
-    let mut c = 0;
-    while c < 16 {
-        if heard & by[c] != 0 {
-            return c;
-        }
-        c += 1;
-    }
-    16
-}
+ghost use Rattle.fleet.specs.Sets.{Members, Sorted, without};
+ghost use Rattle.fleet.specs.Listens.{rowFrom, heardFrom, settled};
 
 // Of those wanted, who hear none of the senders; none of those wanted sends itself.
 pub(crate) fn deciding(s: &[u8], at: usize, n: usize, senders: u32, wanted: u32) -> u32
@@ -104,7 +66,7 @@ pub(crate) fn hear(
         let heard = heard_by(senders, t.value, own);
         let c = first_heard(by, heard);
         if c < 16 {
-            let lone = heard ^ (heard & by[c]) == 0;
+            let lone = less(heard, by[c]) == 0;
             one = with_own(one, own, lone);
             several = with_own(several, own, !lone);
             taking[c] = taking[c] | own;

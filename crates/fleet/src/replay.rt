@@ -1,13 +1,13 @@
 // A recording run from its bytes by sets in packed order, truck j at the bit worth 2 to the 31 - j: proposal rounds and veto rounds hand on to each other, each with one round fewer left.
 use crate::grading::judged;
+use crate::hearing::first_heard;
 use crate::hearing::holds;
+use crate::hearing::less;
 use crate::hearing::lowest;
 use crate::hearing::only;
 use crate::hearing::rest;
 use crate::listening::deciding;
-use crate::listening::first_heard;
 use crate::listening::hear;
-use crate::listening::less;
 use crate::listening::settle;
 use protocol::Fleet;
 use protocol::Grades;

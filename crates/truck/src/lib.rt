@@ -1,10 +1,12 @@
 // What a round makes of one truck: by value, and where its record stands.
+use protocol::Fleet;
 use protocol::Heard;
 use protocol::State;
 use protocol::Truck;
 ghost use mathlib.Core.Path.{_≡_};
+ghost use Prim.Native.Nat.{_≤_, min};
 ghost use Rattle.protocol.specs.Rules.{runs, vetoes, isOne, isSeveral, stops, proposed, vetoed, decides};
-ghost use Rattle.truck.specs.Events.{happened, turned};
+ghost use Rattle.truck.specs.Events.{happened, turned, updatedFirst};
 
 // What a round is to a running truck.
 pub enum Event {
@@ -140,4 +142,32 @@ pub fn after(mut t: Truck, round: u16, event: Event) -> Truck
 {
     update(&mut t, round, event);
     t
+}
+
+// The first n trucks of a fleet, each brought up to date: events[i] is what the round is to truck i.
+fn update_first(f: Fleet, n: usize, round: u16, events: [Event; 32]) -> Fleet
+    requires { ⌜ n ≤ 32 ⌝ }
+    ensures { λ r. ⌜ r ≡ updatedFirst f n round events ⌝ }
+{
+    let mut g = f;
+    let mut i = 0;
+    while i < n {
+        let t = g.trucks[i];
+        let event = events[i];
+        let u = after(t, round, event);
+        g.trucks[i] = u;
+        i += 1;
+    }
+    g
+}
+
+// All trucks of a fleet.
+pub fn update_all(f: Fleet, round: u16, events: [Event; 32]) -> Fleet
+    ensures { λ r. ⌜ r ≡ updatedFirst f (min (f .n) 32) round events ⌝ }
+{
+    let n = f.n as usize;
+    if n <= 32 {
+        return update_first(f, n, round, events);
+    }
+    update_first(f, 32, round, events)
 }

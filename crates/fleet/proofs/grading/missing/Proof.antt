@@ -15,6 +15,7 @@ use Rattle.fleet.specs.Sets.{Members, heardSet}
 use Rattle.fleet.specs.Grading.{heardAt}
 use Rattle.fleet.proofs.Members.{taken-out, within-removed, seen, seen-none, seen-all, seen-joined}
 use Rattle.fleet.proofs.Reading.{product}
+use Rattle.fleet.proofs.Airs.{heard-by-own}
 use Rattle.fleet.proofs.grading.missing.Statement.{statement}
 use Rattle.fleet.proofs.grading.missing.Tie as tie
 
@@ -30,10 +31,6 @@ misses-all senders heard = not (eqb heard senders) && eqb heard 0
 
 abbrev misses-half : ℕ → ℕ → Bool
 misses-half senders heard = not (eqb heard senders) && leb (2 * ones heard) (ones senders)
-
-heard-is : (senders row p own r : ℕ) → r ≡ bitOr (bitXor senders (bitAnd senders row)) (bitAnd senders own) → own ≡ 2 ^ p → r ≡ heardSet senders row p
-unfolding heardSet
-heard-is senders row p own r e q = e ∙ ap (λ (x : ℕ). bitOr (bitXor senders (bitAnd senders row)) (bitAnd senders x)) q
 
 ones-few : (senders row own r : ℕ) → r ≡ bitOr (bitXor senders (bitAnd senders row)) (bitAnd senders own) → senders < 2 ^ 32 → ones r ≤ 32
 ones-few senders row own r e l =
@@ -92,7 +89,7 @@ loop-again c =
     let out = taken-out (l .left) p _ (c .rest .result) (c .rest .ensures) (i .ensures .2) in
     let own : o .result ≡ 2 ^ p = o .ensures ∙ ap (λ (k : ℕ). 2 ^ k) (sym (i .ensures .2)) in
     let is : h .result ≡ heardAt (a .s .now) (a .at) (a .n) (a .senders) p =
-    heard-is (a .senders) (r .result .value) p (o .result) (h .result) (h .ensures) own ∙ ap (λ (x : ℕ). heardSet (a .senders) x p) (r .ensures .0) in
+    heard-by-own (a .senders) (r .result .value) p (o .result) (h .result) (h .ensures) own ∙ ap (λ (x : ℕ). heardSet (a .senders) x p) (r .ensures .0) in
     let w = l .inv .1 .1 .1 p (i .ensures .1) in (
       more (misses (a .senders)) (a .s .now) (a .at) (a .n) (a .senders) (a .wanted) (l .left) (c .rest .result) p (o .result) (h .result) (l .some) (c .before .before .before .with-own .result) (i .ensures .0) (i .ensures .1) out w own is (c .before .before .before .with-own .ensures) (l .inv .0),
       (

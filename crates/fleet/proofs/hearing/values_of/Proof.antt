@@ -1,66 +1,47 @@
 -- `values_of` meets its contract.
 use mathlib.Core.Path.{_≡_, ap, sym, _∙_}
-use mathlib.Core.Bool.{not}
-use Prim.Native.Nat.{_≤_, _-_}
+use mathlib.Core.Bool.{Bool, cond}
+use mathlib.Core.Logic.{⊎-elim}
+use Prim.Native.Nat.{ℕ}
 use native.Mathlib.Omega.{arith}
-use native.Mathlib.Numerals.{add-one}
-use borrow.Author.Tests.{ne-eqb, eq-eqb}
 use borrow.Author.Needs.{needs}
-use Rattle.basics.specs.Lists.{first}
-use Rattle.basics.proofs.Laws.{first-none, first-on}
-use Rattle.fleet.specs.Sets.{wasHeard}
-use Rattle.fleet.proofs.Laws.{first-found}
-use Rattle.fleet.proofs.ByCrusher.{values-hit, values-none, values-silent}
+use borrow.Author.Tests.{not-true, not-false}
+use lib.Dec.{eqb}
+use lib.ListN.{getD}
+use Rattle.basics.proofs.Laws.{first-le}
+use Rattle.protocol.specs.declared.Heard.{Heard}
+use Rattle.protocol.specs.declared.Heard.the-variants.{One, Several}
+use Rattle.fleet.specs.Sets.{without, wasHeard}
+use Rattle.fleet.proofs.ByCrusher.{values-hit, values-none}
 use Rattle.fleet.proofs.hearing.values_of.Statement.{statement}
 use Rattle.fleet.proofs.hearing.values_of.Tie as tie
 
-abbrev Inv-loop : tie.InvT-loop
-Inv-loop values heard estimate c₀ c = (c ≤ 16) × (first (wasHeard values heard) c ≡ c)
-
-abbrev μ-loop : tie.MeasureT-loop
-μ-loop values heard estimate c₀ c = 16 - c
-
-returns : tie.Need-returns Inv-loop μ-loop
-returns c = let a = c .before .args in sym (values-silent (a .values .now) (a .heard) (a .estimate) (c .if1 .taken))
-
-loop-holds : tie.Need-loop-holds Inv-loop μ-loop
-loop-holds c = (search needs, first-none (wasHeard (c .before .args .values .now) (c .before .args .heard)))
-
-returns-2 : tie.Need-returns-2 Inv-loop μ-loop
-returns-2 c =
-    let a = c .before .before .before .before .before .before .args in
-    let i = c .before .before .before .before .loop in
-    rw (c .count .ensures)
-    (sym (values-hit (a .values .now) (a .heard) (a .estimate) (i .c) (c .before .before .before .loop-test .taken)
-    (first-found (wasHeard (a .values .now) (a .heard)) 16 (i .c) (c .before .before .before .loop-test .taken) (i .inv .1) (ap not (ne-eqb _ 0 (c .before .if2 .taken))))))
-
-loop-again : tie.Need-loop-again Inv-loop μ-loop
-loop-again c =
+returns : tie.Need-returns
+returns c =
     let a = c .before .before .before .before .before .args in
-    let i = c .before .before .before .loop in
-    (search needs, ap (first (wasHeard (a .values .now) (a .heard))) (add-one (i .c)) ∙ first-on (wasHeard (a .values .now) (a .heard)) (i .c) (i .inv .1) (ap not (eq-eqb _ 0 (c .if2 .left))) ∙ sym (add-one (i .c)))
+    let f = c .before .before .before .before .first-heard in
+    let w = c .before .less in
+    let told : (b : Bool) → eqb (w .result) 0 ≡ b → cond b One Several ≡ cond (eqb (without (a .heard) (getD (a .by .now) (f .result) 0)) 0) One Several
+    = λ b e. ap (λ (x : Bool). cond x One Several) (sym e ∙ ap (λ (x : ℕ). eqb x 0) (w .ensures)) in
+    ap (λ (h : Heard). record { heard = h; least = f .result })
+    (⊎-elim (λ x. x .1 ∙ told _ (not-true (eqb (w .result) 0) (x .0 .taken))) (λ x. x .1 ∙ told _ (not-false (eqb (w .result) 0) (x .0 .left))) (c .if2 .came))
+    ∙ sym (values-hit (a .by .now) (a .heard) (a .estimate) (f .result) (c .before .before .before .if1 .taken) (sym (f .ensures)))
 
-returns-3 : tie.Need-returns-3 Inv-loop μ-loop
-returns-3 c =
-    let a = c .before .before .before .args in
-    let i = c .before .loop in
-    let e : i .c ≡ 16 = omega (arith, i .inv .0, c .loop-test .left) in
-    sym (values-none (a .values .now) (a .heard) (a .estimate) (ap (first (wasHeard (a .values .now) (a .heard))) (sym e) ∙ i .inv .1 ∙ e))
+returns-2 : tie.Need-returns-2
+returns-2 c =
+    let a = c .before .before .args in
+    let f = c .before .first-heard in
+    let e : f .result ≡ 16 = omega (arith, f .ensures, first-le (wasHeard (a .by .now) (a .heard)) 16, c .if1 .left) in
+    sym (values-none (a .by .now) (a .heard) (a .estimate) (sym (f .ensures) ∙ e))
 
 pub values-of-spec : {M : Type 1} → statement M
 values-of-spec =
     tie.close
     (tie.spec
-    Inv-loop
-    μ-loop
-    returns
-    loop-holds
+    (λ c κs. search needs)
     (λ c. search needs)
     (λ c. search needs)
     (λ c κs. search needs)
     (λ c. search needs)
-    returns-2
-    (λ c. search needs)
-    (λ c. search needs)
-    loop-again
-    returns-3)
+    returns
+    returns-2)

@@ -9,7 +9,8 @@ use lib.Bits.{bitAnd, bitOr}
 use lib.ListN.{getD}
 use Rattle.basics.specs.Lists.{filled}
 use Rattle.basics.proofs.Laws.{filled-none, fill-step, getD-filled-past}
-use Rattle.fleet.specs.Listens.{without, settled}
+use Rattle.fleet.specs.Sets.{without}
+use Rattle.fleet.specs.Listens.{settled}
 use Rattle.fleet.proofs.listening.settle.Statement.{statement}
 use Rattle.fleet.proofs.listening.settle.Tie as tie
 

@@ -14,7 +14,7 @@ use Rattle.fleet.proofs.replay.ended.Reads as ended-reads
 use Rattle.fleet.proofs.grading.judged.Reads as judged-reads
 use Rattle.fleet.proofs.replay.propose.Reads as propose-reads
 use Rattle.fleet.proofs.replay.veto.Reads as veto-reads
-use Rattle.fleet.proofs.listening.less.Reads as less-reads
+use Rattle.fleet.proofs.hearing.less.Reads as less-reads
 use Rattle.fleet.proofs.replay.+proposals+vetoes.{statement}
 use Rattle.fleet.proofs.replay.+proposals+vetoes.Tie.{close}
 

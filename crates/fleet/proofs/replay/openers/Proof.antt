@@ -7,7 +7,7 @@ use Rattle.words.proofs.Words.{removed-lt}
 use Rattle.recording.specs.Packed.{openingAt}
 use Rattle.fleet.proofs.Places.{opening-lt}
 use Rattle.fleet.proofs.Members.{taken-out}
-use Rattle.fleet.proofs.Loops.{Sorting, sorting-starts, sorting-more, sorting-done}
+use Rattle.fleet.proofs.Sorting.{Sorting, sorting-starts, sorting-more, sorting-done}
 use Rattle.fleet.proofs.replay.openers.Statement.{statement}
 use Rattle.fleet.proofs.replay.openers.Tie as tie
 

@@ -8,8 +8,8 @@ use lib.Count.{trailingZeros}
 use lib.Pow.{pow-lt}
 use Rattle.basics.specs.Bits.{bit}
 use Rattle.words.proofs.Words.{bit-xor, oneOf, same-bits, trailing-bit, trailing-rest}
-use Rattle.fleet.proofs.listening.first_of.Statement.{statement}
-use Rattle.fleet.proofs.listening.first_of.Tie as tie
+use Rattle.fleet.proofs.hearing.first_of.Statement.{statement}
+use Rattle.fleet.proofs.hearing.first_of.Tie as tie
 
 twice : (a b : Bool) → oneOf a (oneOf a b) ≡ b
 twice true true = refl

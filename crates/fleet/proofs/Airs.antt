@@ -13,7 +13,8 @@ use Rattle.basics.specs.Bits.{bit}
 use Rattle.basics.specs.Lists.{who}
 use Rattle.air.specs.Air.{Air, hears}
 use Rattle.air.proofs.Laws.{who-ext, count-some}
-use Rattle.words.proofs.Words.{bit-or, bit-power, ones-count, some-bit}
+use Rattle.basics.proofs.Bits.{bit-or}
+use Rattle.words.proofs.Words.{bit-power, ones-count, some-bit}
 use Rattle.fleet.specs.Sets.{Members, without, heardSet}
 use Rattle.fleet.proofs.Members.{members-and, members-without}
 

@@ -18,7 +18,8 @@ use Rattle.basics.specs.Bits.{bit, odd}
 use Rattle.basics.specs.Lists.{filled, first}
 use Rattle.basics.proofs.Laws.{or-left, or-right, odd-suc, first-unique, getD-filled, getD-filled-past, length-filled, length-tab, getD-tab, filled-none, fill-step}
 use Rattle.refusals.specs.declared.Outcome.the-variants.{Accepted}
-use Rattle.words.proofs.Words.{bit-and, bit-or, bit-power, bit-zero, no-bits}
+use Rattle.basics.proofs.Bits.{bit-and, bit-or}
+use Rattle.words.proofs.Words.{bit-power, bit-zero, no-bits}
 use Rattle.recording.specs.Packed.{trucksOf, roundsOf, openingAt, openingsOf, roundAt}
 use Rattle.recording.specs.Checks.{frameCheck}
 use Rattle.recording.proofs.Accepted.{frame-good}

@@ -15,7 +15,8 @@ use Rattle.basics.proofs.Laws.{allBelow-all, allBelow-at, none-someBelow, someB
 use Rattle.air.specs.Air.{Air, implies, sent, hears, heardBy, heard, misses, missesAny, judged, complete, majorityComplete, zeroComplete, accurate}
 use Rattle.air.proofs.Laws.{hears-sends}
 use Rattle.bitreader.specs.Bits.{mirrored}
-use Rattle.words.proofs.Words.{bit-and, bit-or, bit-without, bit-zero, same-bits, some-bit}
+use Rattle.basics.proofs.Bits.{bit-and, bit-or}
+use Rattle.words.proofs.Words.{bit-without, bit-zero, same-bits, some-bit}
 use Rattle.words.proofs.Mirror.{mirror-eq, mirror-zero, mirror-ones}
 use Rattle.protocol.specs.declared.Grades.{Grades}
 use Rattle.fleet.specs.Sets.{Members, heardSet, without}

@@ -14,7 +14,8 @@ use lib.Seq.{ext-getD, getD-set-same, getD-set-other}
 use Rattle.basics.specs.Bits.{bit}
 use Rattle.basics.specs.Lists.{filled}
 use Rattle.basics.proofs.Laws.{and-left, length-filled, getD-filled, getD-filled-past, filled-ext, filled-same}
-use Rattle.words.proofs.Words.{bit-and, bit-or, bit-without, bit-power, bit-high, bit-zero, bit-removed}
+use Rattle.basics.proofs.Bits.{bit-and, bit-or}
+use Rattle.words.proofs.Words.{bit-without, bit-power, bit-high, bit-zero, bit-removed}
 use Rattle.fleet.specs.Sets.{Members}
 
 pub set-below : (set n : ℕ) → set < 2 ^ n → (j : ℕ) → bit set j ≡ true → j < n

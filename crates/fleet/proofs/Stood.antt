@@ -17,7 +17,8 @@ use Rattle.basics.proofs.Laws.{getD-filled, length-filled, and-left, and-right}
 use Rattle.air.specs.Round.{stopBit, activeBit, markBit, lossBit}
 use Rattle.air.specs.Air.{Air, hears, heard, heardBy}
 use Rattle.air.proofs.Laws.{hears-itself, count-some}
-use Rattle.words.proofs.Words.{bit-and, bit-or, bit-xor, bit-without, bit-zero, bit-power, oneOf, no-bits}
+use Rattle.basics.proofs.Bits.{bit-and, bit-or, bit-xor, oneOf}
+use Rattle.words.proofs.Words.{bit-without, bit-zero, bit-power, no-bits}
 use Rattle.words.proofs.Mirror.{mirror-twice, mirror-zero}
 use Rattle.bitreader.specs.Bits.{mirrored}
 use Rattle.protocol.specs.declared.Heard.{Heard}

@@ -7,7 +7,8 @@ use lib.Bits.{bitXor, xor-lt}
 use lib.Count.{trailingZeros}
 use lib.Pow.{pow-lt}
 use Rattle.basics.specs.Bits.{bit}
-use Rattle.words.proofs.Words.{bit-xor, oneOf, same-bits, trailing-bit, trailing-rest}
+use Rattle.basics.proofs.Bits.{bit-xor, oneOf}
+use Rattle.words.proofs.Words.{same-bits, trailing-bit, trailing-rest}
 use Rattle.fleet.proofs.hearing.first_of.Statement.{statement}
 use Rattle.fleet.proofs.hearing.first_of.Tie as tie
 

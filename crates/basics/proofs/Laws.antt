@@ -244,6 +244,24 @@ module _ (p : ℕ → Bool) where
   unfolding someBelow
   none-someBelow m h = le-ltb (first p m) m (omega (arith, first-all m h))
 
+  -- the same by the least of them
+  pub some-first : (m : ℕ) → someBelow p m ≡ true → first p m < m
+  unfolding someBelow
+  some-first m h = ltb-true (first p m) m h
+
+  pub none-first : (m : ℕ) → someBelow p m ≡ false → m ≤ first p m
+  unfolding someBelow
+  none-first m h = ltb-false (first p m) m h
+
+  -- one number more
+  pub some-more : (m : ℕ) → (someBelow p m || p m) ≡ someBelow p (m + 1)
+  some-more m = go (someBelow p m) (p m) refl refl
+    where
+      go : (a b : Bool) → someBelow p m ≡ a → p m ≡ b → (a || b) ≡ someBelow p (m + 1)
+      go true b h e = let r = someBelow-at m h in sym (someBelow-by (m + 1) (r .0) (omega (arith, r .1)) (r .2))
+      go false true h e = sym (someBelow-by (m + 1) m (omega arith) e)
+      go false false h e = sym (none-someBelow (m + 1) (λ k l. below-more (λ i. p i ≡ false) m (someBelow-none m h) e k (omega arith)))
+
   -- a loop that looks for a number with p: it finds one, or has passed all of them
   pub some-hit : (m k : ℕ) → k < m → p k ≡ true → true ≡ someBelow p m
   some-hit m k l h = sym (someBelow-by m k l h)

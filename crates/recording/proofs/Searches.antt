@@ -1,35 +1,33 @@
 -- Searches for a bit, as the code makes them, and the outcome of a check by its conditions.
 use mathlib.Core.Path.{_≡_, refl, ap, ap₂, sym, _∙_}
-use mathlib.Core.Bool.{Bool, true, false, not, true≢false}
+use mathlib.Core.Bool.{Bool, true, false, not, _||_, true≢false}
 use mathlib.Core.List.{List}
-use Prim.Native.Nat.{ℕ, zero, suc, _+_, _*_, _-_, _%_, _^_, _≤_, _<_}
-use native.Mathlib.Nat.{mul-le-mul, zero-div}
+use Prim.Native.Nat.{ℕ, zero, suc, _+_, _*_, _-_, _/_, _%_, _^_, _≤_, _<_}
+use native.Mathlib.Nat.{mul-le-mul, mul-le-mul-right, zero-div}
 use native.Mathlib.Numerals.{add-one}
 use native.Mathlib.Decide.{decLt}
 use native.Mathlib.Omega.{arith}
 use borrow.Author.Tests.{eqb-false, eq-eqb, ne-eqb, lt-ltb, le-ltb}
 use lib.Arith.{digits-lt}
-use lib.Dec.{eqb}
-use lib.ListN.{length}
+use lib.Bits.{bitOr}
+use lib.Dec.{eqb, ltb}
+use lib.ListN.{length, getD}
 use Rattle.refusals.specs.declared.Refusal.{Refusal}
 use Rattle.refusals.specs.declared.Refusal.the-variants.{ShortRecording, TruckCount, RoundCount, RecordingLength, EndBit, OwnLoss}
 use Rattle.refusals.specs.declared.Outcome.{Outcome}
 use Rattle.refusals.specs.declared.Outcome.the-variants.{Accepted, Refused}
 use Rattle.basics.specs.Bits.{bit, digit}
 use Rattle.basics.specs.Lists.{first, someBelow}
-use Rattle.basics.proofs.Laws.{someBelow-none, none-someBelow, someBelow-by, first-before, first-at, first-on, first-unique}
-use Rattle.bitreader.proofs.Digits.{bitAt-lt, numAt-digit, rowAt-digit}
+use Rattle.basics.proofs.Laws.{someBelow-none, none-someBelow, someBelow-by, some-first, none-first, some-more, first-all, first-le, first-before, first-at, first-on, first-unique}
+use Rattle.basics.proofs.Bits.{bit-or}
+use Rattle.bitreader.proofs.Digits.{bitAt-lt, numAt-digit, rowAt-digit, numAt-one, bit-in-byte}
 use Rattle.recording.specs.Packed.{bitAt, numAt, rowAt, trucksOf, roundsOf, wordAt, bitsFor, bytesFor}
-use Rattle.recording.specs.Checks.{refuse, andThen, tooShort, badTrucks, badRounds, badLength, endBit, ownBit, ownLoss, frameCheck, ownCheck, checkOf}
-use Rattle.recording.proofs.Accepted.{frame-good, trucks-in}
+use Rattle.recording.specs.Checks.{refuse, andThen, tooShort, badTrucks, badRounds, badLength, endBit, ownBit, firstOwn, ownLoss, frameCheck, ownCheck, checkOf}
+use Rattle.recording.proofs.Accepted.{GoodFrame, frame-good, trucks-in}
 use Rattle.recording.proofs.RoundTrip.{own-at}
 use Rattle.recording.proofs.Sizes.{bits-small}
 
--- ---- one bit, and a run of bits that is 0
-pub numAt-one : (f : ℕ → ℕ) (p : ℕ) → numAt f p 1 ≡ f p
-unfolding numAt
-numAt-one f p = omega arith ∙ ap f (let e : p + 0 ≡ p = omega arith in e)
-
+-- ---- a run of bits that is 0
 pub numAt-zero : (f : ℕ → ℕ) (p k : ℕ) → ((i : ℕ) → i < k → f (p + i) ≡ 0) → numAt f p k ≡ 0
 unfolding numAt
 numAt-zero f p zero h = refl
@@ -67,27 +65,47 @@ number-tests f bits p k v e = go (someBelow (λ j. eqb (f (p + j)) 1) k) refl
 
 -- ---- a search that goes by rounds of n
 pub none-more : (p : ℕ → Bool) (i : ℕ) → someBelow p i ≡ false → p i ≡ false → someBelow p (i + 1) ≡ false
-none-more p i h e = none-someBelow p (i + 1) (λ k l. go k (decLt k i) l)
-  where
-    go : (k : ℕ) → Dec (k < i) → k < i + 1 → p k ≡ false
-    go k (yes o) l = someBelow-none p i h k o
-    go k (no o) l = ap p (let z : k ≡ i = omega arith in z) ∙ e
+none-more p i h e = sym (some-more p i) ∙ ap₂ _||_ h e
 
 module _ (p q : ℕ → Bool) (n r : ℕ) (same : (i : ℕ) → i < n → q i ≡ p (r * n + i)) where
-  pub none-round : someBelow p (r * n) ≡ false → n ≤ first q n → someBelow p ((r + 1) * n) ≡ false
-  none-round h e = none-someBelow p ((r + 1) * n) (λ k l. go k (decLt k (r * n)) l)
+  -- where the rounds before round r have none, no number before its first one has p
+  before-round : someBelow p (r * n) ≡ false → (k : ℕ) → k < r * n + first q n → p k ≡ false
+  before-round h k l = go (decLt k (r * n))
     where
-      go : (k : ℕ) → Dec (k < r * n) → k < (r + 1) * n → p k ≡ false
-      go k (yes o) l = someBelow-none p (r * n) h k o
-      go k (no o) l =
+      go : Dec (k < r * n) → p k ≡ false
+      go (yes o) = someBelow-none p (r * n) h k o
+      go (no o) =
           let z : r * n + (k - r * n) ≡ k = omega arith in
-          ap p (sym z) ∙ sym (same (k - r * n) (omega arith)) ∙ first-before q n (k - r * n) (omega arith)
+          ap p (sym z) ∙ sym (same (k - r * n) (omega (arith, first-le q n))) ∙ first-before q n (k - r * n) (omega arith)
+
+  pub none-round : someBelow p (r * n) ≡ false → n ≤ first q n → someBelow p ((r + 1) * n) ≡ false
+  none-round h e = none-someBelow p ((r + 1) * n) (λ k l. before-round h k (omega arith))
+
+  first-round : (R : ℕ) → r < R → someBelow p (r * n) ≡ false → first q n < n → r * n + first q n ≡ first p (R * n)
+  first-round R l h e =
+      sym
+      (first-unique p (R * n) (r * n + first q n) (omega (arith, digits-lt l e)) (before-round h) (λ o. sym (same (first q n) e) ∙ first-at q n e))
 
   pub some-round : (R : ℕ) → r < R → first q n < n → someBelow p (R * n) ≡ true
   some-round R l e =
       someBelow-by p (R * n) (r * n + first q n)
       (digits-lt l e)
       (sym (same (first q n) e) ∙ first-at q n e)
+
+-- refusal 6 by the first own bit
+own-loss-first : (word : ℕ → ℕ) (n R : ℕ) → ownLoss word n R ≡ ltb (firstOwn word n R) (R * n)
+unfolding ownLoss firstOwn someBelow
+own-loss-first word n R = refl
+
+-- and by its round
+own-before : (word : ℕ → ℕ) (n R round truck : ℕ) → round * n + truck ≡ firstOwn word n R → truck < n → ltb round R ≡ ownLoss word n R
+own-before word n R round truck placed below = go (decLt round R) ∙ sym (own-loss-first word n R)
+  where
+    go : Dec (round < R) → ltb round R ≡ ltb (firstOwn word n R) (R * n)
+    go (yes l) = lt-ltb round R l ∙ sym (lt-ltb (firstOwn word n R) (R * n) (omega (arith, placed, digits-lt l below)))
+    go (no l) =
+        let o : R * n ≤ round * n = mul-le-mul-right n (let u : R ≤ round = omega arith in u) in
+        le-ltb round R (omega arith) ∙ sym (le-ltb (firstOwn word n R) (R * n) (omega (arith, placed)))
 
 -- the own loss bits of the round whose first one stands at a place
 abbrev pub ownHere : List ℕ → ℕ → ℕ → ℕ → Bool
@@ -104,6 +122,26 @@ own-place s n r at e p i h =
     ∙ ap (λ (b : ℕ). eqb b 1) (rowAt-digit (bitAt s) (bitAt-lt s) (16 + 4 * n + w * n) n i h)
     ∙ ap (λ (q : ℕ). eqb (bitAt s q) 1) (omega arith))
 
+-- of rounds of which those before round r have no own bit set: what a look at round r says
+module _ (s : List ℕ) (n r at : ℕ) (counted : n ≡ trucksOf s) (placed : at ≡ 16 + 7 * n + r * (3 * n + n * n)) (none : someBelow (ownBit (wordAt s) n) (r * n) ≡ false) where
+  here : (i : ℕ) → i < n → ownHere s at n i ≡ ownBit (wordAt s) n (r * n + i)
+  here = own-place s n r at counted placed
+
+  pub own-found : (b : Bool) (truck R : ℕ) → r < R → b ≡ someBelow (ownHere s at n) n → b ≡ true → truck ≡ first (ownHere s at n) n
+      → (r * n + truck ≡ firstOwn (wordAt s) n R) × (truck < n)
+  unfolding firstOwn
+  own-found b truck R l e h f =
+      let some : first (ownHere s at n) n < n = some-first (ownHere s at n) n (sym e ∙ h) in
+      (ap (λ (i : ℕ). r * n + i) f ∙ first-round (ownBit (wordAt s) n) (ownHere s at n) n r here R l none some, omega arith)
+
+  pub own-passed : (b : Bool) → b ≡ someBelow (ownHere s at n) n → b ≡ false → someBelow (ownBit (wordAt s) n) ((r + 1) * n) ≡ false
+  own-passed b e h = none-round (ownBit (wordAt s) n) (ownHere s at n) n r here none (none-first (ownHere s at n) n (sym e ∙ h))
+
+-- and where all rounds were passed
+pub own-none : (s : List ℕ) (n R : ℕ) → 0 < n → someBelow (ownBit (wordAt s) n) (R * n) ≡ false → (R * n + 0 ≡ firstOwn (wordAt s) n R) × (0 < n)
+unfolding firstOwn
+own-none s n R l h = (omega (arith, first-all (ownBit (wordAt s) n) (R * n) (someBelow-none (ownBit (wordAt s) n) (R * n) h)), l)
+
 -- ---- a search that stops at the first hit
 pub first-found : (p : ℕ → Bool) (i n : ℕ) → first p i ≡ i → p i ≡ true → i < n → i ≡ first p n
 first-found p i n e h l = sym (first-unique p n i (omega arith) (λ k o. first-before p i k (omega arith)) (λ o. h))
@@ -118,6 +156,20 @@ place-small n i h l = mul-le-mul (let o : i ≤ 32 = omega arith in o) (let o : 
 -- what one bit that was read says of a test of bits
 pub bit-read : (s : List ℕ) (p q v : ℕ) → v ≡ numAt (bitAt s) p 1 → p ≡ q → eqb v 1 ≡ eqb (bitAt s q) 1
 bit-read s p q v e g = ap (λ (x : ℕ). eqb x 1) (e ∙ numAt-one (bitAt s) p ∙ ap (bitAt s) g)
+
+-- a union of bytes, each shifted by the place of one bit in it: its bit worth 128 says whether one of those bits is 1
+pub union-more : (s : List ℕ) (at n i p any : ℕ) → getD s (p / 8) 0 < 256 → p ≡ at + i * (n + 1) → bit any 7 ≡ someBelow (ownHere s at n) i
+    → bit (bitOr any (getD s (p / 8) 0 * 2 ^ (p % 8) % 2 ^ 32)) 7 ≡ someBelow (ownHere s at n) (i + 1)
+union-more s at n i p any small e h =
+    bit-or any (getD s (p / 8) 0 * 2 ^ (p % 8) % 2 ^ 32) 7
+    ∙ ap₂ _||_ h (ap (λ (b : ℕ). eqb b 1) (bit-in-byte s p small ∙ ap (bitAt s) e))
+    ∙ some-more (ownHere s at n) i
+
+-- that bit of each truck stands within the rows of the round
+pub within-rows : (n i : ℕ) → i < n → i * (n + 1) < n * n
+within-rows n i h =
+    let o : (i + 1) * (n + 1) ≤ n * (n + 1) = mul-le-mul-right (n + 1) (let l : i + 1 ≤ n = omega arith in l) in
+    omega arith
 
 -- ---- outcomes by conditions
 frame-by : (s : List ℕ) (a b c d e : Bool)
@@ -186,20 +238,30 @@ unfolding checkOf
 check-refused s f r e h = ap (λ (o : Outcome). andThen o (ownCheck s)) (sym h ∙ e)
 
 module _ (s : List ℕ) (f : Outcome) (n R : ℕ) (framed : f ≡ frameCheck s) (kept : f ≡ Accepted) (counted : n ≡ trucksOf s) (played : R ≡ roundsOf s) where
+  good : GoodFrame s
+  good = frame-good s (sym framed ∙ kept)
+
+  pub trucks-some : 0 < n
+  trucks-some = omega (arith, good .some)
+
   pub trucks-fit : n ≤ 32
-  trucks-fit = omega (arith, frame-good s (sym framed ∙ kept) .most)
+  trucks-fit = omega (arith, good .most)
 
   pub rounds-fit : R ≤ 400
-  rounds-fit = omega (arith, frame-good s (sym framed ∙ kept) .rounds)
+  rounds-fit = omega (arith, good .rounds)
 
-  module _ (b : Bool) (owned : b ≡ ownLoss (wordAt s) n R) where
-    check-own : refuse b OwnLoss Accepted ≡ checkOf s
+  pub bits-fit : bitsFor n R ≤ 8 * length s
+  unfolding bytesFor
+  bits-fit = omega (arith, good .size, ap₂ bitsFor counted played)
+
+  module _ (round truck : ℕ) (placed : round * n + truck ≡ firstOwn (wordAt s) n R) (below : truck < n) where
+    check-own : refuse (ltb round R) OwnLoss Accepted ≡ checkOf s
     unfolding checkOf ownCheck
     check-own =
-        ap₂ (λ (o : Outcome) (x : Bool). andThen o (refuse x OwnLoss Accepted)) (sym kept ∙ framed) (owned ∙ ap₂ (ownLoss (wordAt s)) counted played)
+        ap₂ (λ (o : Outcome) (x : Bool). andThen o (refuse x OwnLoss Accepted)) (sym kept ∙ framed) (own-before (wordAt s) n R round truck placed below ∙ ap₂ (ownLoss (wordAt s)) counted played)
 
-    pub check-6 : b ≡ true → Refused OwnLoss ≡ checkOf s
-    check-6 h = rw h at check-own
+    pub check-6 : round < R → Refused OwnLoss ≡ checkOf s
+    check-6 h = rw (lt-ltb round R h) at check-own
 
-    pub check-0 : b ≡ false → Accepted ≡ checkOf s
-    check-0 h = rw h at check-own
+    pub check-0 : R ≤ round → Accepted ≡ checkOf s
+    check-0 h = rw (le-ltb round R h) at check-own

@@ -1,6 +1,7 @@
 -- Sizes of a recording as numbers of the code: they fit.
+use mathlib.Core.Path.{_≡_}
 use Prim.Native.Nat.{ℕ, _+_, _*_, _<_, _≤_, _^_}
-use native.Mathlib.Nat.{mul-le-mul}
+use native.Mathlib.Nat.{mul-le-mul, mul-le-mul-right}
 use native.Mathlib.Omega.{arith}
 use Rattle.recording.specs.Packed.{bitsFor}
 
@@ -19,3 +20,10 @@ bits-small n R h l = omega (arith, rounds-small n R h l)
 pub rounds-within : (n R : ℕ) → n ≤ 32 → R ≤ 400 → R * (3 * n + n * n) ≤ 448000
 rounds-within n R h l =
     mul-le-mul l (let o : 3 * n + n * n ≤ 1120 = omega (arith, mul-le-mul {n₁ = n} {m₁ = n} {n₂ = 32} {m₂ = 32} h h) in o)
+
+-- the rows of each round stand within the recording
+pub rows-within : (n R r at m : ℕ) → r < R → at ≡ 16 + 7 * n + r * (3 * n + n * n) → bitsFor n R ≤ m → at + n * n ≤ m
+unfolding bitsFor
+rows-within n R r at m l e h =
+    let o : (r + 1) * (3 * n + n * n) ≤ R * (3 * n + n * n) = mul-le-mul-right (3 * n + n * n) (let u : r + 1 ≤ R = omega arith in u) in
+    omega arith

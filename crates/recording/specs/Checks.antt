@@ -9,7 +9,7 @@ use Rattle.refusals.specs.declared.Refusal.the-variants.{ShortRecording, TruckC
 use Rattle.refusals.specs.declared.Outcome.{Outcome}
 use Rattle.refusals.specs.declared.Outcome.the-variants.{Accepted, Refused}
 use Rattle.basics.specs.Bits.{bit}
-use Rattle.basics.specs.Lists.{someBelow}
+use Rattle.basics.specs.Lists.{first, someBelow}
 use Rattle.recording.specs.Packed.{bitAt, trucksOf, roundsOf, wordAt, bitsFor, bytesFor, roundWords}
 
 -- the refusal where its condition holds, else what the later conditions give
@@ -42,6 +42,10 @@ endBit s =
 -- own loss bit k of rounds of n trucks, by their words: truck k % n in round k / n, rounds counted from 0
 unfoldable pub ownBit : (ℕ → ℕ) → ℕ → ℕ → Bool
 ownBit word n k = bit (word (k / n * roundWords n + (3 + k % n))) (k % n)
+
+-- the first own loss bit of R rounds that is 1, or R * n where none is
+unfoldable pub firstOwn : (ℕ → ℕ) → ℕ → ℕ → ℕ
+firstOwn word n R = first (ownBit word n) (R * n)
 
 -- 6: an own loss bit of R rounds is 1
 unfoldable pub ownLoss : (ℕ → ℕ) → ℕ → ℕ → Bool

@@ -1,12 +1,11 @@
 // A packed recording: the counts of its header, its openings, and the check 1 to 6 that reading, running and grading share.
 ghost use mathlib.Core.Path.{_≡_};
-ghost use mathlib.Core.Bool.{false};
 ghost use Prim.Native.Nat.{_+_, _*_, _-_, _<_, _≤_, _^_};
 ghost use lib.Dec.{eqb};
 ghost use lib.ListN.{length};
 ghost use Rattle.basics.specs.Lists.{first, someBelow};
 ghost use Rattle.recording.specs.Packed.{bitAt, trucksOf, roundsOf, openingAt, bitsFor, bytesFor, wordAt};
-ghost use Rattle.recording.specs.Checks.{badTrucks, ownLoss, frameCheck, checkOf};
+ghost use Rattle.recording.specs.Checks.{badTrucks, firstOwn, frameCheck, checkOf};
 use refusals::Outcome;
 use refusals::Refusal;
 
@@ -89,7 +88,24 @@ pub fn check_frame(s: &[u8]) -> Outcome
     Outcome::Accepted
 }
 
-// The lowest truck of a round whose own loss bit is 1, or n where none is. The first own bit stands at `at`, and each other one n + 1 bits after the one before it.
+// Whether an own loss bit of a round is 1. The first own bit stands at `at`, and each other one n + 1 bits after the one before it.
+// By the union of their bytes, each shifted so that its own bit is worth 128: with no branch for each truck this is faster than a search.
+fn own_any(s: &[u8], at: usize, n: usize) -> bool
+    requires { ⌜ (n ≤ 32) × (at < 2 ^ 32) × (at + n * n ≤ 8 * length (now s)) ⌝ }
+    ensures { λ r. ⌜ r ≡ someBelow (λ i. eqb (bitAt (now (s .entry)) (at + i * (n + 1))) 1) n ⌝ }
+{
+    let mut seen = 0;
+    let mut p = at;
+    let mut any: u32 = 0;
+    while seen < n {
+        any = any | ((s[p / 8] as u32) << (p % 8));
+        p = p + (n + 1);
+        seen += 1;
+    }
+    any / 128 % 2 == 1
+}
+
+// The lowest truck whose own loss bit is 1 in the round whose first own bit stands at `at`, or n where none is.
 fn own_truck(s: &[u8], at: usize, n: usize) -> usize
     requires { ⌜ (n ≤ 32) × (at < 2 ^ 32) ⌝ }
     ensures { λ r. ⌜ r ≡ first (λ i. eqb (bitAt (now (s .entry)) (at + i * (n + 1))) 1) n ⌝ }
@@ -108,23 +124,35 @@ fn own_truck(s: &[u8], at: usize, n: usize) -> usize
     n
 }
 
-// Refusal 6.
-fn own_loss(s: &[u8], n: usize, rounds: usize) -> bool
-    requires { ⌜ (n ≡ trucksOf (now s)) × ((n ≤ 32) × (rounds ≤ 400)) ⌝ }
-    ensures { λ r. ⌜ r ≡ ownLoss (wordAt (now (s .entry))) n rounds ⌝ }
+// An own loss bit by its round, counted from 0, and its truck.
+struct OwnPlace {
+    round: usize,
+    truck: usize,
+}
+
+// The first own loss bit that is 1 in so many rounds from the first one on; where none is, truck 0 of the round after them.
+// Only in the round that has it is the truck searched for.
+fn own_place(s: &[u8], n: usize, rounds: usize) -> OwnPlace
+    requires { ⌜ (n ≡ trucksOf (now s)) × (0 < n) × (n ≤ 32) × (rounds ≤ 400) × (bitsFor n rounds ≤ 8 * length (now s)) ⌝ }
+    ensures { λ r. ⌜ (r .round * n + r .truck ≡ firstOwn (wordAt (now (s .entry))) n rounds) × (r .truck < n) ⌝ }
 {
     let size = 3 * n + n * n;
     let mut at = 16 + 7 * n;
     let mut r = 0;
     while r < rounds {
-        let i = own_truck(s, at, n);
-        if i < n {
-            return true;
+        if own_any(s, at, n) {
+            return OwnPlace {
+                round: r,
+                truck: own_truck(s, at, n),
+            };
         }
         at = at + size;
         r += 1;
     }
-    false
+    OwnPlace {
+        round: rounds,
+        truck: 0,
+    }
 }
 
 // Refusals 1 to 6.
@@ -135,7 +163,9 @@ pub fn check(s: &[u8]) -> Outcome
     match f {
         Outcome::Refused(r) => Outcome::Refused(r),
         Outcome::Accepted => {
-            if own_loss(s, truck_count(s) as usize, round_count(s) as usize) {
+            let rounds = round_count(s) as usize;
+            let own = own_place(s, truck_count(s) as usize, rounds);
+            if own.round < rounds {
                 return Outcome::Refused(Refusal::OwnLoss);
             }
             Outcome::Accepted

@@ -1,6 +1,6 @@
 -- `check` meets its contract: one law for each return.
 use borrow.Author.Needs.{needs}
-use Rattle.recording.proofs.Searches.{trucks-fit, rounds-fit, check-refused, check-6, check-0}
+use Rattle.recording.proofs.Searches.{trucks-some, trucks-fit, rounds-fit, bits-fit, check-refused, check-6, check-0}
 use Rattle.recording.proofs.check.Statement.{statement}
 use Rattle.recording.proofs.check.Tie as tie
 
@@ -15,7 +15,7 @@ check-spec =
     (λ c. search needs)
     (λ c κs. search needs)
     (λ c. search needs)
-    (λ c κs. search (trucks-fit, rounds-fit))
+    (λ c κs. search (trucks-some, trucks-fit, rounds-fit, bits-fit))
     (λ c. search check-6)
     (λ c. search check-refused)
     (λ c. search check-0))

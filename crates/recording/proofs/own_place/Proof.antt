@@ -1,17 +1,18 @@
--- `own_loss` meets its contract: no own bit of the rounds that the loop has passed is 1.
-use mathlib.Core.Path.{_≡_, sym}
+-- `own_place` meets its contract: no own bit of the rounds that the loop has passed is 1.
+use mathlib.Core.Path.{_≡_}
 use mathlib.Core.Bool.{false}
 use Prim.Native.Nat.{_≤_, _+_, _*_, _-_}
 use native.Mathlib.Omega.{arith}
 use borrow.Author.Needs.{needs}
+use lib.ListN.{length}
 use Rattle.basics.specs.Lists.{someBelow}
 use Rattle.basics.proofs.Laws.{none-someBelow}
 use Rattle.recording.specs.Packed.{wordAt}
-use Rattle.recording.specs.Checks.{ownBit, ownLoss}
-use Rattle.recording.proofs.Searches.{ownHere, own-place, none-round, some-round}
-use Rattle.recording.proofs.Sizes.{square-small, rounds-within}
-use Rattle.recording.proofs.own_loss.Statement.{statement}
-use Rattle.recording.proofs.own_loss.Tie as tie
+use Rattle.recording.specs.Checks.{ownBit}
+use Rattle.recording.proofs.Searches.{own-found, own-passed, own-none}
+use Rattle.recording.proofs.Sizes.{square-small, rounds-within, rows-within}
+use Rattle.recording.proofs.own_place.Statement.{statement}
+use Rattle.recording.proofs.own_place.Tie as tie
 
 abbrev Inv-loop : tie.InvT-loop
 Inv-loop s n rounds size at₀ r₀ at r =
@@ -31,21 +32,24 @@ loop-holds c =
     let a = c .before .args in
     (omega arith, omega arith, none-someBelow (ownBit (wordAt (a .s .now)) (a .n)) (0 * a .n) (λ k l. absurd (omega arith)))
 
+own-any-requires : tie.Need-own-any-requires Inv-loop μ-loop
+own-any-requires c κs =
+    let s = c .before .before .before in
+    let a = s .args in
+    let l = c .before .loop in
+    (omega arith, omega (arith, l .inv .1, rounds-within (a .n) (l .r) (omega arith) (omega arith)), rows-within (a .n) (a .rounds) (l .r) (l .at) (8 * length (a .s .now)) (c .loop-test .taken) (l .inv .1) (s .pre .4))
+
 own-truck-requires : tie.Need-own-truck-requires Inv-loop μ-loop
 own-truck-requires c κs =
-    let a = c .before .before .before .args in
-    let l = c .before .loop in
+    let a = c .before .before .before .before .before .args in
+    let l = c .before .before .before .loop in
     omega (arith, l .inv .1, rounds-within (a .n) (l .r) (omega arith) (omega arith))
 
 returns : tie.Need-returns Inv-loop μ-loop
-unfolding ownLoss
 returns c =
-    let s = c .before .before .before .before .before in
-    let a = s .args in
-    let l = c .before .before .before .loop in
-    sym
-    (some-round (ownBit (wordAt (a .s .now)) (a .n)) (ownHere (a .s .now) (l .at) (a .n)) (a .n) (l .r) (own-place (a .s .now) (a .n) (l .r) (l .at) (s .pre .0) (l .inv .1)) (a .rounds) (omega arith)
-    (omega (arith, c .before .own-truck .ensures)))
+    let s = c .before .before .before .before .before .before in
+    let l = c .before .before .before .before .loop in
+    own-found (s .args .s .now) (s .args .n) (l .r) (l .at) (s .pre .0) (l .inv .1) (l .inv .2) (c .before .before .own-any .result) (c .own-truck .result) (s .args .rounds) (omega arith) (c .before .before .own-any .ensures) (c .before .if1 .taken) (c .own-truck .ensures)
 
 add-at-2 : tie.Need-add-at-2 Inv-loop μ-loop
 add-at-2 c =
@@ -56,19 +60,17 @@ add-at-2 c =
 loop-again : tie.Need-loop-again Inv-loop μ-loop
 loop-again c =
     let s = c .before .before .before .before .before in
-    let a = s .args in
     let l = c .before .before .before .loop in
-    (omega arith, omega (arith, l .inv .1), none-round (ownBit (wordAt (a .s .now)) (a .n)) (ownHere (a .s .now) (l .at) (a .n)) (a .n) (l .r) (own-place (a .s .now) (a .n) (l .r) (l .at) (s .pre .0) (l .inv .1)) (l .inv .2) (omega (arith, c .before .own-truck .ensures)))
+    (omega arith, omega (arith, l .inv .1), own-passed (s .args .s .now) (s .args .n) (l .r) (l .at) (s .pre .0) (l .inv .1) (l .inv .2) (c .before .own-any .result) (c .before .own-any .ensures) (c .if1 .left))
 
 returns-2 : tie.Need-returns-2 Inv-loop μ-loop
-unfolding ownLoss
 returns-2 c =
-    let a = c .before .before .before .args in
-    let e : c .before .loop .r ≡ a .rounds = omega arith in
-    sym (rw e at (c .before .loop .inv .2))
+    let s = c .before .before .before in
+    let e : c .before .loop .r ≡ s .args .rounds = omega arith in
+    own-none (s .args .s .now) (s .args .n) (s .args .rounds) (s .pre .1) (rw e at (c .before .loop .inv .2))
 
-pub own-loss-spec : {M : Type 1} → statement M
-own-loss-spec =
+pub own-place-spec : {M : Type 1} → statement M
+own-place-spec =
     tie.close
     (tie.spec
     Inv-loop
@@ -79,6 +81,7 @@ own-loss-spec =
     (λ c. search needs)
     (λ c. search needs)
     loop-holds
+    own-any-requires
     own-truck-requires
     returns
     add-at-2

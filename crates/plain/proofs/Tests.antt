@@ -2,18 +2,22 @@
 use mathlib.Core.Path.{_≡_, refl, ap, sym, _∙_}
 use mathlib.Core.Bool.{Bool, true, false, not, _||_}
 use mathlib.Core.List.{List}
-use Prim.Native.Nat.{ℕ, _+_, _*_, _/_, _%_, _^_, _≤_, _<_}
+use Prim.Native.Nat.{ℕ, _+_, _*_, _-_, _/_, _%_, _^_, _≤_, _<_, min}
+use native.Mathlib.Decide.{decLt}
 use native.Mathlib.Nat.{div-eq-of-lt, le-div-iff-mul-le, mul-le-mul}
 use native.Mathlib.Omega.{arith}
-use borrow.Author.Tests.{leb-true, leb-false, le-leb, lt-leb, lt-ltb, eq-eqb, ne-eqb}
-use lib.Dec.{leb, ltb, eqb}
+use borrow.Author.Tests.{leb-true, leb-false, le-leb, lt-leb, lt-ltb, eq-eqb, ne-eqb, eqb-true, eqb-false}
+use lib.Bits.{bitAnd, bitOr, and-le-l, and-le-r, and-high, or-lt, or-add-and}
+use lib.Dec.{leb, ltb, eqb, lit<}
 use lib.ListN.{length, getD}
-use lib.Pow.{pow-mono, pow-pos}
-use Rattle.basics.specs.Bits.{bit}
+use lib.Pow.{pow-mono, pow-pos, pow-add, shl-exact}
+use Rattle.basics.specs.Bits.{digit, bit}
 use Rattle.basics.specs.Lists.{someBelow}
-use Rattle.basics.proofs.Laws.{someBelow-by, none-someBelow}
+use Rattle.basics.proofs.Laws.{someBelow-at, someBelow-by, someBelow-none, none-someBelow, some-hit}
+use Rattle.bitreader.proofs.Digits.{digit-lt}
 use Rattle.recording.specs.Checks.{highBit, ownBit, badOpenings, badWords}
 use Rattle.recording.proofs.RoundTrip.{own-at}
+use Rattle.recording.proofs.Searches.{none-more}
 
 -- a shift in place of a power
 pub high-shift : (n w : ℕ) → leb 1 (w / 2 ^ n) ≡ highBit n w
@@ -36,6 +40,34 @@ high-none n w h l = sym (lt-leb (2 ^ n) w (omega (arith, pow-mono {i = 32} {j = 
 pub bit-none : (w i : ℕ) → 32 ≤ i → w < 2 ^ 32 → false ≡ bit w i
 bit-none w i h l =
     ap (λ (x : ℕ). eqb (x % 2) 1) (sym (div-eq-of-lt (let o : w < 2 ^ i = omega (arith, pow-mono {i = 32} {j = i} h) in o)))
+
+pub high-zero : (n : ℕ) → highBit n 0 ≡ false
+unfolding highBit
+high-zero n = lt-leb (2 ^ n) 0 (pow-pos n)
+
+-- a union has a bit too high exactly where one of its words has
+pub high-or : (n a b : ℕ) → highBit n (bitOr a b) ≡ (highBit n a || highBit n b)
+unfolding highBit
+high-or n a b = go (leb (2 ^ n) a) (leb (2 ^ n) b) refl refl
+  where
+    go : (x y : Bool) → leb (2 ^ n) a ≡ x → leb (2 ^ n) b ≡ y → leb (2 ^ n) (bitOr a b) ≡ (x || y)
+    go true y p q = le-leb (2 ^ n) (bitOr a b) (omega (arith, leb-true (2 ^ n) a p, or-add-and a b, and-le-r a b))
+    go false true p q = le-leb (2 ^ n) (bitOr a b) (omega (arith, leb-true (2 ^ n) b q, or-add-and a b, and-le-l a b))
+    go false false p q = lt-leb (2 ^ n) (bitOr a b) (or-lt n a b (leb-false (2 ^ n) a p) (leb-false (2 ^ n) b q))
+
+-- a word's bit alone
+pub bit-alone : (w i : ℕ) → i < 32 → highBit 0 (bitAnd w (1 * 2 ^ i % 2 ^ 32)) ≡ bit w i
+unfolding highBit
+bit-alone w i h =
+    let power : 1 * 2 ^ i % 2 ^ 32 ≡ 2 ^ (1 + i) - 2 ^ i =
+    shl-exact {a = 1} 1 i 32 (lit< tt) (omega arith) ∙ omega (arith, pow-add 2 1 i) in
+    ap (λ (x : ℕ). leb 1 (bitAnd w x)) power ∙ ap (leb 1) (and-high w 1 i) ∙ go (bit w i) refl
+  where
+    go : (b : Bool) → bit w i ≡ b → leb 1 (digit w i * 2 ^ i) ≡ b
+    go true e = le-leb 1 (digit w i * 2 ^ i) (rw (eqb-true (digit w i) 1 e) (omega (arith, pow-pos i)))
+    go false e =
+        let d : digit w i ≡ 1 → ⊥ = eqb-false (digit w i) 1 e in
+        lt-leb 1 (digit w i * 2 ^ i) (rw (let z : digit w i ≡ 0 = omega (arith, digit-lt w i) in z) (omega arith))
 
 -- the own loss bits of the round whose words begin at a place
 abbrev pub ownHere : List ℕ → ℕ → ℕ → Bool
@@ -70,15 +102,9 @@ module _ (n R : ℕ) (words : List ℕ) where
   unfolding badWords
   words-count h = rw (ne-eqb (length words) (R * (3 + n)) h)
 
-  pub words-high : (i : ℕ) (b : Bool) → i < length words → b ≡ highBit n (getD words i 0) → b ≡ true → true ≡ badWords n R words
+  pub words-tested : (b : Bool) → length words ≡ R * (3 + n) → b ≡ someBelow (λ k. highBit n (getD words k 0)) (length words) → b ≡ badWords n R words
   unfolding badWords
-  words-high i b l e h =
-      or-true (not (eqb (length words) (R * (3 + n)))) (someBelow (λ k. highBit n (getD words k 0)) (length words))
-      (someBelow-by (λ k. highBit n (getD words k 0)) (length words) i l (sym e ∙ h))
-
-  pub words-fine : length words ≡ R * (3 + n) → someBelow (λ k. highBit n (getD words k 0)) (length words) ≡ false → false ≡ badWords n R words
-  unfolding badWords
-  words-fine e h = rw (eq-eqb (length words) (R * (3 + n)) e, h)
+  words-tested b e h = rw (eq-eqb (length words) (R * (3 + n)) e, h)
 
 -- the number of words fits
 pub words-small : (n R : ℕ) → n < 256 → R < 65536 → R * (3 + n) ≤ 16908030
@@ -87,3 +113,33 @@ words-small n R h l = mul-le-mul (let o : R ≤ 65535 = omega arith in o) (let o
 -- before the first element
 pub some-none : (p : ℕ → Bool) → someBelow p 0 ≡ false
 some-none p = none-someBelow p 0 (λ k l. absurd (omega arith))
+
+-- one element more
+pub some-more : (p : ℕ → Bool) (i : ℕ) → (someBelow p i || p i) ≡ someBelow p (i + 1)
+some-more p i = go (someBelow p i) (p i) refl refl
+  where
+    go : (a b : Bool) → someBelow p i ≡ a → p i ≡ b → (a || b) ≡ someBelow p (i + 1)
+    go true b h e =
+        let k = someBelow-at p i h in
+        some-hit p (i + 1) (k .0) (omega (arith, k .1)) (k .2)
+    go false true h e = some-hit p (i + 1) i (omega arith) e
+    go false false h e = sym (none-more p i h e)
+
+-- no element more has p
+some-past : (p : ℕ → Bool) (m n : ℕ) → m ≤ n → ((k : ℕ) → m ≤ k → k < n → p k ≡ false) → someBelow p m ≡ someBelow p n
+some-past p m n l h = go (someBelow p m) refl
+  where
+    past : someBelow p m ≡ false → (k : ℕ) → k < n → Dec (k < m) → p k ≡ false
+    past e k u (yes o) = someBelow-none p m e k o
+    past e k u (no o) = h k (omega arith) u
+
+    go : (b : Bool) → someBelow p m ≡ b → b ≡ someBelow p n
+    go true e =
+        let k = someBelow-at p m e in
+        some-hit p n (k .0) (omega (arith, k .1)) (k .2)
+    go false e = sym (none-someBelow p n (λ k u. past e k u (decLt k m)))
+
+-- the first 32 trucks alone have an own loss bit
+pub own-held : (words : List ℕ) (base n m : ℕ) → ((k : ℕ) → getD words k 0 < 2 ^ 32) → m ≡ min n 32 → someBelow (ownHere words base) m ≡ someBelow (ownHere words base) n
+own-held words base n m fits e =
+    some-past (ownHere words base) m n (omega arith) (λ k l u. sym (bit-none (getD words (base + (3 + k)) 0) k (omega arith) (fits (base + (3 + k)))))

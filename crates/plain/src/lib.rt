@@ -1,10 +1,10 @@
 // Recordings in plain form: a byte for each opening and 3 + n words of 32 bits for each round.
 ghost use mathlib.Core.Path.{_≡_};
-ghost use Prim.Native.Nat.{_+_, _*_, _-_, _<_, _≤_, _^_, _/_, _%_};
+ghost use Prim.Native.Nat.{_+_, _*_, _-_, _<_, _≤_, _^_, _/_, _%_, min};
 ghost use lib.ListN.{length, getD};
 ghost use Rattle.refusals.specs.declared.Outcome.the-variants.{Accepted};
 ghost use Rattle.basics.specs.Bits.{bit};
-ghost use Rattle.basics.specs.Lists.{first, filled};
+ghost use Rattle.basics.specs.Lists.{someBelow, filled};
 ghost use Rattle.recording.specs.Packed.{trucksOf, openingAt, wordAt, bytesFor};
 ghost use Rattle.recording.specs.Checks.{highBit, badOpenings, badWords, ownLoss, roundsCheck, roundCheck, plainCheck};
 ghost use Rattle.plain.specs.Forms.{afterRead, readPlain, afterWrite, writePlain};
@@ -51,45 +51,41 @@ pub fn high_bit(n: u8, w: u32) -> bool
     false
 }
 
-// Refusal 8.
+// Refusal 8: the union of all words has a bit too high exactly where one of them has. A loop with no branch takes eight words at once.
 fn bad_words(n: u8, rounds: u16, words: &[u32]) -> bool
     ensures { λ r. ⌜ r ≡ badWords n rounds (now (words .entry)) ⌝ }
 {
     if words.len() != rounds as usize * (3 + n as usize) {
         return true;
     }
+    let mut all: u32 = 0;
     let mut i = 0;
     while i < words.len() {
-        if high_bit(n, words[i]) {
-            return true;
-        }
+        all = all | words[i];
         i += 1;
     }
-    false
+    high_bit(n, all)
 }
 
-fn bit_of(w: u32, i: usize) -> bool
-    ensures { λ r. ⌜ r ≡ bit w i ⌝ }
+// Whether an own loss bit of the first n trucks is 1 in the round whose words begin at `base`: a union too.
+fn own_any(words: &[u32], base: usize, n: usize) -> bool
+    requires { ⌜ (n ≤ 32) × ((base < 2 ^ 32) × (base + (3 + n) ≤ length (now words))) ⌝ }
+    ensures { λ r. ⌜ r ≡ someBelow (λ i. bit (getD (now (words .entry)) (base + (3 + i)) 0) i) n ⌝ }
 {
-    if i < 32 {
-        return (w >> i) % 2 == 1;
-    }
-    false
-}
-
-// The lowest truck whose own loss bit is 1 in the round whose words begin at `base`, or n where none is.
-fn own_truck(words: &[u32], base: usize, n: usize) -> usize
-    requires { ⌜ (base < 2 ^ 32) × (base + (3 + n) ≤ length (now words)) ⌝ }
-    ensures { λ r. ⌜ r ≡ first (λ i. bit (getD (now (words .entry)) (base + (3 + i)) 0) i) n ⌝ }
-{
+    let mut any: u32 = 0;
     let mut i = 0;
     while i < n {
-        if bit_of(words[base + (3 + i)], i) {
-            return i;
-        }
+        any = any | (words[base + (3 + i)] & (1 << i));
         i += 1;
     }
-    n
+    1 <= any
+}
+
+// How many of m trucks have a bit in a word.
+fn trucks_held(m: usize) -> usize
+    ensures { λ r. ⌜ r ≡ min m 32 ⌝ }
+{
+    if m < 32 { m } else { 32 }
 }
 
 // Refusal 6, of rounds of the right number of words.
@@ -98,11 +94,11 @@ fn own_loss(n: u8, rounds: u16, words: &[u32]) -> bool
     ensures { λ r. ⌜ r ≡ ownLoss (λ w. getD (now (words .entry)) w 0) n rounds ⌝ }
 {
     let m = n as usize;
+    let held = trucks_held(m);
     let mut base = 0;
     let mut r: u16 = 0;
     while r < rounds {
-        let i = own_truck(words, base, m);
-        if i < m {
+        if own_any(words, base, held) {
             return true;
         }
         base = base + (3 + m);

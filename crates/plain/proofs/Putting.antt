@@ -1,19 +1,19 @@
--- Bits put out byte by byte.
+-- Bits put out four bytes at a time.
 use mathlib.Core.Path.{_≡_, refl, ap, ap₂, sym, _∙_}
 use mathlib.Core.List.{List, _++_}
 use Prim.Native.Nat.{ℕ, zero, suc, _+_, _*_, _-_, _/_, _%_, _^_, _≤_, _<_}
-use native.Mathlib.Nat.{add-zero}
+use native.Mathlib.Nat.{add-zero, div-one, mod-lt, mod-eq-of-lt}
 use native.Mathlib.Numerals.{add-one}
 use native.Mathlib.Omega.{arith}
 use lib.Arith.{digits-lt}
 use lib.ListN.{length, drop, set, length-set}
 use lib.Seq.{drop-append-add, drop-drop}
-use lib.Pow.{pow-add, pow-mono, low, shl-exact}
+use lib.Pow.{pow-pos, pow-add, mod-pow-add, mod-mod-pow, field, high, low, shl-shr, shr-shr}
 use Rattle.basics.specs.Lists.{tab, filled}
 use Rattle.basics.proofs.Laws.{length-tab, filled-none, filled-more, length-filled}
 use Rattle.bitreader.proofs.Digits.{numAt-add, numAt-part, numAt-lt}
 use Rattle.recording.specs.Packed.{numAt}
-use Rattle.plain.specs.Steps.{over, byteOf}
+use Rattle.plain.specs.Steps.{over, byteOf, added, Put}
 
 -- ---- the buffer
 module _ (g : ℕ → ℕ) (i : ℕ) where
@@ -30,8 +30,14 @@ module _ (g : ℕ → ℕ) (i : ℕ) where
   unfolding over
   over-step m d l e = ap (λ (x : List ℕ). set x (i + m) (g m)) e ∙ ap (λ (k : ℕ). over g i k d) (sym (add-one m))
 
+  -- bytes that agree
+  pub over-ext : (g′ : ℕ → ℕ) (m : ℕ) (d : List ℕ) → ((j : ℕ) → j < m → g j ≡ g′ j) → over g i m d ≡ over g′ i m d
+  unfolding over
+  over-ext g′ zero d e = refl
+  over-ext g′ (suc m) d e = ap₂ (λ (l : List ℕ) (x : ℕ). set l (i + m) x) (over-ext g′ m d (λ j l. e j (omega arith))) (e m (omega arith))
+
   -- bytes put behind a part that is filled
-  pub over-filled : (G : ℕ → ℕ) (d : List ℕ) (m : ℕ) → i + m ≤ length d → ((j : ℕ) → j < m → g j ≡ G (i + j)) → over g i m (filled G i d) ≡ filled G (i + m) d
+  over-filled : (G : ℕ → ℕ) (d : List ℕ) (m : ℕ) → i + m ≤ length d → ((j : ℕ) → j < m → g j ≡ G (i + j)) → over g i m (filled G i d) ≡ filled G (i + m) d
   unfolding over
   over-filled G d zero h e = ap (λ (k : ℕ). filled G k d) (sym (add-zero i))
   over-filled G d (suc m) h e =
@@ -39,60 +45,96 @@ module _ (g : ℕ → ℕ) (i : ℕ) where
       ∙ filled-more G (i + m) d (g m) (omega arith) (e m (omega arith))
       ∙ ap (λ (k : ℕ). filled G k d) (let o : suc (i + m) ≡ i + suc m = omega arith in o)
 
+-- four stores
+pub over-four : (v at : ℕ) (d : List ℕ) → v < 2 ^ 32
+    → set (set (set (set d at (v / 16777216)) (at + 1) (v / 65536 % 256)) (at + 2) (v / 256 % 256)) (at + 3) (v % 256) ≡ over (byteOf v 32) at 4 d
+unfolding over
+over-four v at d h =
+    let stored : ℕ → ℕ → ℕ → List ℕ = λ i x y. set (set (set (set d i x) (at + 1) (v / 65536 % 256)) (at + 2) (v / 256 % 256)) (at + 3) (y % 256) in
+    ap₂ (λ (i x : ℕ). stored i x v) (sym (add-zero at)) (let o : v / 16777216 ≡ v / 16777216 % 256 = omega arith in o)
+    ∙ ap (λ (y : ℕ). stored (at + 0) (v / 16777216 % 256) y) (sym (div-one v))
+
 -- ---- the numbers
-pub put-below : (acc have v k : ℕ) → acc < 2 ^ have → v < 2 ^ k → acc * 2 ^ k + v < 2 ^ (have + k)
-put-below acc have v k h l = rw (pow-add 2 have k) (digits-lt h l)
+-- a shift loses the highest digits
+shifted : (acc k : ℕ) → k ≤ 64 → acc * 2 ^ k % 2 ^ 64 ≡ acc % 2 ^ (64 - k) * 2 ^ k
+shifted acc k h =
+    ap (λ (j : ℕ). acc * 2 ^ k % 2 ^ j) (let o : 64 ≡ 64 - k + k = omega arith in o)
+    ∙ mod-pow-add (acc * 2 ^ k) (64 - k) k
+    ∙ ap₂ (λ (a b : ℕ). a % 2 ^ (64 - k) * 2 ^ k + b) (shl-shr acc k)
+    (ap (λ (x : ℕ). x % 2 ^ k) (sym (add-zero (acc * 2 ^ k))) ∙ low acc k (pow-pos k))
+    ∙ add-zero (acc % 2 ^ (64 - k) * 2 ^ k)
 
-pub put-fits : (acc have v k : ℕ) → acc < 2 ^ have → v < 2 ^ k → have < 8 → k ≤ 32 → acc * 2 ^ k + v < 2 ^ 40
-put-fits acc have v k h l a b = omega (arith, put-below acc have v k h l, pow-mono {i = have + k} {j = 40} (omega arith))
+pub added-fits : (acc v k : ℕ) → k ≤ 64 → v < 2 ^ k → added acc v k < 2 ^ 64
+added-fits acc v k h l =
+    let e : 2 ^ (64 - k) * 2 ^ k ≡ 2 ^ 64 = sym (pow-add 2 (64 - k) k) ∙ ap (λ (j : ℕ). 2 ^ j) (let o : 64 - k + k ≡ 64 = omega arith in o) in
+    omega (arith, shifted acc k h, digits-lt (mod-lt acc (pow-pos (64 - k))) l, e)
 
--- the shift loses nothing
-pub put-shift : (acc have k : ℕ) → acc < 2 ^ have → have < 8 → k ≤ 32 → acc * 2 ^ k % 2 ^ 64 ≡ acc * 2 ^ k
-put-shift acc have k h a b = shl-exact have k 64 h (omega arith)
+-- the digits that count
+added-low : (acc have v k : ℕ) → have + k ≤ 64 → v < 2 ^ k → added acc v k % 2 ^ (have + k) ≡ acc % 2 ^ have * 2 ^ k + v
+added-low acc have v k h l =
+    let top : ℕ = acc % 2 ^ (64 - k) in
+    ap (λ (x : ℕ). (x + v) % 2 ^ (have + k)) (shifted acc k (omega arith))
+    ∙ mod-pow-add (top * 2 ^ k + v) have k
+    ∙ ap₂ (λ (a b : ℕ). a % 2 ^ have * 2 ^ k + b) (high top k l) (low top k l)
+    ∙ ap (λ (a : ℕ). a * 2 ^ k + v)
+    (ap (λ (j : ℕ). acc % 2 ^ j % 2 ^ have) (let o : 64 - k ≡ 64 - k - have + have = omega arith in o) ∙ mod-mod-pow acc (64 - k - have) have)
 
--- so the step puts out, and keeps, what the power says
-module _ (acc v k h : ℕ) (e : acc * 2 ^ k % 2 ^ 64 ≡ acc * 2 ^ k) where
-  pub unshifted-bytes : (at : ℕ) (d l : List ℕ) → l ≡ over (byteOf (acc * 2 ^ k % 2 ^ 64 + v) h) at (h / 8) d → l ≡ over (byteOf (acc * 2 ^ k + v) h) at (h / 8) d
-  unshifted-bytes at d l p = p ∙ ap (λ (x : ℕ). over (byteOf (x + v) h) at (h / 8) d) e
+-- a byte of the first h digits does not see what stands above
+byte-low : (x h j : ℕ) → j < h / 8 → byteOf (x % 2 ^ h) h j ≡ byteOf x h j
+byte-low x h j l =
+    let past : ℕ = h - 8 * (j + 1) in
+    ap (λ (k : ℕ). x % 2 ^ k / 2 ^ past % 256) (let o : h ≡ 8 * j + 8 + past = omega arith in o)
+    ∙ ap (λ (y : ℕ). y % 256) (field x (8 * j + 8) past)
+    ∙ mod-mod-pow (x / 2 ^ past) (8 * j) 8
 
-  pub unshifted-rest : (r : ℕ) → r ≡ (acc * 2 ^ k % 2 ^ 64 + v) % 2 ^ (h % 8) → r ≡ (acc * 2 ^ k + v) % 2 ^ (h % 8)
-  unshifted-rest r p = p ∙ ap (λ (x : ℕ). (x + v) % 2 ^ (h % 8)) e
+-- the first four bytes, as a number of 32 digits
+pub four-bytes : (x h j : ℕ) → 32 ≤ h → j < 4 → byteOf (x / 2 ^ (h - 32) % 2 ^ 32) 32 j ≡ byteOf x h j
+four-bytes x h j g l =
+    byte-low (x / 2 ^ (h - 32)) 32 j (omega arith)
+    ∙ ap (λ (y : ℕ). y % 256) (shr-shr x (h - 32) (32 - 8 * (j + 1)) ∙ ap (λ (k : ℕ). x / 2 ^ k) (omega arith))
 
-module _ (f : ℕ → ℕ) (bits : (i : ℕ) → f i < 2) (at have k acc v : ℕ) (kept : acc ≡ numAt f (8 * at) have) (added : v ≡ numAt f (8 * at + have) k) where
-  joined : acc * 2 ^ k + v ≡ numAt f (8 * at) (have + k)
-  joined = ap₂ (λ (a b : ℕ). a * 2 ^ k + b) kept added ∙ sym (numAt-add f (8 * at) have k)
-
-  -- each full byte is the packed form's byte
-  pub put-byte : (j : ℕ) → j < (have + k) / 8 → byteOf (acc * 2 ^ k + v) (have + k) j ≡ numAt f (8 * (at + j)) 8
-  put-byte j h =
-      let past : ℕ = have + k - 8 * (j + 1) in
-      ap (λ (x : ℕ). x / 2 ^ past % 256) (joined ∙ ap (numAt f (8 * at)) (let o : have + k ≡ 8 * j + 8 + past = omega arith in o))
+-- ---- digits that are bits of f, from byte `at` on
+module _ (f : ℕ → ℕ) (bits : (i : ℕ) → f i < 2) (at h x : ℕ) (digits : x % 2 ^ h ≡ numAt f (8 * at) h) where
+  byte-bits : (j : ℕ) → j < h / 8 → byteOf x h j ≡ numAt f (8 * (at + j)) 8
+  byte-bits j l =
+      let past : ℕ = h - 8 * (j + 1) in
+      sym (byte-low x h j l)
+      ∙ ap (λ (y : ℕ). y / 2 ^ past % 256) (digits ∙ ap (numAt f (8 * at)) (let o : h ≡ 8 * j + 8 + past = omega arith in o))
       ∙ numAt-part f bits (8 * at) (8 * j) 8 past
       ∙ ap (λ (p : ℕ). numAt f p 8) (omega arith)
 
-  -- and what is left are the bits behind them
-  pub put-rest : (acc * 2 ^ k + v) % 2 ^ ((have + k) % 8) ≡ numAt f (8 * (at + (have + k) / 8)) ((have + k) % 8)
-  put-rest =
-      let full : ℕ = 8 * ((have + k) / 8) in
-      let over′ : ℕ = (have + k) % 8 in
-      ap (λ (x : ℕ). x % 2 ^ over′)
-      (joined ∙ ap (numAt f (8 * at)) (let o : have + k ≡ full + over′ = omega arith in o) ∙ numAt-add f (8 * at) full over′)
-      ∙ low (numAt f (8 * at) full) over′ (numAt-lt f bits (8 * at + full) over′)
-      ∙ ap (λ (p : ℕ). numAt f p over′) (omega arith)
+  -- the bytes that are put out
+  bytes-bits : (m : ℕ) (d buf buf′ : List ℕ) → m ≤ h / 8 → at + m ≤ length d → buf ≡ filled (λ q. numAt f (8 * q) 8) at d → buf′ ≡ over (byteOf x h) at m buf
+      → buf′ ≡ filled (λ q. numAt f (8 * q) 8) (at + m) d
+  bytes-bits m d buf buf′ l room b e =
+      e
+      ∙ ap (over (byteOf x h) at m) b
+      ∙ over-filled (byteOf x h) at (λ q. numAt f (8 * q) 8) d m room (λ j o. byte-bits j (omega arith))
 
--- ---- the bits put out so far, up to a place: whole bytes in the buffer, and the rest as a number
-pub record Put (f : ℕ → ℕ) (place at have acc : ℕ) (d buf : List ℕ) : Type 0 where
-  pub small : have < 8
-  pub there : 8 * at + have ≡ place
-  pub number : acc ≡ numAt f (8 * at) have
-  pub buffer : buf ≡ filled (λ q. numAt f (8 * q) 8) at d
+  -- and what is left
+  rest-bits : x % 2 ^ (h % 32) ≡ numAt f (8 * (at + 4 * (h / 32))) (h % 32)
+  rest-bits =
+      let full : ℕ = 32 * (h / 32) in
+      let rest : ℕ = h % 32 in
+      let o : h ≡ full + rest = omega arith in
+      sym (mod-mod-pow x full rest)
+      ∙ ap (λ (k : ℕ). x % 2 ^ k % 2 ^ rest) (sym o)
+      ∙ ap (λ (y : ℕ). y % 2 ^ rest) (digits ∙ ap (numAt f (8 * at)) o ∙ numAt-add f (8 * at) full rest)
+      ∙ low (numAt f (8 * at) full) rest (numAt-lt f bits (8 * at + full) rest)
+      ∙ ap (λ (p : ℕ). numAt f p rest) (omega arith)
 
-pub put-none : (f : ℕ → ℕ) (d : List ℕ) → Put f 0 0 0 0 d d
-unfolding numAt
-put-none f d = record { small = omega arith; there = omega arith; number = refl; buffer = sym (filled-none (λ q. numAt f (8 * q) 8) d) }
+-- ---- the bits put out so far
+pub put-first : (f : ℕ → ℕ) → ((i : ℕ) → f i < 2) → (k v : ℕ) (d : List ℕ) → k < 32 → v ≡ numAt f 0 k → Put f k 0 k v d d
+put-first f bits k v d h e =
+    record {
+      bytes = omega arith;
+      left = omega arith;
+      number = mod-eq-of-lt (let o : v < 2 ^ k = omega (arith, numAt-lt f bits 0 k) in o) ∙ e;
+      buffer = sym (filled-none (λ q. numAt f (8 * q) 8) d);
+    }
 
 -- filling from the front once more
-pub filled-again : (g : ℕ → ℕ) (a b : ℕ) (d : List ℕ) → b ≤ a → filled g a (filled g b d) ≡ filled g a d
+filled-again : (g : ℕ → ℕ) (a b : ℕ) (d : List ℕ) → b ≤ a → filled g a (filled g b d) ≡ filled g a d
 unfolding filled
 filled-again g a b d h =
     ap (λ (l : List ℕ). tab g a ++ l)
@@ -103,41 +145,63 @@ filled-again g a b d h =
 
 -- the place under another name
 pub put-at : (f : ℕ → ℕ) (a b at have acc : ℕ) (d buf : List ℕ) → a ≡ b → Put f a at have acc d buf → Put f b at have acc d buf
-put-at f a b at have acc d buf e p = record { small = p .small; there = p .there ∙ e; number = p .number; buffer = p .buffer }
+put-at f a b at have acc d buf e p = rw e at p
 
--- seen from the buffer as it is
-pub put-anew : (f : ℕ → ℕ) (place at have acc : ℕ) (d buf : List ℕ) → Put f place at have acc d buf → Put f place at have acc buf buf
-put-anew f place at have acc d buf p =
-    let g : ℕ → ℕ = λ q. numAt f (8 * q) 8 in
-    record {
-      small = p .small;
-      there = p .there;
-      number = p .number;
-      buffer = p .buffer ∙ sym (ap (filled g at) (p .buffer) ∙ filled-again g at at d (omega arith));
-    }
+module _ (f : ℕ → ℕ) (place at have acc : ℕ) (d buf : List ℕ) (sofar : Put f place at have acc d buf) where
+  -- seen from the buffer as it is
+  pub put-anew : Put f place at have acc buf buf
+  put-anew =
+      let g : ℕ → ℕ = λ q. numAt f (8 * q) 8 in
+      record {
+        bytes = sofar .bytes;
+        left = sofar .left;
+        number = sofar .number;
+        buffer = sofar .buffer ∙ sym (ap (filled g at) (sofar .buffer) ∙ filled-again g at at d (omega arith));
+      }
 
-module _ (f : ℕ → ℕ) (bits : (i : ℕ) → f i < 2) (place at have acc : ℕ) (d buf : List ℕ) (sofar : Put f place at have acc d buf) where
+  -- and back
+  pub put-since : (place′ at′ have′ acc′ : ℕ) (buf′ : List ℕ) → place ≤ place′ → Put f place′ at′ have′ acc′ buf buf′ → Put f place′ at′ have′ acc′ d buf′
+  put-since place′ at′ have′ acc′ buf′ h p =
+      let g : ℕ → ℕ = λ q. numAt f (8 * q) 8 in
+      record {
+        bytes = p .bytes;
+        left = p .left;
+        number = p .number;
+        buffer = p .buffer ∙ ap (filled g at′) (sofar .buffer) ∙ filled-again g at′ at d (omega (arith, sofar .bytes, p .bytes));
+      }
+
   pub put-length : place ≤ 8 * length d → length buf ≡ length d
-  put-length h = ap length (sofar .buffer) ∙ length-filled (λ q. numAt f (8 * q) 8) at d (omega (arith, sofar .there))
+  put-length h = ap length (sofar .buffer) ∙ length-filled (λ q. numAt f (8 * q) 8) at d (omega (arith, sofar .bytes))
 
-  module _ (v k : ℕ) (added : v ≡ numAt f place k) (room : place + k ≤ 8 * length d) where
-    -- what the next step asks
-    pub put-asks : k ≤ 32 → (have < 8) × ((k ≤ 32) × ((acc < 2 ^ have) × ((v < 2 ^ k) × (at + (have + k) / 8 ≤ length buf))))
-    put-asks h =
-        (sofar .small, (h, (omega (arith, sofar .number, numAt-lt f bits (8 * at) have), (omega (arith, numAt-lt f bits place k), omega (arith, sofar .there, sofar .small, put-length (omega arith))))))
+  module _ (bits : (i : ℕ) → f i < 2) (v k : ℕ) (next : v ≡ numAt f place k) where
+    joined : k ≤ 32 → added acc v k % 2 ^ (have + k) ≡ numAt f (8 * at) (have + k)
+    joined h =
+        let e : place ≡ 8 * at + have = omega (arith, sofar .bytes, sofar .left) in
+        added-low acc have v k (omega (arith, sofar .left)) (omega (arith, numAt-lt f bits place k))
+        ∙ ap₂ (λ (a b : ℕ). a * 2 ^ k + b) (sofar .number) (next ∙ ap (λ (p : ℕ). numAt f p k) e)
+        ∙ sym (numAt-add f (8 * at) have k)
 
-    -- and what it makes
-    pub put-more : (at′ have′ acc′ : ℕ) (buf′ : List ℕ) → buf′ ≡ over (byteOf (acc * 2 ^ k + v) (have + k)) at ((have + k) / 8) buf
-        → acc′ ≡ (acc * 2 ^ k + v) % 2 ^ ((have + k) % 8) → have′ ≡ (have + k) % 8 → at′ ≡ at + (have + k) / 8 → Put f (place + k) at′ have′ acc′ d buf′
-    put-more at′ have′ acc′ buf′ b a h t =
-        let e : v ≡ numAt f (8 * at + have) k = added ∙ ap (λ (p : ℕ). numAt f p k) (sym (sofar .there)) in
-        let m : ℕ = (have + k) / 8 in
-        record {
-          small = omega arith;
-          there = omega (arith, sofar .there);
-          number = a ∙ put-rest f bits at have k acc v (sofar .number) e ∙ ap₂ (λ (p q : ℕ). numAt f (8 * p) q) (sym t) (sym h);
-          buffer = b
-              ∙ ap (over (byteOf (acc * 2 ^ k + v) (have + k)) at m) (sofar .buffer)
-              ∙ over-filled (byteOf (acc * 2 ^ k + v) (have + k)) at (λ q. numAt f (8 * q) 8) d m (omega (arith, sofar .there)) (put-byte f bits at have k acc v (sofar .number) e)
-              ∙ ap (λ (p : ℕ). filled (λ q. numAt f (8 * q) 8) p d) (sym t);
-        }
+    -- the rest, up to the end of its last byte
+    pub put-end : k ≤ 32 → at + (have + k) / 8 ≤ length d → (buf′ : List ℕ) → buf′ ≡ over (byteOf (added acc v k) (have + k)) at ((have + k) / 8) buf
+        → buf′ ≡ filled (λ q. numAt f (8 * q) 8) (at + (have + k) / 8) d
+    put-end h room buf′ e = bytes-bits f bits at (have + k) (added acc v k) (joined h) ((have + k) / 8) d buf buf′ (omega arith) room (sofar .buffer) e
+
+    module _ (room : place + k ≤ 8 * length d) (few : k ≤ 32) where
+      -- what the next step asks
+      pub put-asks : (have < 32) × ((k ≤ 32) × ((v < 2 ^ k) × (at + 4 * ((have + k) / 32) ≤ length buf)))
+      put-asks =
+          (omega (arith, sofar .left), (few, (omega (arith, numAt-lt f bits place k), omega (arith, sofar .bytes, sofar .left, put-length (omega arith)))))
+
+      -- and what it makes
+      pub put-more : (at′ have′ acc′ : ℕ) (buf′ : List ℕ) → buf′ ≡ over (byteOf (added acc v k) (have + k)) at (4 * ((have + k) / 32)) buf
+          → acc′ ≡ added acc v k → have′ ≡ (have + k) % 32 → at′ ≡ at + 4 * ((have + k) / 32) → Put f (place + k) at′ have′ acc′ d buf′
+      put-more at′ have′ acc′ buf′ b a h t =
+          let x : ℕ = added acc v k in
+          let m : ℕ = 4 * ((have + k) / 32) in
+          record {
+            bytes = omega (arith, sofar .bytes, sofar .left);
+            left = omega (arith, sofar .bytes, sofar .left);
+            number = ap₂ (λ (y q : ℕ). y % 2 ^ q) a h ∙ rest-bits f bits at (have + k) x (joined few) ∙ ap₂ (λ (p q : ℕ). numAt f (8 * p) q) (sym t) (sym h);
+            buffer = bytes-bits f bits at (have + k) x (joined few) m d buf buf′ (omega arith) (omega (arith, sofar .bytes, sofar .left)) (sofar .buffer) b
+                ∙ ap (λ (p : ℕ). filled (λ q. numAt f (8 * q) 8) p d) (sym t);
+          }

@@ -37,7 +37,7 @@ pub high-none : (n w : ℕ) → 32 ≤ n → w < 2 ^ 32 → false ≡ highBit n 
 unfolding highBit
 high-none n w h l = sym (lt-leb (2 ^ n) w (omega (arith, pow-mono {i = 32} {j = n} h)))
 
-pub bit-none : (w i : ℕ) → 32 ≤ i → w < 2 ^ 32 → false ≡ bit w i
+bit-none : (w i : ℕ) → 32 ≤ i → w < 2 ^ 32 → false ≡ bit w i
 bit-none w i h l =
     ap (λ (x : ℕ). eqb (x % 2) 1) (sym (div-eq-of-lt (let o : w < 2 ^ i = omega (arith, pow-mono {i = 32} {j = i} h) in o)))
 

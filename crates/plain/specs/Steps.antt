@@ -1,9 +1,9 @@
 -- What the steps of reading and of writing do to their buffer. Only private functions cite these.
 use Prim.Native.Nat.{ℕ, zero, suc, _+_, _*_, _-_, _/_, _%_, _^_}
-use mathlib.Core.Bool.{cond}
+use mathlib.Core.Path.{_≡_}
 use mathlib.Core.List.{List}
-use lib.Dec.{ltb}
-use lib.ListN.{getD, set}
+use lib.ListN.{set}
+use Rattle.basics.specs.Lists.{filled}
 use Rattle.recording.specs.Packed.{bitAt, numAt, packBit}
 use Rattle.bitreader.specs.Bits.{mirrored}
 
@@ -32,9 +32,13 @@ byteOf v h j = v / 2 ^ (h - 8 * (j + 1)) % 256
 abbrev pub packedByte : ℕ → ℕ → List ℕ → List ℕ → ℕ → ℕ
 packedByte n R openings words q = numAt (packBit n R openings words) (8 * q) 8
 
--- the fields after the header, openings first, as numbers and by their width
-abbrev pub fieldWidth : ℕ → ℕ → ℕ
-fieldWidth n j = cond (ltb j n) 4 n
+-- k digits of v behind those of a word of 64 bits, whose highest are lost
+abbrev pub added : ℕ → ℕ → ℕ → ℕ
+added acc v k = acc * 2 ^ k % 2 ^ 64 + v
 
-abbrev pub fieldValue : ℕ → List ℕ → List ℕ → ℕ → ℕ
-fieldValue n openings words j = cond (ltb j n) (getD openings j 0) (mirrored n (getD words (j - n) 0))
+-- the bits of f are put out up to a place, four bytes at a time: `at` bytes into a buffer that was d, and what is left is the lowest `have` digits of acc
+pub record Put (f : ℕ → ℕ) (place at have acc : ℕ) (d buf : List ℕ) : Type 0 where
+  pub bytes : at ≡ 4 * (place / 32)
+  pub left : have ≡ place % 32
+  pub number : acc % 2 ^ have ≡ numAt f (8 * at) have
+  pub buffer : buf ≡ filled (λ q. numAt f (8 * q) 8) at d

@@ -1,14 +1,16 @@
 // Recordings in plain form: a byte for each opening and 3 + n words of 32 bits for each round.
 ghost use mathlib.Core.Path.{_≡_};
-ghost use Prim.Native.Nat.{_+_, _*_, _-_, _<_, _≤_, _^_, _/_, _%_, min};
+ghost use mathlib.Core.Bool.{false};
+ghost use mathlib.Core.List.{List};
+ghost use Prim.Native.Nat.{_+_, _*_, _-_, _<_, _≤_, _^_, _/_, _%_, min, ℕ};
 ghost use lib.ListN.{length, getD};
 ghost use Rattle.refusals.specs.declared.Outcome.the-variants.{Accepted};
 ghost use Rattle.basics.specs.Bits.{bit};
 ghost use Rattle.basics.specs.Lists.{someBelow, filled};
-ghost use Rattle.recording.specs.Packed.{trucksOf, openingAt, wordAt, bytesFor};
+ghost use Rattle.recording.specs.Packed.{trucksOf, openingAt, wordAt, bytesFor, packBit};
 ghost use Rattle.recording.specs.Checks.{highBit, badOpenings, badWords, ownLoss, roundsCheck, roundCheck, plainCheck};
 ghost use Rattle.plain.specs.Forms.{afterRead, readPlain, afterWrite, writePlain};
-ghost use Rattle.plain.specs.Steps.{swapped, gatheredWord, turnedWord, over, byteOf, packedByte, fieldWidth, fieldValue};
+ghost use Rattle.plain.specs.Steps.{swapped, gatheredWord, turnedWord, over, byteOf, packedByte, added, Put};
 use refusals::Outcome;
 use refusals::Refusal;
 
@@ -226,7 +228,8 @@ pub fn read(s: &[u8], openings: &mut [u8], words: &mut [u32]) -> ReadOutcome
     }
 }
 
-// The bits that do not fill a byte yet, as a number of `have` digits, and the place of the byte that they begin.
+// The digits that are not put out yet, the lowest `have` of `acc`, and the place of the byte that they begin. What was put out stays in `acc` above them:
+// to cut it off takes time.
 struct Pending {
     acc: u64,
     have: usize,
@@ -246,71 +249,70 @@ fn put_bytes(buf: &mut [u8], at: usize, acc: u64, have: usize)
     }
 }
 
-// Adds the k digits of v, puts out the bytes that are full, and keeps the rest.
+// Puts out four bytes: four stores in a row become one.
+fn put_four(buf: &mut [u8], at: usize, v: u32)
+    requires { ⌜ at + 4 ≤ length (now buf) ⌝ }
+    ensures { λ r. ⌜ now (buf .exit) ≡ over (byteOf v 32) at 4 (now (buf .entry)) ⌝ }
+{
+    buf[at] = (v / 16777216) as u8;
+    buf[at + 1] = (v / 65536 % 256) as u8;
+    buf[at + 2] = (v / 256 % 256) as u8;
+    buf[at + 3] = (v % 256) as u8;
+}
+
+// Adds the k digits of v, and puts out four bytes where they are full.
 fn put(buf: &mut [u8], p: Pending, v: u32, k: usize) -> Pending
-    requires { ⌜ (p .have < 8) × ((k ≤ 32) × ((p .acc < 2 ^ p .have) × ((v < 2 ^ k) × (p .at + (p .have + k) / 8 ≤ length (now buf))))) ⌝ }
-    ensures { λ r. ⌜ (now (buf .exit) ≡ over (byteOf (p .acc * 2 ^ k + v) (p .have + k)) (p .at) ((p .have + k) / 8) (now (buf .entry)))
-        × ((r .acc ≡ (p .acc * 2 ^ k + v) % 2 ^ ((p .have + k) % 8)) × ((r .have ≡ (p .have + k) % 8) × (r .at ≡ p .at + (p .have + k) / 8))) ⌝ }
+    requires { ⌜ (p .have < 32) × ((k ≤ 32) × ((v < 2 ^ k) × (p .at + 4 * ((p .have + k) / 32) ≤ length (now buf)))) ⌝ }
+    ensures { λ r. ⌜ (now (buf .exit) ≡ over (byteOf (added (p .acc) v k) (p .have + k)) (p .at) (4 * ((p .have + k) / 32)) (now (buf .entry)))
+        × ((r .acc ≡ added (p .acc) v k) × ((r .have ≡ (p .have + k) % 32) × (r .at ≡ p .at + 4 * ((p .have + k) / 32)))) ⌝ }
 {
     let at = p.at;
     let have = p.have + k;
     let acc = (p.acc << k) + (v as u64);
-    put_bytes(buf, at, acc, have);
+    if have < 32 {
+        return Pending { acc, have, at };
+    }
+    put_four(buf, at, ((acc >> (have - 32)) % 4294967296) as u32);
     Pending {
-        acc: bitreader::low_bits(acc, have % 8),
-        have: have % 8,
-        at: at + have / 8,
+        acc,
+        have: have - 32,
+        at: at + 4,
     }
 }
 
-struct Field {
-    value: u32,
-    width: usize,
-}
-
-// Field j after the header: the openings, and then the words, whose first bit is worth most here.
-fn field_at(n: usize, openings: &[u8], words: &[u32], j: usize) -> Field
-    requires { ⌜ (n ≤ 32) × ((length (now openings) ≡ n) × (j < n + length (now words))) ⌝ }
-    ensures { λ r. ⌜ (r .value ≡ fieldValue n (now (openings .entry)) (now (words .entry)) j) × (r .width ≡ fieldWidth n j) ⌝ }
+// Puts out the header and the openings: the bits of the packed form before the words, whatever these are.
+fn put_front(buf: &mut [u8], trucks: u8, rounds: u16, openings: &[u8]) -> Pending
+    requires { ⌜ (trucks ≤ 32) × ((rounds ≤ 400) × ((badOpenings trucks (now openings) ≡ false) × (16 + 4 * trucks ≤ 8 * length (now buf)))) ⌝ }
+    ensures { λ r. ⌜ ((words : List ℕ) → Put (packBit trucks rounds (now (openings .entry)) words) (16 + 4 * trucks)
+        (r .at) (r .have) (r .acc) (now (buf .entry)) (now (buf .exit))) ⌝ }
 {
-    if j < n {
-        return Field {
-            value: openings[j] as u32,
-            width: 4,
-        };
-    }
-    Field {
-        value: bitreader::mirror(words[j - n], n),
-        width: n,
-    }
-}
-
-// Puts out all fields, and zeros up to the end of the last byte.
-fn put_all(buf: &mut [u8], trucks: u8, rounds: u16, openings: &[u8], words: &[u32])
-    requires { ⌜ (plainCheck trucks rounds (now openings) (now words) ≡ Accepted) × (bytesFor trucks rounds ≤ length (now buf)) ⌝ }
-    ensures { λ r. ⌜ now (buf .exit) ≡ filled (packedByte trucks rounds (now (openings .entry)) (now (words .entry))) (bytesFor trucks rounds) (now (buf .entry)) ⌝ }
-{
-    let n = trucks as usize;
-    let fields = n + words.len();
-    let header = trucks as u32 * 1024 + rounds as u32;
-    let mut p = put(
-        buf,
-        Pending {
-            acc: 0,
-            have: 0,
-            at: 0,
-        },
-        header,
-        16,
-    );
+    let mut p = Pending {
+        acc: trucks as u64 * 1024 + rounds as u64,
+        have: 16,
+        at: 0,
+    };
     let mut j = 0;
-    while j < fields {
-        let f = field_at(n, openings, words, j);
-        p = put(buf, p, f.value, f.width);
+    while j < openings.len() {
+        p = put(buf, p, openings[j] as u32, 4);
         j += 1;
     }
-    let left = (8 - p.have) % 8;
-    put(buf, p, 0, left);
+    p
+}
+
+// Puts out all fields; the first bit of a word is worth most here. Seven zeros behind the last word complete its last byte, and what they begin is not put out.
+fn put_all(buf: &mut [u8], trucks: u8, rounds: u16, openings: &[u8], words: &[u32])
+    requires { ⌜ (plainCheck trucks rounds (now openings) (now words) ≡ Accepted) × (bytesFor trucks rounds ≤ length (now buf)) ⌝ }
+    ensures { λ r. ⌜ now (buf .exit)
+        ≡ filled (packedByte trucks rounds (now (openings .entry)) (now (words .entry))) (bytesFor trucks rounds) (now (buf .entry)) ⌝ }
+{
+    let n = trucks as usize;
+    let mut p = put_front(buf, trucks, rounds, openings);
+    let mut w = 0;
+    while w < words.len() {
+        p = put(buf, p, bitreader::mirror(words[w], n), n);
+        w += 1;
+    }
+    put_bytes(buf, p.at, p.acc << 7, p.have + 7);
 }
 
 // Writing: refusals 2, 3, 7, 8, 6, then 9.

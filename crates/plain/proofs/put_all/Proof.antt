@@ -1,26 +1,28 @@
--- `put_all` meets its contract: the bits put out so far are those of the packed form up to the place of the next field.
+-- `put_all` meets its contract: the bits put out so far are those of the packed form up to the place of the next word.
 use mathlib.Core.Path.{_≡_, ap, sym, _∙_}
-use mathlib.Core.List.{List}
-use Prim.Native.Nat.{ℕ, _≤_, _<_, _+_, _*_, _-_, _%_}
+use Prim.Native.Nat.{ℕ, _≤_, _<_, _+_, _*_, _-_, _/_, _%_, _^_}
+use native.Mathlib.Nat.{add-zero, min-eq-left}
 use native.Mathlib.Omega.{arith}
 use borrow.Author.Needs.{needs}
-use lib.ListN.{length}
+use lib.ListN.{length, getD}
 use Rattle.basics.specs.Lists.{filled}
+use Rattle.basics.proofs.Laws.{length-filled}
+use Rattle.bitreader.specs.Bits.{mirrored}
 use Rattle.recording.specs.Packed.{numAt, packBit, bitsFor, bytesFor}
-use Rattle.recording.proofs.Accepted.{GoodPlain, plain-good}
+use Rattle.recording.proofs.Accepted.{GoodPlain, plain-good, in-openings}
 use Rattle.recording.proofs.Packing.{packBit-lt, bits-flat, bytes-hold}
-use Rattle.plain.specs.Steps.{packedByte}
-use Rattle.plain.proofs.Fields.{fieldPlace, first-place, next-place, header-number, field-number, last-place, field-room, end-number, width-most, last-byte, last-room}
-use Rattle.plain.proofs.Putting.{Put, put-none, put-at, put-anew, put-length, put-asks, put-more, filled-again}
+use Rattle.plain.specs.Steps.{over, byteOf, packedByte, Put}
+use Rattle.plain.proofs.Fields.{word-number, word-room, end-number, last-byte}
+use Rattle.plain.proofs.Putting.{put-at, put-anew, put-since, put-length, put-asks, put-more, put-end}
 use Rattle.plain.proofs.put_all.Statement.{statement}
 use Rattle.plain.proofs.put_all.Tie as tie
 
 abbrev Inv-loop : tie.InvT-loop
-Inv-loop buf₀ trucks rounds openings words n fields header p₀ j₀ buf p j =
-    (j ≤ trucks + length words) × Put (packBit trucks rounds openings words) (fieldPlace trucks j) (p .at) (p .have) (p .acc) buf₀ buf
+Inv-loop buf₀ trucks rounds openings words n p₀ w₀ buf p w =
+    (w ≤ length words) × Put (packBit trucks rounds openings words) (16 + 4 * trucks + w * trucks) (p .at) (p .have) (p .acc) buf₀ buf
 
 abbrev μ-loop : tie.MeasureT-loop
-μ-loop buf₀ trucks rounds openings words n fields header p₀ j₀ buf p j = trucks + length words - j
+μ-loop buf₀ trucks rounds openings words n p₀ w₀ buf p w = length words - w
 
 -- the packed form's bits, and what was checked of openings and words
 abbrev F : tie.Start Inv-loop μ-loop → ℕ → ℕ
@@ -32,157 +34,134 @@ bits s = packBit-lt (s .args .trucks) (s .args .rounds) (s .args .openings .now)
 good : (s : tie.Start Inv-loop μ-loop) → GoodPlain (s .args .trucks) (s .args .rounds) (s .args .openings .now) (s .args .words .now)
 good s = plain-good (s .args .trucks) (s .args .rounds) (s .args .openings .now) (s .args .words .now) (s .pre .0)
 
-header : (s : tie.Start Inv-loop μ-loop) → s .args .trucks * 1024 + s .args .rounds ≡ numAt (F s) 0 16
-header s = header-number (s .args .trucks) (s .args .rounds) (s .args .openings .now) (s .args .words .now) (good s)
-
 enough : (s : tie.Start Inv-loop μ-loop) → bitsFor (s .args .trucks) (s .args .rounds) ≤ 8 * length (s .args .buf .now)
 enough s = omega (arith, s .pre .1, bytes-hold (s .args .trucks) (s .args .rounds) .0)
 
-sixteen : (s : tie.Start Inv-loop μ-loop) → 0 + 16 ≤ 8 * length (s .args .buf .now)
-sixteen s = omega (arith, enough s, bits-flat (s .args .trucks) (s .args .rounds))
+front-room : (s : tie.Start Inv-loop μ-loop) → 16 + 4 * s .args .trucks ≤ 8 * length (s .args .buf .now)
+front-room s = omega (arith, enough s, bits-flat (s .args .trucks) (s .args .rounds))
 
-put-requires : tie.Need-put-requires Inv-loop μ-loop
-put-requires c κs =
+put-front-requires : tie.Need-put-front-requires Inv-loop μ-loop
+put-front-requires c κs =
     let s = c .before .before .before .before in
-    let d = s .args .buf .now in
-    put-asks (F s) (bits s) 0 0 0 0 d d (put-none (F s) d) (s .args .trucks * 1024 + s .args .rounds) 16 (header s) (sixteen s) (omega arith)
+    (good s .most, (good s .rounds, (in-openings (s .args .trucks) (s .args .openings .now) (good s .openings-good), front-room s)))
 
--- after the header
-headed : (c : tie.After-put Inv-loop μ-loop)
-    → Put (F (c .before .before .before .before .before)) 16 (c .put .result .at) (c .put .result .have) (c .put .result .acc) (c .before .before .before .before .before .args .buf .now) (c .put .last .0)
-headed c =
-    let s = c .before .before .before .before .before in
-    let d = s .args .buf .now in
-    let e = c .put .ensures in
-    put-more (F s) (bits s) 0 0 0 0 d d (put-none (F s) d) (s .args .trucks * 1024 + s .args .rounds) 16 (header s) (sixteen s) (c .put .result .at) (c .put .result .have) (c .put .result .acc)
-    (c .put .last .0) (e .0) (e .1 .0) (e .1 .1 .0) (e .1 .1 .1)
+-- the entry, and the place of a word, as seen from later
+abbrev S-front : tie.After-put-front Inv-loop μ-loop → tie.Start Inv-loop μ-loop
+S-front c = c .before .before .before .before .before
 
-kept : (c : tie.After-put Inv-loop μ-loop) → length (c .put .last .0) ≡ length (c .before .before .before .before .before .args .buf .now)
+abbrev S-word : tie.After-mirror Inv-loop μ-loop → tie.Start Inv-loop μ-loop
+S-word c = S-front (c .before .before .before .before .before .before .before)
+
+abbrev S-loop : tie.After-loop Inv-loop μ-loop → tie.Start Inv-loop μ-loop
+S-loop c = S-front (c .before .before .before .before)
+
+abbrev S-end : tie.After-put-bytes Inv-loop μ-loop → tie.Start Inv-loop μ-loop
+S-end c = S-loop (c .before .before .before .before)
+
+abbrev place : tie.Start Inv-loop μ-loop → ℕ → ℕ
+place s w = 16 + 4 * s .args .trucks + w * s .args .trucks
+
+-- after header and openings
+front : (c : tie.After-put-front Inv-loop μ-loop)
+    → Put (F (S-front c)) (16 + 4 * S-front c .args .trucks) (c .put-front .result .at) (c .put-front .result .have) (c .put-front .result .acc) (S-front c .args .buf .now) (c .put-front .last .0)
+front c = c .put-front .ensures (S-front c .args .words .now)
+
+kept : (c : tie.After-put-front Inv-loop μ-loop) → length (c .put-front .last .0) ≡ length (S-front c .args .buf .now)
 kept c =
-    let s = c .before .before .before .before .before in
-    put-length (F s) (bits s) 16 (c .put .result .at) (c .put .result .have) (c .put .result .acc) (s .args .buf .now) (c .put .last .0) (headed c) (sixteen s)
+    let s = S-front c in
+    let r = c .put-front in
+    put-length (F s) (16 + 4 * s .args .trucks) (r .result .at) (r .result .have) (r .result .acc) (s .args .buf .now) (r .last .0) (front c) (front-room s)
 
 loop-holds : tie.Need-loop-holds Inv-loop μ-loop
 loop-holds c =
     let h = c .before .before in
-    let s = h .before .before .before .before .before in
-    (omega arith, rw (← first-place (s .args .trucks)) (put-anew (F s) 16 (h .put .result .at) (h .put .result .have) (h .put .result .acc) (s .args .buf .now) (h .put .last .0) (headed h)))
+    let s = S-front h in
+    let first = 16 + 4 * s .args .trucks in
+    let r = h .put-front in
+    (omega arith, put-at (F s) first (place s 0) (r .result .at) (r .result .have) (r .result .acc) (r .last .0) (r .last .0) (omega arith) (put-anew (F s) first (r .result .at) (r .result .have) (r .result .acc) (s .args .buf .now) (r .last .0) (front h)))
 
-field-at-requires : tie.Need-field-at-requires Inv-loop μ-loop
-field-at-requires c κs =
-    let s = c .before .before .before .before .before .before .before .before .before in
-    (good s .most, (good s .openings-good .count, c .loop-test .taken))
-
--- the field, as bits of the packed form
-value : (c : tie.After-field-at Inv-loop μ-loop)
-    → c .field-at .result .value ≡ numAt (F (c .before .before .before .before .before .before .before .before .before .before)) (fieldPlace (c .before .before .before .before .before .before .before .before .before .before .args .trucks) (c .before .before .loop .j)) (c .field-at .result .width)
+-- the word, as bits of the packed form
+value : (c : tie.After-mirror Inv-loop μ-loop) → c .mirror .result ≡ numAt (F (S-word c)) (place (S-word c) (c .before .before .before .before .loop .w)) (S-word c .args .trucks)
 value c =
-    let s = c .before .before .before .before .before .before .before .before .before .before in
+    let s = S-word c in
     let a = s .args in
-    let j = c .before .before .loop .j in
-    c .field-at .ensures .0
-    ∙ field-number (a .trucks) (a .rounds) (a .openings .now) (a .words .now) (good s) j (c .before .loop-test .taken)
-    ∙ ap (numAt (F s) (fieldPlace (a .trucks) j)) (sym (c .field-at .ensures .1))
+    let w = c .before .before .before .before .loop .w in
+    c .mirror .ensures
+    ∙ ap (λ (k : ℕ). mirrored k (getD (a .words .now) w 0)) (min-eq-left (good s .most))
+    ∙ word-number (a .trucks) (a .rounds) (a .openings .now) (a .words .now) w (omega (arith, good s .rounds-good .count))
 
-room : (c : tie.After-field-at Inv-loop μ-loop)
-    → fieldPlace (c .before .before .before .before .before .before .before .before .before .before .args .trucks) (c .before .before .loop .j) + c .field-at .result .width ≤ 8 * length (c .before .before .before .before .before .put .last .0)
+room : (c : tie.After-mirror Inv-loop μ-loop)
+    → place (S-word c) (c .before .before .before .before .loop .w) + S-word c .args .trucks ≤ 8 * length (c .before .before .before .before .before .before .before .put-front .last .0)
 room c =
-    let h = c .before .before .before .before .before in
-    let s = h .before .before .before .before .before in
-    let a = s .args in
-    let j = c .before .before .loop .j in
-    omega (arith, field-room (a .trucks) (a .rounds) (a .openings .now) (a .words .now) (good s) j (c .before .loop-test .taken), enough s, kept h, c .field-at .ensures .1)
+    let s = S-word c in
+    omega (arith, word-room (s .args .trucks) (s .args .rounds) (c .before .before .before .before .loop .w) (omega (arith, good s .rounds-good .count)), enough s, kept (c .before .before .before .before .before .before .before))
 
-put-requires-2 : tie.Need-put-requires-2 Inv-loop μ-loop
-put-requires-2 c κs =
-    let v = c .before in
-    let l = v .before .before .loop in
-    let h = v .before .before .before .before .before in
-    let s = h .before .before .before .before .before in
-    put-asks (F s) (bits s) (fieldPlace (s .args .trucks) (l .j)) (l .p .at) (l .p .have) (l .p .acc) (h .put .last .0) (l .buf) (l .inv .1) (v .field-at .result .value) (v .field-at .result .width) (value v) (room v)
-    (omega (arith, v .field-at .ensures .1, width-most (s .args .trucks) (l .j) (good s .most)))
+put-requires : tie.Need-put-requires Inv-loop μ-loop
+put-requires c κs =
+    let l = c .before .before .before .before .loop in
+    let h = c .before .before .before .before .before .before .before in
+    let s = S-word c in
+    put-asks (F s) (place s (l .w)) (l .p .at) (l .p .have) (l .p .acc) (h .put-front .last .0) (l .buf) (l .inv .1) (bits s) (c .mirror .result) (s .args .trucks) (value c) (room c) (good s .most)
 
 loop-again : tie.Need-loop-again Inv-loop μ-loop
 loop-again c =
-    let v = c .before .before .before .before in
-    let l = v .before .before .loop in
-    let h = v .before .before .before .before .before in
-    let s = h .before .before .before .before .before in
+    let v = c .before .before .before in
+    let l = v .before .before .before .before .loop in
+    let h = v .before .before .before .before .before .before .before in
+    let s = S-word v in
     let n = s .args .trucks in
-    let w = v .field-at .result .width in
-    let r = c .before .before .put2 in
+    let r = c .before .before .put in
     let e = r .ensures in
-    (omega arith, put-at (F s) (fieldPlace n (l .j) + w) (fieldPlace n (l .j + 1)) (r .result .at) (r .result .have) (r .result .acc) (h .put .last .0) (r .last .0) (ap (λ (k : ℕ). fieldPlace n (l .j) + k) (v .field-at .ensures .1) ∙ next-place n (l .j)) (put-more (F s) (bits s) (fieldPlace n (l .j)) (l .p .at) (l .p .have) (l .p .acc) (h .put .last .0) (l .buf) (l .inv .1) (v .field-at .result .value) w (value v) (room v) (r .result .at) (r .result .have) (r .result .acc) (r .last .0) (e .0) (e .1 .0) (e .1 .1 .0) (e .1 .1 .1)))
+    (omega arith, put-at (F s) (place s (l .w) + n) (place s (l .w + 1)) (r .result .at) (r .result .have) (r .result .acc) (h .put-front .last .0) (r .last .0) (omega arith) (put-more (F s) (place s (l .w)) (l .p .at) (l .p .have) (l .p .acc) (h .put-front .last .0) (l .buf) (l .inv .1) (bits s) (v .mirror .result) n (value v) (room v) (good s .most) (r .result .at) (r .result .have) (r .result .acc) (r .last .0) (e .0) (e .1 .0) (e .1 .1 .0) (e .1 .1 .1)))
 
--- after the last field
+-- after the last word
 all-put : (c : tie.After-loop Inv-loop μ-loop)
-    → Put (F (c .before .before .before .before .before .before .before .before .before)) (bitsFor (c .before .before .before .before .before .before .before .before .before .args .trucks) (c .before .before .before .before .before .before .before .before .before .args .rounds)) (c .before .loop .p .at) (c .before .loop .p .have) (c .before .loop .p .acc) (c .before .before .before .before .put .last .0) (c .before .loop .buf)
+    → Put (F (S-loop c)) (bitsFor (S-loop c .args .trucks) (S-loop c .args .rounds)) (c .before .loop .p .at) (c .before .loop .p .have) (c .before .loop .p .acc) (S-loop c .args .buf .now) (c .before .loop .buf)
 all-put c =
     let h = c .before .before .before .before in
-    let s = h .before .before .before .before .before in
-    let a = s .args in
+    let s = S-loop c in
+    let n : ℕ = s .args .trucks in
+    let R : ℕ = s .args .rounds in
     let l = c .before .loop in
-    let e : l .j ≡ a .trucks + length (a .words .now) = omega arith in
-    put-at (F s) (fieldPlace (a .trucks) (l .j)) (bitsFor (a .trucks) (a .rounds)) (l .p .at) (l .p .have) (l .p .acc) (h .put .last .0) (l .buf)
-    (ap (fieldPlace (a .trucks)) e ∙ last-place (a .trucks) (a .rounds) (a .openings .now) (a .words .now) (good s)) (l .inv .1)
+    let r = h .put-front in
+    let e : l .w ≡ R * (3 + n) = omega (arith, good s .rounds-good .count) in
+    put-since (F s) (16 + 4 * n) (r .result .at) (r .result .have) (r .result .acc) (s .args .buf .now) (r .last .0) (front h) (bitsFor n R) (l .p .at) (l .p .have) (l .p .acc) (l .buf) (omega (arith, bits-flat n R))
+    (put-at (F s) (place s (l .w)) (bitsFor n R) (l .p .at) (l .p .have) (l .p .acc) (r .last .0) (l .buf) (ap (place s) e ∙ sym (bits-flat n R)) (l .inv .1))
 
-end-room : (c : tie.After-loop Inv-loop μ-loop)
-    → bitsFor (c .before .before .before .before .before .before .before .before .before .args .trucks) (c .before .before .before .before .before .before .before .before .before .args .rounds) + (8 - c .before .loop .p .have) % 8 ≤ 8 * length (c .before .before .before .before .put .last .0)
-end-room c =
-    let h = c .before .before .before .before in
-    let s = h .before .before .before .before .before in
-    let l = c .before .loop in
-    last-room (s .args .trucks) (s .args .rounds) (l .p .at) (l .p .have) (length (h .put .last .0)) (all-put c .small) (all-put c .there) (omega (arith, kept h, s .pre .1))
+-- the bytes up to the last
+ended : (c : tie.After-loop Inv-loop μ-loop) → c .before .loop .p .at + (c .before .loop .p .have + 7) / 8 ≡ bytesFor (S-loop c .args .trucks) (S-loop c .args .rounds)
+ended c = last-byte (S-loop c .args .trucks) (S-loop c .args .rounds) (c .before .loop .p .at) (c .before .loop .p .have) (all-put c .bytes) (all-put c .left)
 
-put-requires-3 : tie.Need-put-requires-3 Inv-loop μ-loop
-put-requires-3 c κs =
-    let o = c .before .before in
+put-bytes-requires : tie.Need-put-bytes-requires Inv-loop μ-loop
+put-bytes-requires c κs =
+    let o = c .before .before .before in
+    let s = S-loop o in
     let l = o .before .loop in
-    let h = o .before .before .before .before in
-    let s = h .before .before .before .before .before in
-    let a = s .args in
-    let k = (8 - l .p .have) % 8 in
-    put-asks (F s) (bits s) (bitsFor (a .trucks) (a .rounds)) (l .p .at) (l .p .have) (l .p .acc) (h .put .last .0) (l .buf) (all-put o) 0 k (end-number (a .trucks) (a .rounds) (a .openings .now) (a .words .now) (good s) k) (end-room o) (omega arith)
+    (omega (arith, all-put o .left), omega (arith, ended o, s .pre .1, put-length (F s) (bitsFor (s .args .trucks) (s .args .rounds)) (l .p .at) (l .p .have) (l .p .acc) (s .args .buf .now) (l .buf) (all-put o) (enough s)))
 
 -- after the zeros
-whole : (c : tie.After-put3 Inv-loop μ-loop)
-    → Put (F (c .before .before .before .before .before .before .before .before .before .before .before .before)) (bitsFor (c .before .before .before .before .before .before .before .before .before .before .before .before .args .trucks) (c .before .before .before .before .before .before .before .before .before .before .before .before .args .rounds) + (8 - c .before .before .before .before .loop .p .have) % 8) (c .put3 .result .at) (c .put3 .result .have) (c .put3 .result .acc) (c .before .before .before .before .before .before .before .put .last .0) (c .put3 .last .0)
-whole c =
-    let o = c .before .before .before in
-    let l = o .before .loop in
-    let h = o .before .before .before .before in
-    let s = h .before .before .before .before .before in
+abbrev G : tie.Start Inv-loop μ-loop → ℕ → ℕ
+G s = packedByte (s .args .trucks) (s .args .rounds) (s .args .openings .now) (s .args .words .now)
+
+written : (c : tie.After-put-bytes Inv-loop μ-loop)
+    → c .put-bytes .last .0 ≡ filled (G (S-end c)) (bytesFor (S-end c .args .trucks) (S-end c .args .rounds)) (S-end c .args .buf .now)
+written c =
+    let o = c .before .before .before .before in
+    let s = S-end c in
     let a = s .args in
-    let k = (8 - l .p .have) % 8 in
-    let e = c .put3 .ensures in
-    put-more (F s) (bits s) (bitsFor (a .trucks) (a .rounds)) (l .p .at) (l .p .have) (l .p .acc) (h .put .last .0) (l .buf) (all-put o) 0 k (end-number (a .trucks) (a .rounds) (a .openings .now) (a .words .now) (good s) k) (end-room o)
-    (c .put3 .result .at) (c .put3 .result .have) (c .put3 .result .acc) (c .put3 .last .0) (e .0) (e .1 .0) (e .1 .1 .0) (e .1 .1 .1)
+    let l = o .before .loop in
+    let p = l .p in
+    put-end (F s) (bitsFor (a .trucks) (a .rounds)) (p .at) (p .have) (p .acc) (a .buf .now) (l .buf) (all-put o) (bits s) 0 7 (end-number (a .trucks) (a .rounds) (a .openings .now) (a .words .now) 7) (omega arith) (omega (arith, ended o, s .pre .1)) (c .put-bytes .last .0)
+    (c .put-bytes .ensures ∙ ap (λ (x : ℕ). over (byteOf x (p .have + 7)) (p .at) ((p .have + 7) / 8) (l .buf)) (sym (add-zero (p .acc * 2 ^ 7 % 2 ^ 64))))
+    ∙ ap (λ (m : ℕ). filled (G s) m (a .buf .now)) (ended o)
 
 same-length : tie.Need-same-length Inv-loop μ-loop
 same-length c =
-    let e = c .before .before in
-    let o = e .before .before .before in
-    let h = o .before .before .before .before in
-    let s = h .before .before .before .before .before in
-    put-length (F s) (bits s) (bitsFor (s .args .trucks) (s .args .rounds) + (8 - o .before .loop .p .have) % 8) (e .put3 .result .at) (e .put3 .result .have) (e .put3 .result .acc) (h .put .last .0) (e .put3 .last .0) (whole e) (end-room o)
-    ∙ kept h
+    let s = S-end (c .before .before) in
+    ap length (written (c .before .before)) ∙ length-filled (G s) (bytesFor (s .args .trucks) (s .args .rounds)) (s .args .buf .now) (s .pre .1)
 
 returns : tie.Need-returns Inv-loop μ-loop
-returns c =
-    let e = c .before .before in
-    let o = e .before .before .before in
-    let l = o .before .loop in
-    let h = o .before .before .before .before in
-    let s = h .before .before .before .before .before in
-    let a = s .args in
-    let G : ℕ → ℕ = packedByte (a .trucks) (a .rounds) (a .openings .now) (a .words .now) in
-    let m : ℕ = bytesFor (a .trucks) (a .rounds) in
-    let d : List ℕ = a .buf .now in
-    let n : e .put3 .result .at ≡ m = e .put3 .ensures .1 .1 .1 ∙ last-byte (a .trucks) (a .rounds) (l .p .at) (l .p .have) (all-put o .small) (all-put o .there) in
-    whole e .buffer
-    ∙ ap (λ (k : ℕ). filled G k (h .put .last .0)) n
-    ∙ ap (filled G m) (headed h .buffer)
-    ∙ filled-again G m (h .put .result .at) d (omega (arith, headed h .there, bytes-hold (a .trucks) (a .rounds) .0, bits-flat (a .trucks) (a .rounds)))
+returns c = written (c .before .before)
 
 pub put-all-spec : {M : Type 1} → statement M
 put-all-spec =
@@ -190,17 +169,16 @@ put-all-spec =
     (tie.spec
     Inv-loop
     μ-loop
-    (λ c. search needs)
-    (λ c. search needs)
-    (λ c. search needs)
-    put-requires
+    put-front-requires
     loop-holds
-    field-at-requires
-    put-requires-2
+    (λ c. search needs)
+    (λ c. search needs)
+    (λ c κs. search needs)
+    put-requires
     (λ c. search needs)
     (λ c. search needs)
     loop-again
     (λ c. search needs)
-    put-requires-3
+    put-bytes-requires
     same-length
     returns)

@@ -22,11 +22,15 @@ use Rattle.protocol.specs.declared.Grades.{Grades}
 use Rattle.fleet.specs.Sets.{Members, heardSet, without}
 use Rattle.fleet.specs.Listens.{rowFrom}
 use Rattle.fleet.specs.Standing.{holds}
-use Rattle.fleet.specs.Grading.{carried, heardAt, missedAt, carriedBy, Aired, askedOf}
+use Rattle.fleet.specs.Grading.{carried, heardAt, missesSome, carriedBy, Aired, askedOf}
 use Rattle.fleet.specs.declared.grading.Missed.{Missed}
 use Rattle.fleet.proofs.Airs.{count-members, some-members}
 use Rattle.fleet.proofs.Places.{turn-back}
 use Rattle.fleet.proofs.Stood.{heard-silent}
+
+-- the truck at place p misses a message
+abbrev missedAt : List ℕ → ℕ → ℕ → ℕ → ℕ → Bool
+missedAt s at n senders p = missesSome senders (heardAt s at n senders p)
 
 -- a truck misses a message where it hears fewer than send
 missed-by : (a : Air) (i set senders : ℕ) → Members set (a .trucks) (hears a i) → Members senders (a .trucks) (a .sends) → missesAny a i ≡ not (eqb set senders)

@@ -1,10 +1,11 @@
 -- Grading, carried along a run by sets in packed order.
-use Prim.Native.Nat.{ℕ, _-_, _<_, _≤_, _^_}
+use Prim.Native.Nat.{ℕ, _*_, _-_, _<_, _≤_, _^_}
 use mathlib.Core.Path.{_≡_}
-use mathlib.Core.Bool.{Bool, false, cond, not, _||_}
+use mathlib.Core.Bool.{Bool, false, cond, not, _&&_, _||_}
 use mathlib.Core.List.{List}
 use lib.Bits.{bitAnd, bitOr}
-use lib.Dec.{eqb}
+use lib.Count.{ones}
+use lib.Dec.{eqb, leb}
 use Rattle.bitreader.specs.Bits.{mirrored}
 use Rattle.air.specs.Air.{Air, hears, complete, majorityComplete, zeroComplete, accurate}
 use Rattle.protocol.specs.declared.Grades.{Grades}
@@ -12,12 +13,19 @@ use Rattle.fleet.specs.Sets.{Members, heardSet, without}
 use Rattle.fleet.specs.Listens.{rowFrom}
 use Rattle.fleet.specs.Standing.{holds}
 
--- the senders that the truck at place p hears, and whether it misses one
+-- the senders that the truck at place p hears
 abbrev pub heardAt : List ℕ → ℕ → ℕ → ℕ → ℕ → ℕ
 heardAt s at n senders p = heardSet senders (rowFrom s at n p) p
 
-abbrev pub missedAt : List ℕ → ℕ → ℕ → ℕ → ℕ → Bool
-missedAt s at n senders p = not (eqb (heardAt s at n senders p) senders)
+-- a truck that heard these of the senders misses some, all, or at least half of them
+abbrev pub missesSome : ℕ → ℕ → Bool
+missesSome senders heard = not (eqb heard senders)
+
+abbrev pub missesAll : ℕ → ℕ → Bool
+missesAll senders heard = missesSome senders heard && eqb heard 0
+
+abbrev pub missesHalf : ℕ → ℕ → Bool
+missesHalf senders heard = missesSome senders heard && leb (2 * ones heard) (ones senders)
 
 -- the first round that breaks a class, or 0, with round k looked at too
 unfoldable pub carried : ℕ → Bool → ℕ → ℕ

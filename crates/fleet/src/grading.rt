@@ -10,12 +10,13 @@ use protocol::Grades;
 ghost use mathlib.Core.Path.{_≡_};
 ghost use mathlib.Core.Bool.{cond, _&&_};
 ghost use Prim.Native.Nat.{_<_, _≤_, _^_, _*_};
+ghost use lib.Bits.{bitOr};
 ghost use lib.Count.{ones};
 ghost use lib.Dec.{eqb, leb};
 ghost use Rattle.basics.specs.Bits.{bit};
 ghost use Rattle.air.specs.Air.{Air};
 ghost use Rattle.fleet.specs.Sets.{Members};
-ghost use Rattle.fleet.specs.Grading.{heardAt, missedAt, carried, carriedBy, Aired};
+ghost use Rattle.fleet.specs.Grading.{heardAt, missesSome, missesAll, missesHalf, carried, carriedBy, Aired};
 
 // Who missed a message, who of them heard none, and who of them no majority.
 pub struct Missed {
@@ -24,31 +25,49 @@ pub struct Missed {
     pub half: u32,
 }
 
+// With one truck more, which heard those of `heard`: its own set joins where it missed some. Bits are counted only where it did.
+fn with_truck(m: Missed, own: u32, heard: u32, senders: u32, sent: u32) -> Missed
+    ensures { λ r. ⌜ (r .some ≡ cond (missesSome senders heard) (bitOr (m .some) own) (m .some))
+        × ((r .all ≡ cond (missesSome senders heard && eqb heard 0) (bitOr (m .all) own) (m .all))
+        × (r .half ≡ cond (missesSome senders heard && leb (2 * ones heard) sent) (bitOr (m .half) own) (m .half))) ⌝ }
+{
+    if heard == senders {
+        return m;
+    }
+    let some = m.some | own;
+    if sent < 2 * u32::count_ones(heard) {
+        return Missed { some, ..m };
+    }
+    Missed {
+        some,
+        all: with_own(m.all, own, heard == 0),
+        half: m.half | own,
+    }
+}
+
 // What those wanted miss of the senders.
 fn missing(s: &[u8], at: usize, n: usize, senders: u32, wanted: u32) -> Missed
     requires { ⌜ (n ≤ 32) × (at < 2 ^ 32) ⌝ }
-    ensures { λ r. ⌜ Members (r .some) 32 (λ p. bit wanted p && missedAt (now (s .entry)) at n senders p)
-        × (Members (r .all) 32 (λ p. bit wanted p && (missedAt (now (s .entry)) at n senders p && eqb (heardAt (now (s .entry)) at n senders p) 0))
-        × Members (r .half) 32 (λ p. bit wanted p && (missedAt (now (s .entry)) at n senders p && leb (2 * ones (heardAt (now (s .entry)) at n senders p)) (ones senders)))) ⌝ }
+    ensures { λ r. ⌜ Members (r .some) 32 (λ p. bit wanted p && missesSome senders (heardAt (now (s .entry)) at n senders p))
+        × (Members (r .all) 32 (λ p. bit wanted p && missesAll senders (heardAt (now (s .entry)) at n senders p))
+        × Members (r .half) 32 (λ p. bit wanted p && missesHalf senders (heardAt (now (s .entry)) at n senders p))) ⌝ }
 {
     let sent = u32::count_ones(senders);
-    let mut some = 0;
-    let mut all = 0;
-    let mut half = 0;
+    let mut m = Missed {
+        some: 0,
+        all: 0,
+        half: 0,
+    };
     let mut left = wanted;
     while left != 0 {
         let p = lowest(left);
         let own = first_of(left);
         let t = bitreader::read_at(s, at + (31 - p) * n, 32);
         let heard = heard_by(senders, t.value, own);
-        let missed = heard != senders;
-        let count = u32::count_ones(heard);
-        some = with_own(some, own, missed);
-        all = with_own(all, own, missed & (heard == 0));
-        half = with_own(half, own, missed & (2 * count <= sent));
+        m = with_truck(m, own, heard, senders, sent);
         left = rest(left);
     }
-    Missed { some, all, half }
+    m
 }
 
 fn where_open(asked: bool, set: u32) -> u32

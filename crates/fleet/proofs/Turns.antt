@@ -8,7 +8,7 @@ use lib.Dec.{eqb, ltb}
 use lib.ListN.{getD}
 use Rattle.basics.specs.Bits.{odd}
 use Rattle.basics.specs.Lists.{filled}
-use Rattle.basics.proofs.Laws.{getD-filled}
+use Rattle.basics.proofs.Laws.{getD-filled, filled-ext}
 use Rattle.air.specs.Round.{stopBit, activeBit, markBit}
 use Rattle.air.specs.Air.{Air, hears, heardBy, heard}
 use Rattle.air.proofs.Laws.{hears-sends}
@@ -23,7 +23,6 @@ use Rattle.protocol.specs.Fleets.{nextFleet, nextFleetIn}
 use Rattle.truck.specs.declared.Event.{Event}
 use Rattle.truck.specs.declared.Event.the-variants.{Stop}
 use Rattle.truck.specs.Events.{happened, turned, updatedFirst}
-use Rattle.truck.proofs.Fleets.{updated-as}
 use Rattle.fleet.specs.declared.hearing.Values.{Values}
 use Rattle.fleet.specs.Sets.{Members, heardSet, valuesOf, Sorted}
 use Rattle.fleet.specs.Rounds.{estimates, nextOnAir, eventOf, eventAt, noEvents}
@@ -107,6 +106,7 @@ module _ (f : Fleet) (w : List ℕ) where
     step-next few events e g eg =
         ap (λ (x : Fleet). record { n = x .n; done = k; trucks = x .trucks })
         (eg ∙ ap (λ (m : ℕ). updatedFirst f m k events) (let z : min n 32 ≡ n = omega arith in z)
-        ∙ updated-as f k events n rule
-        (λ i l. ap (λ (x : Event). turned k x (truck ts i)) (ap (λ (es : List Event). getD es i Stop) e ∙ getD-filled (eventAt f w senders values) n noEvents i Stop l) ∙ event-right i l))
+        ∙ ap (λ (l : List Truck). record { n = n; done = f .done; trucks = l })
+        (filled-ext (λ i. turned k (getD events i Stop) (truck ts i)) rule n ts
+        (λ i l. ap (λ (x : Event). turned k x (truck ts i)) (ap (λ (es : List Event). getD es i Stop) e ∙ getD-filled (eventAt f w senders values) n noEvents i Stop l) ∙ event-right i l)))
         ∙ sym next-is

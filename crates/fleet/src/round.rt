@@ -131,7 +131,7 @@ pub(crate) fn next_fleet(f: Fleet, words: &[u32]) -> Fleet
     let values = by_crusher(f, senders);
     let events = events_of(f, words, senders, &values);
     let round = f.done + 1;
-    let mut fleet = truck::update_all(f, round, events);
+    let mut fleet = truck::update_first(f, f.n as usize, round, events);
     fleet.done = round;
     fleet
 }

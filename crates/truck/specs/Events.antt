@@ -5,9 +5,9 @@ use mathlib.Core.List.{List}
 use lib.ListN.{getD}
 use Rattle.basics.specs.Lists.{filled}
 use Rattle.protocol.specs.Cycles.{turn}
-use Rattle.protocol.specs.declared.Truck.{Truck}
 use Rattle.protocol.specs.declared.Fleet.{Fleet}
-use Rattle.protocol.specs.Rules.{truck, stops, proposed, vetoed}
+use Rattle.protocol.specs.declared.Truck.{Truck}
+use Rattle.protocol.specs.Rules.{stops, proposed, vetoed, truck}
 use Rattle.truck.specs.declared.Event.{Event}
 use Rattle.truck.specs.declared.Event.the-variants.{Stop, Proposals, Vetoes}
 
@@ -21,7 +21,6 @@ happened k (Vetoes m veto) t = vetoed k m veto t
 abbrev pub turned : ℕ → Event → Truck → Truck
 turned k e t = turn (t .state) false t (happened k e t) t
 
--- of the first n trucks of a fleet, where events has what the round is to each of them
-unfoldable pub updatedFirst : Fleet → ℕ → ℕ → List Event → Fleet
-updatedFirst f n k events =
-    record { n = f .n; done = f .done; trucks = filled (λ i. turned k (getD events i Stop) (truck (f .trucks) i)) n (f .trucks) }
+-- a fleet whose first n trucks are now what round k makes of them: element i of the list is what the round is to truck i
+abbrev pub updatedFirst : Fleet → ℕ → ℕ → List Event → Fleet
+updatedFirst f n k es = record { n = f .n; done = f .done; trucks = filled (λ i. turned k (getD es i Stop) (truck (f .trucks) i)) n (f .trucks) }

@@ -4,7 +4,7 @@ use protocol::Heard;
 use protocol::State;
 use protocol::Truck;
 ghost use mathlib.Core.Path.{_≡_};
-ghost use Prim.Native.Nat.{_≤_, min};
+ghost use Prim.Native.Nat.{min};
 ghost use Rattle.protocol.specs.Rules.{runs, vetoes, isOne, isSeveral, stops, proposed, vetoed, decides};
 ghost use Rattle.truck.specs.Events.{happened, turned, updatedFirst};
 
@@ -136,38 +136,16 @@ pub fn update(t: &mut Truck, round: u16, event: Event)
     *t = updated(*t, round, event);
 }
 
-// From a record to a record, by way of the loan: whoever calls this one needs no proof by hand.
-pub fn after(mut t: Truck, round: u16, event: Event) -> Truck
-    ensures { λ r. ⌜ r ≡ turned round event t ⌝ }
+// The first n trucks of a fleet, each brought up to date where it stands in the fleet: events[i] is what the round is to truck i. There are 32 places, so a
+// larger n means all of them.
+pub fn update_first(mut f: Fleet, n: usize, round: u16, events: [Event; 32]) -> Fleet
+    ensures { λ r. ⌜ r ≡ updatedFirst f (min n 32) round events ⌝ }
 {
-    update(&mut t, round, event);
-    t
-}
-
-// The first n trucks of a fleet, each brought up to date: events[i] is what the round is to truck i.
-fn update_first(f: Fleet, n: usize, round: u16, events: [Event; 32]) -> Fleet
-    requires { ⌜ n ≤ 32 ⌝ }
-    ensures { λ r. ⌜ r ≡ updatedFirst f n round events ⌝ }
-{
-    let mut g = f;
+    let end = if n < 32 { n } else { 32 };
     let mut i = 0;
-    while i < n {
-        let t = g.trucks[i];
-        let event = events[i];
-        let u = after(t, round, event);
-        g.trucks[i] = u;
+    while i < end {
+        update(&mut f.trucks[i], round, events[i]);
         i += 1;
     }
-    g
-}
-
-// All trucks of a fleet.
-pub fn update_all(f: Fleet, round: u16, events: [Event; 32]) -> Fleet
-    ensures { λ r. ⌜ r ≡ updatedFirst f (min (f .n) 32) round events ⌝ }
-{
-    let n = f.n as usize;
-    if n <= 32 {
-        return update_first(f, n, round, events);
-    }
-    update_first(f, 32, round, events)
+    f
 }

@@ -23,16 +23,16 @@ add-round c = let s = c .before .before .before .before .before .before in omega
 
 returns : tie.Need-returns
 returns c =
-    let s = c .before .before .before .before .before .before .before in
+    let s = c .before .before .before .before .before .before .before .before in
     let f = s .args .f in
     let w = s .args .words .now in
     let g = step-good f w (s .pre) in
-    let senders = c .before .before .before .before .before .senders-of in
-    let values = c .before .before .before .before .by-crusher in
-    let events = c .before .before .events-of in
-    step-next f w (senders .result) (values .result) (senders .ensures) (values .ensures) (g .small) (g .most) (events .result) (events .ensures) (c .update-all .result) (c .update-all .ensures)
+    let senders = c .before .before .before .before .before .before .senders-of in
+    let values = c .before .before .before .before .before .by-crusher in
+    let events = c .before .before .before .events-of in
+    step-next f w (senders .result) (values .result) (senders .ensures) (values .ensures) (g .small) (g .most) (events .result) (events .ensures) (c .update-first .result) (c .update-first .ensures)
 
 pub next-fleet-spec : {M : Type 1} → statement M
 next-fleet-spec =
     tie.close
-    (tie.spec senders-of-requires by-crusher-requires events-of-requires add-round (λ c κs. search needs) returns)
+    (tie.spec senders-of-requires by-crusher-requires events-of-requires add-round (λ c. search needs) (λ c κs. search needs) returns)

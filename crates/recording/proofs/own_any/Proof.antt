@@ -11,7 +11,7 @@ use Rattle.recording.proofs.own_any.Statement.{statement}
 use Rattle.recording.proofs.own_any.Tie as tie
 
 abbrev Inv-loop : tie.InvT-loop
-Inv-loop s at n seen₀ p₀ any₀ seen p any = (seen ≤ n) × (p ≡ at + seen * (n + 1)) × (bit any 7 ≡ someBelow (ownHere s at n) seen)
+Inv-loop s at n seen₀ p₀ any₀ seen p any = (p ≡ at + seen * (n + 1)) × (seen ≤ n) × (bit any 7 ≡ someBelow (ownHere s at n) seen)
 
 abbrev μ-loop : tie.MeasureT-loop
 μ-loop s at n seen₀ p₀ any₀ seen p any = n - seen
@@ -25,7 +25,7 @@ shared-slice-read-any : tie.Need-shared-slice-read-any Inv-loop μ-loop
 shared-slice-read-any c =
     let a = c .before .before .before .args in
     let l = c .before .before .loop in
-    omega (arith, l .inv .1, within-rows (a .n) (l .seen) (omega arith))
+    omega (arith, l .inv .0, within-rows (a .n) (l .seen) (omega arith))
 
 cast-any : tie.Need-cast-any Inv-loop μ-loop
 cast-any c = omega (arith, c .shared-slice-known .given (c .before .before .loop .p / 8))
@@ -34,13 +34,13 @@ add-p-2 : tie.Need-add-p-2 Inv-loop μ-loop
 add-p-2 c =
     let a = c .before .before .before .args in
     let l = c .before .before .loop in
-    omega (arith, l .inv .1, place-small (a .n) (l .seen) (omega arith) (omega arith))
+    omega (arith, l .inv .0, place-small (a .n) (l .seen) (omega arith) (omega arith))
 
 loop-again : tie.Need-loop-again Inv-loop μ-loop
 loop-again c =
     let a = c .before .before .before .args in
     let l = c .before .before .loop in
-    (omega arith, omega (arith, l .inv .1), union-more (a .s .now) (a .at) (a .n) (l .seen) (l .p) (l .any) (omega (arith, c .shared-slice-known .given (l .p / 8))) (l .inv .1) (l .inv .2))
+    (omega (arith, l .inv .0), omega arith, union-more (a .s .now) (a .at) (a .n) (l .seen) (l .p) (l .any) (omega (arith, c .shared-slice-known .given (l .p / 8))) (l .inv .0) (l .inv .2))
 
 returns : tie.Need-returns Inv-loop μ-loop
 returns c =

@@ -16,7 +16,7 @@ use Rattle.recording.proofs.own_place.Tie as tie
 
 abbrev Inv-loop : tie.InvT-loop
 Inv-loop s n rounds size at₀ r₀ at r =
-    (r ≤ rounds) × (at ≡ 16 + 7 * n + r * (3 * n + n * n)) × (someBelow (ownBit (wordAt s) n) (r * n) ≡ false)
+    (at ≡ 16 + 7 * n + r * (3 * n + n * n)) × (r ≤ rounds) × (someBelow (ownBit (wordAt s) n) (r * n) ≡ false)
 
 abbrev μ-loop : tie.MeasureT-loop
 μ-loop s n rounds size at₀ r₀ at r = rounds - r
@@ -37,31 +37,31 @@ own-any-requires c κs =
     let s = c .before .before .before in
     let a = s .args in
     let l = c .before .loop in
-    (omega arith, omega (arith, l .inv .1, rounds-within (a .n) (l .r) (omega arith) (omega arith)), rows-within (a .n) (a .rounds) (l .r) (l .at) (8 * length (a .s .now)) (c .loop-test .taken) (l .inv .1) (s .pre .4))
+    (omega arith, omega (arith, l .inv .0, rounds-within (a .n) (l .r) (omega arith) (omega arith)), rows-within (a .n) (a .rounds) (l .r) (l .at) (8 * length (a .s .now)) (c .loop-test .taken) (l .inv .0) (s .pre .4))
 
 own-truck-requires : tie.Need-own-truck-requires Inv-loop μ-loop
 own-truck-requires c κs =
     let a = c .before .before .before .before .before .args in
     let l = c .before .before .before .loop in
-    omega (arith, l .inv .1, rounds-within (a .n) (l .r) (omega arith) (omega arith))
+    omega (arith, l .inv .0, rounds-within (a .n) (l .r) (omega arith) (omega arith))
 
 returns : tie.Need-returns Inv-loop μ-loop
 returns c =
     let s = c .before .before .before .before .before .before in
     let l = c .before .before .before .before .loop in
-    own-found (s .args .s .now) (s .args .n) (l .r) (l .at) (s .pre .0) (l .inv .1) (l .inv .2) (c .before .before .own-any .result) (c .own-truck .result) (s .args .rounds) (omega arith) (c .before .before .own-any .ensures) (c .before .if1 .taken) (c .own-truck .ensures)
+    own-found (s .args .s .now) (s .args .n) (l .r) (l .at) (s .pre .0) (l .inv .0) (l .inv .2) (c .before .before .own-any .result) (c .own-truck .result) (s .args .rounds) (omega arith) (c .before .before .own-any .ensures) (c .before .if1 .taken) (c .own-truck .ensures)
 
 add-at-2 : tie.Need-add-at-2 Inv-loop μ-loop
 add-at-2 c =
     let a = c .before .before .before .before .before .args in
     let l = c .before .before .before .loop in
-    omega (arith, l .inv .1, rounds-within (a .n) (l .r) (omega arith) (omega arith), square-small (a .n) (omega arith))
+    omega (arith, l .inv .0, rounds-within (a .n) (l .r) (omega arith) (omega arith), square-small (a .n) (omega arith))
 
 loop-again : tie.Need-loop-again Inv-loop μ-loop
 loop-again c =
     let s = c .before .before .before .before .before in
     let l = c .before .before .before .loop in
-    (omega arith, omega (arith, l .inv .1), own-passed (s .args .s .now) (s .args .n) (l .r) (l .at) (s .pre .0) (l .inv .1) (l .inv .2) (c .before .own-any .result) (c .before .own-any .ensures) (c .if1 .left))
+    (omega (arith, l .inv .0), omega arith, own-passed (s .args .s .now) (s .args .n) (l .r) (l .at) (s .pre .0) (l .inv .0) (l .inv .2) (c .before .own-any .result) (c .before .own-any .ensures) (c .if1 .left))
 
 returns-2 : tie.Need-returns-2 Inv-loop μ-loop
 returns-2 c =

@@ -12,7 +12,7 @@ use Rattle.recording.proofs.own_truck.Statement.{statement}
 use Rattle.recording.proofs.own_truck.Tie as tie
 
 abbrev Inv-loop : tie.InvT-loop
-Inv-loop s at n i₀ p₀ i p = (i ≤ n) × (p ≡ at + i * (n + 1)) × (first (ownHere s at n) i ≡ i)
+Inv-loop s at n i₀ p₀ i p = (p ≡ at + i * (n + 1)) × (i ≤ n) × (first (ownHere s at n) i ≡ i)
 
 abbrev μ-loop : tie.MeasureT-loop
 μ-loop s at n i₀ p₀ i p = n - i
@@ -28,7 +28,7 @@ read : (c : tie.After-read-at Inv-loop μ-loop)
 read c =
     let a = c .before .before .before .before .args in
     let l = c .before .before .loop in
-    bit-read (a .s .now) (l .p) (a .at + l .i * (a .n + 1)) (c .read-at .result .value) (c .read-at .ensures .0) (l .inv .1)
+    bit-read (a .s .now) (l .p) (a .at + l .i * (a .n + 1)) (c .read-at .result .value) (c .read-at .ensures .0) (l .inv .0)
 
 returns : tie.Need-returns Inv-loop μ-loop
 returns c =
@@ -41,13 +41,13 @@ add-p-2 : tie.Need-add-p-2 Inv-loop μ-loop
 add-p-2 c =
     let a = c .before .before .before .before .before .args in
     let l = c .before .before .before .loop in
-    omega (arith, l .inv .1, place-small (a .n) (l .i) (omega arith) (omega arith))
+    omega (arith, l .inv .0, place-small (a .n) (l .i) (omega arith) (omega arith))
 
 loop-again : tie.Need-loop-again Inv-loop μ-loop
 loop-again c =
     let a = c .before .before .before .before .before .args in
     let l = c .before .before .before .loop in
-    (omega arith, omega (arith, l .inv .1), first-step (ownHere (a .s .now) (a .at) (a .n)) (l .i) (l .inv .2) (sym (read (c .before)) ∙ ne-eqb (c .before .read-at .result .value) 1 (c .if1 .left)))
+    (omega (arith, l .inv .0), omega arith, first-step (ownHere (a .s .now) (a .at) (a .n)) (l .i) (l .inv .2) (sym (read (c .before)) ∙ ne-eqb (c .before .read-at .result .value) 1 (c .if1 .left)))
 
 returns-2 : tie.Need-returns-2 Inv-loop μ-loop
 returns-2 c =

@@ -1,7 +1,7 @@
 -- Laws of what is sent, heard and missed in one round, and of calm rounds.
-use mathlib.Core.Path.{_≡_, refl, ap, ap₂, sym, subst, _∙_}
+use mathlib.Core.Path.{_≡_, refl, ap, sym, subst, _∙_}
 use mathlib.Core.Bool.{Bool, true, false, cond, not, _&&_, _||_, true≢false, false≢true}
-use mathlib.Core.List.{List, [], _∷_, _++_}
+use mathlib.Core.List.{[], _∷_}
 use Prim.Native.Nat.{ℕ, zero, suc, _+_, _-_, _*_, _≤_, _<_}
 use native.Mathlib.Decide.{decLt}
 use native.Mathlib.Omega.{arith}
@@ -9,7 +9,7 @@ use borrow.Author.Tests.{ltb-true, lt-ltb, leb-true, leb-false, eq-eqb, eqb-true
 use lib.Dec.{ltb, leb, eqb}
 use lib.ListN.{length, length-append}
 use Rattle.basics.specs.Lists.{who, allBelow, someBelow}
-use Rattle.basics.proofs.Laws.{and-left, and-right, and-both, allBelow-at, allBelow-all, someBelow-at, someBelow-by, someBelow-none, none-someBelow}
+use Rattle.basics.proofs.Laws.{who-ext, and-left, and-right, and-both, allBelow-at, allBelow-all, someBelow-at, someBelow-by, someBelow-none, none-someBelow}
 use Rattle.air.specs.Air.{Air, implies, sent, hears, heardBy, heard, misses, missesAny, judged, majorityComplete, zeroComplete, accurate, inFull, fewSenders, someRunning, calmRound, calmFor}
 
 -- how many of the first m have p
@@ -74,13 +74,6 @@ count-by p (suc m) h = go (p m) refl (count-suc p m) (count-by p m)
         → (0 < count p m → (k : ℕ) × (k < m) × (p k ≡ true)) → (k : ℕ) × (k < suc m) × (p k ≡ true)
     go true e f ih = (m, omega arith, e)
     go false e f ih = let r = ih (omega arith) in (r .0, omega (arith, r .1), r .2)
-
--- the same numbers
-pub who-ext : (p q : ℕ → Bool) (m : ℕ) → ((k : ℕ) → k < m → p k ≡ q k) → who p m ≡ who q m
-unfolding who
-who-ext p q zero h = refl
-who-ext p q (suc m) h =
-    ap₂ (λ (l : List ℕ) (b : Bool). l ++ cond b (m ∷ []) []) (who-ext p q m (λ k l. h k (omega arith))) (h m (omega arith))
 
 pub implies-mp : (b c : Bool) → implies b c ≡ true → b ≡ true → c ≡ true
 implies-mp true c h e = h

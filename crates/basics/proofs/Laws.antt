@@ -13,7 +13,7 @@ use lib.Dec.{ltb}
 use lib.ListN.{length, getD, drop, set, length-append, length-drop, List·getD-append}
 use lib.Seq.{drop-cons, drop-append-add, set-at, getD-append-add, getD-drop, ext-getD}
 use Rattle.basics.specs.Bits.{odd}
-use Rattle.basics.specs.Lists.{tabFrom, tab, filled, allBelow, first, someBelow}
+use Rattle.basics.specs.Lists.{tabFrom, tab, filled, allBelow, who, first, someBelow}
 
 module _ {ℓ} {A : Type ℓ} where
   length-tabFrom : (g : ℕ → A) (i m : ℕ) → length (tabFrom g i m) ≡ m
@@ -147,6 +147,13 @@ or-left false b h = refl
 pub or-right : (a b : Bool) → (a || b) ≡ false → b ≡ false
 or-right true b h = absurd (true≢false h)
 or-right false b h = h
+
+-- tests that agree hold of the same numbers
+pub who-ext : (p q : ℕ → Bool) (m : ℕ) → ((k : ℕ) → k < m → p k ≡ q k) → who p m ≡ who q m
+unfolding who
+who-ext p q zero h = refl
+who-ext p q (suc m) h =
+    ap₂ (λ (l : List ℕ) (b : Bool). l ++ cond b (m ∷ []) []) (who-ext p q m (λ k l. h k (omega arith))) (h m (omega arith))
 
 module _ (p : ℕ → Bool) where
   -- what a test over all says of each

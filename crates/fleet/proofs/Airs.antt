@@ -12,11 +12,13 @@ use lib.ListN.{length}
 use Rattle.basics.specs.Bits.{bit}
 use Rattle.basics.specs.Lists.{who}
 use Rattle.air.specs.Air.{Air, hears}
-use Rattle.air.proofs.Laws.{who-ext, count-some}
+use Rattle.basics.proofs.Laws.{who-ext}
+use Rattle.air.proofs.Laws.{count-some}
 use Rattle.basics.proofs.Bits.{bit-or}
-use Rattle.words.proofs.Words.{bit-power, ones-count, some-bit}
-use Rattle.fleet.specs.Sets.{Members, without, heardSet}
-use Rattle.fleet.proofs.Members.{members-and, members-without}
+use Rattle.sets.proofs.Words.{bit-power, ones-count, some-bit}
+use Rattle.sets.specs.Sets.{Members, without}
+use Rattle.fleet.specs.Sets.{heardSet}
+use Rattle.sets.proofs.Members.{members-and, members-without}
 
 -- those that a word holds, in their order
 pub who-members : {w n : ℕ} {p : ℕ → Bool} → Members w n p → who p n ≡ who (bit w) n

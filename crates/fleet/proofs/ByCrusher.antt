@@ -14,7 +14,7 @@ use Rattle.basics.specs.Lists.{who, first}
 use Rattle.basics.proofs.Laws.{and-left, and-right, first-le, first-before, first-at, first-all}
 use Rattle.basics.proofs.Bits.{bit-and, bit-xor, oneOf}
 use Rattle.air.specs.Air.{heard}
-use Rattle.words.proofs.Words.{bit-zero, some-bit}
+use Rattle.sets.proofs.Words.{bit-zero, some-bit}
 use Rattle.protocol.proofs.Values.{value-of, of-value, least-keeps, one-value, all-one}
 use Rattle.protocol.specs.declared.Heard.{Heard}
 use Rattle.protocol.specs.declared.Heard.the-variants.{Nothing, One, Several}

@@ -19,7 +19,7 @@ use Rattle.basics.specs.Lists.{filled, first}
 use Rattle.basics.proofs.Laws.{or-left, or-right, odd-suc, first-unique, getD-filled, getD-filled-past, length-filled, length-tab, getD-tab, filled-none, fill-step}
 use Rattle.refusals.specs.declared.Outcome.the-variants.{Accepted}
 use Rattle.basics.proofs.Bits.{bit-and, bit-or}
-use Rattle.words.proofs.Words.{bit-power, bit-zero, no-bits}
+use Rattle.sets.proofs.Words.{bit-power, bit-zero, no-bits}
 use Rattle.recording.specs.Packed.{trucksOf, roundsOf, openingAt, openingsOf, roundAt}
 use Rattle.recording.specs.Checks.{frameCheck}
 use Rattle.recording.proofs.Accepted.{frame-good}
@@ -39,7 +39,8 @@ use Rattle.protocol.proofs.AnyRun.{at-suc, opened-truck, throughout, estimates-
 use Rattle.fleet.specs.declared.replay.Proposed.{Proposed}
 use Rattle.fleet.specs.declared.replay.Vetoed.{Vetoed}
 use Rattle.fleet.specs.declared.replay.Sets.{Sets}
-use Rattle.fleet.specs.Sets.{Sorted, wasHeard, without}
+use Rattle.sets.specs.Sets.{without}
+use Rattle.fleet.specs.Sets.{Sorted, wasHeard}
 use Rattle.recording.proofs.RoundTrip.{openings-read}
 use Rattle.fleet.specs.Rounds.{estimates}
 use Rattle.fleet.specs.Replays.{fleetAfter, gradesAfter}

@@ -16,10 +16,11 @@ use Rattle.air.specs.Air.{Air, implies, sent, hears, heardBy, heard, misses, mi
 use Rattle.air.proofs.Laws.{hears-sends}
 use Rattle.bitreader.specs.Bits.{mirrored}
 use Rattle.basics.proofs.Bits.{bit-and, bit-or}
-use Rattle.words.proofs.Words.{bit-without, bit-zero, same-bits, some-bit}
-use Rattle.words.proofs.Mirror.{mirror-eq, mirror-zero, mirror-ones}
+use Rattle.sets.proofs.Words.{bit-without, bit-zero, same-bits, some-bit}
+use Rattle.sets.proofs.Mirror.{mirror-eq, mirror-zero, mirror-ones}
 use Rattle.protocol.specs.declared.Grades.{Grades}
-use Rattle.fleet.specs.Sets.{Members, heardSet, without}
+use Rattle.sets.specs.Sets.{Members, without}
+use Rattle.fleet.specs.Sets.{heardSet}
 use Rattle.fleet.specs.Listens.{rowFrom}
 use Rattle.fleet.specs.Standing.{holds}
 use Rattle.fleet.specs.Grading.{carried, heardAt, missesSome, carriedBy, Aired, askedOf}

@@ -1,5 +1,4 @@
 pub mod Laws
-pub mod Members
 pub mod Packed
 pub mod ByCrusher
 pub mod Airs

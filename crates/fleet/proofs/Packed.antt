@@ -14,8 +14,8 @@ use Rattle.basics.specs.Lists.{first}
 use Rattle.bitreader.specs.Bits.{mirrored}
 use Rattle.bitreader.proofs.Digits.{mirrored-lt}
 use Rattle.basics.proofs.Bits.{bit-and}
-use Rattle.words.proofs.Words.{same-bits}
-use Rattle.words.proofs.Mirror.{mirror-bit, mirror-and, mirror-or, mirror-xor, mirror-power, mirror-zero}
+use Rattle.sets.proofs.Words.{same-bits}
+use Rattle.sets.proofs.Mirror.{mirror-bit, mirror-and, mirror-or, mirror-xor, mirror-power, mirror-zero}
 use Rattle.fleet.specs.Sets.{heardSet, sentHere, wasHeard, valuesOf}
 
 -- words in plain order

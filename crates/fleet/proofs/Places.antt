@@ -13,14 +13,14 @@ use lib.Pow.{pow-pos, ones-lt, shl-lt, shl-exact, split, shl-shr, shr-shr, low}
 use lib.ListN.{length, getD, set, length-set}
 use Rattle.basics.specs.Bits.{bit}
 use Rattle.basics.specs.Lists.{filled}
-use Rattle.words.proofs.Words.{bit-high, bit-mod, bit-zero, same-bits}
-use Rattle.words.proofs.Mirror.{mirror-bit, mirror-xor, mirror-power, mirror-zero}
+use Rattle.sets.proofs.Words.{bit-high, bit-mod, bit-zero, same-bits}
+use Rattle.sets.proofs.Mirror.{mirror-bit, mirror-xor, mirror-power, mirror-zero}
 use Rattle.bitreader.specs.Bits.{bitAt, rowAt, mirrored}
 use Rattle.bitreader.proofs.Digits.{digit-zero, digit-suc, bitAt-lt, numAt-lt, one-shifted, numAt-digit, rowAt-digit, mirrored-lt}
 use Rattle.recording.specs.Packed.{openingAt}
-use Rattle.fleet.specs.Sets.{Members}
+use Rattle.sets.specs.Sets.{Members}
 use Rattle.fleet.specs.Standing.{holds, wordFrom, noted}
-use Rattle.fleet.proofs.Members.{replaced, replaced-all, replaced-none, replaced-more, within-removed}
+use Rattle.sets.proofs.Members.{replaced, replaced-all, replaced-none, replaced-more, within-removed}
 
 pub turn-back : (p : ℕ) → p < 32 → 31 - (31 - p) ≡ p
 turn-back p l = omega arith

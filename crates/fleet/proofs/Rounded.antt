@@ -9,7 +9,8 @@ use Rattle.basics.specs.Bits.{bit}
 use Rattle.basics.specs.Lists.{filled}
 use Rattle.protocol.specs.Rules.{isOne, isSeveral}
 use Rattle.fleet.specs.declared.listening.Hearing.{Hearing}
-use Rattle.fleet.specs.Sets.{Members, Sorted, without}
+use Rattle.sets.specs.Sets.{Members, without}
+use Rattle.fleet.specs.Sets.{Sorted}
 use Rattle.fleet.specs.Listens.{rowFrom, heardFrom, settled}
 use Rattle.fleet.specs.Standing.{wordFrom, goingOn, proposersOf, unreadOf, wantedOf, Proposes, mayOf, Vetoes}
 

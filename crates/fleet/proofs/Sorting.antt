@@ -12,8 +12,9 @@ use lib.ListN.{length, getD, set, replicate, getD-replicate, length-set}
 use lib.Seq.{getD-set-same, getD-set-other}
 use Rattle.basics.specs.Bits.{bit}
 use Rattle.basics.proofs.Laws.{and-left}
-use Rattle.fleet.specs.Sets.{Members, Sorted}
-use Rattle.fleet.proofs.Members.{set-below, within-removed, seen, seen-none, seen-all, seen-in, seen-out}
+use Rattle.sets.specs.Sets.{Members}
+use Rattle.fleet.specs.Sets.{Sorted}
+use Rattle.sets.proofs.Members.{set-below, within-removed, seen, seen-none, seen-all, seen-in, seen-out}
 
 -- the trucks of `senders` that were taken already, sorted by crusher
 pub record Sorting (n senders : ℕ) (est : ℕ → ℕ) (values : List ℕ) (left : ℕ) : Type 0 where

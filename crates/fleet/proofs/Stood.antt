@@ -18,8 +18,8 @@ use Rattle.air.specs.Round.{stopBit, activeBit, markBit, lossBit}
 use Rattle.air.specs.Air.{Air, hears, heard, heardBy}
 use Rattle.air.proofs.Laws.{hears-itself, count-some}
 use Rattle.basics.proofs.Bits.{bit-and, bit-or, bit-xor, oneOf}
-use Rattle.words.proofs.Words.{bit-without, bit-zero, bit-power, no-bits}
-use Rattle.words.proofs.Mirror.{mirror-twice, mirror-zero}
+use Rattle.sets.proofs.Words.{bit-without, bit-zero, bit-power, no-bits}
+use Rattle.sets.proofs.Mirror.{mirror-twice, mirror-zero}
 use Rattle.bitreader.specs.Bits.{mirrored}
 use Rattle.protocol.specs.declared.Heard.{Heard}
 use Rattle.protocol.specs.declared.Heard.the-variants.{Nothing, One, Several}
@@ -32,12 +32,13 @@ use Rattle.protocol.proofs.OneRound.{plays-proposal, plays-veto}
 use Rattle.fleet.specs.declared.hearing.Values.{Values}
 use Rattle.fleet.specs.declared.replay.Proposed.{Proposed}
 use Rattle.fleet.specs.declared.replay.Vetoed.{Vetoed}
-use Rattle.fleet.specs.Sets.{Members, Sorted, heardSet, valuesOf, without}
+use Rattle.sets.specs.Sets.{Members, without}
+use Rattle.fleet.specs.Sets.{Sorted, heardSet, valuesOf}
 use Rattle.fleet.specs.Rounds.{estimates}
 use Rattle.fleet.specs.Listens.{rowFrom, heardFrom, settled}
 use Rattle.fleet.specs.Standing.{ReadsAs, next, holds, wordFrom, stateOf, memoryOf, standing, Stands, goingOn, proposersOf, unreadOf, wantedOf, Proposes, mayOf, vetoersOf, Vetoes, noted}
 use Rattle.fleet.specs.Grading.{Aired}
-use Rattle.fleet.proofs.Members.{member-below}
+use Rattle.sets.proofs.Members.{member-below}
 use Rattle.fleet.proofs.ByCrusher.{values-right, values-silent}
 use Rattle.fleet.proofs.Airs.{who-members, some-members, hearers}
 use Rattle.fleet.proofs.Packed.{plainRows, row-plain, heard-packed, values-packed}

@@ -24,9 +24,10 @@ use Rattle.truck.specs.declared.Event.{Event}
 use Rattle.truck.specs.declared.Event.the-variants.{Stop}
 use Rattle.truck.specs.Events.{happened, turned, updatedFirst}
 use Rattle.fleet.specs.declared.hearing.Values.{Values}
-use Rattle.fleet.specs.Sets.{Members, heardSet, valuesOf, Sorted}
+use Rattle.sets.specs.Sets.{Members}
+use Rattle.fleet.specs.Sets.{heardSet, valuesOf, Sorted}
 use Rattle.fleet.specs.Rounds.{estimates, nextOnAir, eventOf, eventAt, noEvents}
-use Rattle.fleet.proofs.Members.{member-below, member-has}
+use Rattle.sets.proofs.Members.{member-below, member-has}
 use Rattle.fleet.proofs.ByCrusher.{values-right}
 use Rattle.fleet.proofs.Airs.{who-members, some-members, hearers}
 

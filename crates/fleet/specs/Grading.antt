@@ -9,7 +9,8 @@ use lib.Dec.{eqb, leb}
 use Rattle.bitreader.specs.Bits.{mirrored}
 use Rattle.air.specs.Air.{Air, hears, complete, majorityComplete, zeroComplete, accurate}
 use Rattle.protocol.specs.declared.Grades.{Grades}
-use Rattle.fleet.specs.Sets.{Members, heardSet, without}
+use Rattle.sets.specs.Sets.{Members, without}
+use Rattle.fleet.specs.Sets.{heardSet}
 use Rattle.fleet.specs.Listens.{rowFrom}
 use Rattle.fleet.specs.Standing.{holds}
 

@@ -1,24 +1,15 @@
--- Words as sets of trucks, by which rounds are worked out: bit j says whether truck j is in the set.
+-- What is heard of a round, by sets of trucks.
 use Prim.Native.Nat.{ℕ, _<_, _^_}
-use mathlib.Core.Path.{_≡_}
 use mathlib.Core.Bool.{Bool, cond, not, _&&_}
 use mathlib.Core.List.{List}
-use lib.Bits.{bitAnd, bitOr, bitXor}
+use lib.Bits.{bitAnd, bitOr}
 use lib.Dec.{eqb, ltb}
 use lib.ListN.{getD}
 use Rattle.basics.specs.Bits.{bit}
 use Rattle.basics.specs.Lists.{first}
+use Rattle.sets.specs.Sets.{Members, without}
 use Rattle.protocol.specs.declared.Heard.the-variants.{Nothing, One, Several}
 use Rattle.fleet.specs.declared.hearing.Values.{Values}
-
--- the set holds those below n that have p, and no others
-pub record Members (set n : ℕ) (p : ℕ → Bool) : Type 0 where
-  pub below : set < 2 ^ n
-  pub each : (j : ℕ) → j < n → bit set j ≡ p j
-
--- a set without those of another
-abbrev pub without : ℕ → ℕ → ℕ
-without set other = bitXor set (bitAnd set other)
 
 -- the senders that a truck hears: those whose loss bit in its row is clear, and itself, whose bit stands at a place
 unfoldable pub heardSet : ℕ → ℕ → ℕ → ℕ

@@ -23,7 +23,8 @@ use Rattle.protocol.specs.Runs.{trucksAt}
 use Rattle.fleet.specs.declared.replay.Proposed.{Proposed}
 use Rattle.fleet.specs.declared.replay.Vetoed.{Vetoed}
 use Rattle.fleet.specs.declared.replay.Sets.{Sets}
-use Rattle.fleet.specs.Sets.{Members, Sorted, without}
+use Rattle.sets.specs.Sets.{Members, without}
+use Rattle.fleet.specs.Sets.{Sorted}
 use Rattle.fleet.specs.Listens.{rowFrom, heardFrom, settled}
 
 -- truck j is in the set

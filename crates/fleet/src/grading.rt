@@ -1,10 +1,5 @@
 // What the marks of a round are worth, by sets in packed order, and the first round that breaks each class.
-use crate::hearing::first_of;
 use crate::hearing::heard_by;
-use crate::hearing::less;
-use crate::hearing::lowest;
-use crate::hearing::rest;
-use crate::hearing::with_own;
 use crate::replay::listeners;
 use protocol::Grades;
 ghost use mathlib.Core.Path.{_≡_};
@@ -15,7 +10,7 @@ ghost use lib.Count.{ones};
 ghost use lib.Dec.{eqb, leb};
 ghost use Rattle.basics.specs.Bits.{bit};
 ghost use Rattle.air.specs.Air.{Air};
-ghost use Rattle.fleet.specs.Sets.{Members};
+ghost use Rattle.sets.specs.Sets.{Members};
 ghost use Rattle.fleet.specs.Grading.{heardAt, missesSome, missesAll, missesHalf, carried, carriedBy, Aired};
 
 // Who missed a message, who of them heard none, and who of them no majority.
@@ -40,7 +35,7 @@ fn with_truck(m: Missed, own: u32, heard: u32, senders: u32, sent: u32) -> Misse
     }
     Missed {
         some,
-        all: with_own(m.all, own, heard == 0),
+        all: sets::joined(m.all, own, heard == 0),
         half: m.half | own,
     }
 }
@@ -60,12 +55,12 @@ fn missing(s: &[u8], at: usize, n: usize, senders: u32, wanted: u32) -> Missed
     };
     let mut left = wanted;
     while left != 0 {
-        let p = lowest(left);
-        let own = first_of(left);
+        let p = sets::lowest(left);
+        let own = sets::only_lowest(left);
         let t = bitreader::read_at(s, at + (31 - p) * n, 32);
         let heard = heard_by(senders, t.value, own);
         m = with_truck(m, own, heard, senders, sent);
-        left = rest(left);
+        left = sets::rest(left);
     }
     m
 }
@@ -106,14 +101,14 @@ pub(crate) fn judged(
     }
     let first = where_open(
         (grades.complete == 0) | (grades.majority == 0) | (grades.zero == 0),
-        less(going, mark),
+        sets::without(going, mark),
     );
     let last = where_open(grades.accurate == 0, going & mark);
     let m = missing(s, at, n, senders, listeners(senders, first | last));
     Grades {
-        complete: carry(grades.complete, less(m.some, mark) == 0, k),
-        majority: carry(grades.majority, less(m.half, mark) == 0, k),
-        zero: carry(grades.zero, less(m.all, mark) == 0, k),
-        accurate: carry(grades.accurate, less(going & mark, m.some) == 0, k),
+        complete: carry(grades.complete, sets::without(m.some, mark) == 0, k),
+        majority: carry(grades.majority, sets::without(m.half, mark) == 0, k),
+        zero: carry(grades.zero, sets::without(m.all, mark) == 0, k),
+        accurate: carry(grades.accurate, sets::without(going & mark, m.some) == 0, k),
     }
 }

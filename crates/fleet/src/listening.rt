@@ -1,12 +1,6 @@
 // Rounds by sets in packed order: the truck at place p of a set is truck 31 - p.
 use crate::hearing::first_heard;
-use crate::hearing::first_of;
 use crate::hearing::heard_by;
-use crate::hearing::joined;
-use crate::hearing::less;
-use crate::hearing::lowest;
-use crate::hearing::rest;
-use crate::hearing::with_own;
 ghost use mathlib.Core.Path.{_≡_};
 ghost use mathlib.Core.Bool.{_&&_};
 ghost use Prim.Native.Nat.{_<_, _≤_, _^_};
@@ -15,7 +9,8 @@ ghost use lib.ListN.{length};
 ghost use Rattle.basics.specs.Bits.{bit};
 ghost use Rattle.basics.specs.Lists.{filled};
 ghost use Rattle.protocol.specs.Rules.{isOne, isSeveral};
-ghost use Rattle.fleet.specs.Sets.{Members, Sorted, without};
+ghost use Rattle.sets.specs.Sets.{Members, without};
+ghost use Rattle.fleet.specs.Sets.{Sorted};
 ghost use Rattle.fleet.specs.Listens.{rowFrom, heardFrom, settled};
 
 // Of those wanted, who hear none of the senders; none of those wanted sends itself.
@@ -26,10 +21,14 @@ pub(crate) fn deciding(s: &[u8], at: usize, n: usize, senders: u32, wanted: u32)
     let mut out = 0;
     let mut left = wanted;
     while left != 0 {
-        let p = lowest(left);
+        let p = sets::lowest(left);
         let t = bitreader::read_at(s, at + (31 - p) * n, 32);
-        out = joined(out, p, less(senders, t.value) == 0);
-        left = rest(left);
+        out = sets::joined(
+            out,
+            sets::only_lowest(left),
+            sets::without(senders, t.value) == 0,
+        );
+        left = sets::rest(left);
     }
     out
 }
@@ -60,18 +59,18 @@ pub(crate) fn hear(
     let mut taking = [0u32; 16];
     let mut left = wanted;
     while left != 0 {
-        let p = lowest(left);
-        let own = first_of(left);
+        let p = sets::lowest(left);
+        let own = sets::only_lowest(left);
         let t = bitreader::read_at(s, at + (31 - p) * n, 32);
         let heard = heard_by(senders, t.value, own);
         let c = first_heard(by, heard);
         if c < 16 {
-            let lone = less(heard, by[c]) == 0;
-            one = with_own(one, own, lone);
-            several = with_own(several, own, !lone);
+            let lone = sets::without(heard, by[c]) == 0;
+            one = sets::joined(one, own, lone);
+            several = sets::joined(several, own, !lone);
             taking[c] = taking[c] | own;
         }
-        left = rest(left);
+        left = sets::rest(left);
     }
     Hearing {
         one,
@@ -87,7 +86,7 @@ pub(crate) fn settle(by: &mut [u32; 16], taking: &[u32; 16], changed: u32)
 {
     let mut c = 0;
     while c < 16 {
-        by[c] = less(by[c], changed) | (taking[c] & changed);
+        by[c] = sets::without(by[c], changed) | (taking[c] & changed);
         c += 1;
     }
 }

@@ -1,11 +1,6 @@
 // A recording run from its bytes by sets in packed order, truck j at the bit worth 2 to the 31 - j: proposal rounds and veto rounds hand on to each other, each with one round fewer left.
 use crate::grading::judged;
 use crate::hearing::first_heard;
-use crate::hearing::holds;
-use crate::hearing::less;
-use crate::hearing::lowest;
-use crate::hearing::only;
-use crate::hearing::rest;
 use crate::listening::deciding;
 use crate::listening::hear;
 use crate::listening::settle;
@@ -71,9 +66,9 @@ fn ended(ends: &mut [u16; 32], who: u32, k: u16)
 {
     let mut left = who;
     while left != 0 {
-        let p = lowest(left);
+        let p = sets::lowest(left);
         ends[31 - p] = k;
-        left = rest(left);
+        left = sets::rest(left);
     }
 }
 
@@ -99,11 +94,11 @@ fn propose(s: &[u8], at: usize, n: usize, left: u16, running: u32, by: &mut [u32
     let stop = bitreader::bits_at(s, at, 32);
     let active = bitreader::bits_at(s, at + n, 32);
     let mark = bitreader::bits_at(s, at + 2 * n, 32);
-    let going = less(running, stop);
+    let going = sets::without(running, stop);
     let senders = going & active;
-    let wanted = listeners(senders, less(going, unread(left, mark)));
+    let wanted = listeners(senders, sets::without(going, unread(left, mark)));
     let h = hear(s, at + 3 * n, n, senders, wanted, by);
-    settle(by, &h.taking, less(h.one | h.several, mark));
+    settle(by, &h.taking, sets::without(h.one | h.several, mark));
     Proposed {
         going,
         senders,
@@ -120,9 +115,9 @@ fn veto(s: &[u8], at: usize, n: usize, running: u32, marked: u32, one: u32, seve
 {
     let stop = bitreader::bits_at(s, at, 32);
     let mark = bitreader::bits_at(s, at + 2 * n, 32);
-    let going = less(running, stop);
+    let going = sets::without(running, stop);
     let senders = going & (marked | several);
-    let may = less(going & one, mark | marked);
+    let may = sets::without(going & one, mark | marked);
     let done = deciding(s, at + 3 * n, n, senders, may);
     Vetoed {
         going,
@@ -174,7 +169,7 @@ fn proposals(
         q.senders,
         q.mark,
     );
-    ended(ends, less(running, q.going), k + 1);
+    ended(ends, sets::without(running, q.going), k + 1);
     vetoes(
         s,
         at + (3 + n) * n,
@@ -238,7 +233,7 @@ fn vetoes(
         q.senders,
         q.mark,
     );
-    ended(ends, less(running, q.on), k + 1);
+    ended(ends, sets::without(running, q.on), k + 1);
     proposals(
         s,
         at + (3 + n) * n,
@@ -287,14 +282,14 @@ fn truck_of(b: Sets, by: &[u32; 16], opening: u8, end: u16, p: usize) -> Truck
     requires { ⌜ p < 32 ⌝ }
     ensures { λ r. ⌜ r ≡ standing opening (first (wasHeard (now (by .entry)) (2 ^ p)) 16) (memoryOf (bit (b .one) p) (bit (b .several) p)) (bit (b .running) p) (bit (b .decided) p) (bit (b .marked) p) end ⌝ }
 {
-    let running = holds(b.running, p);
-    let heard = heard_of(running, holds(b.one, p), holds(b.several, p));
-    let state = state_of(running, holds(b.decided, p), end);
-    let c = first_heard(by, only(p));
+    let running = sets::holds(b.running, p);
+    let heard = heard_of(running, sets::holds(b.one, p), sets::holds(b.several, p));
+    let state = state_of(running, sets::holds(b.decided, p), end);
+    let c = first_heard(by, sets::only(p));
     Truck {
         opening,
         estimate: c as u8,
-        mark: running & holds(b.marked, p),
+        mark: running & sets::holds(b.marked, p),
         heard,
         state,
     }
@@ -325,10 +320,10 @@ fn openers(s: &[u8], all: u32) -> [u32; 16]
     let mut by = [0u32; 16];
     let mut left = all;
     while left != 0 {
-        let p = lowest(left);
+        let p = sets::lowest(left);
         let c = recording::opening(s, (31 - p) as u8) as usize;
-        by[c] = by[c] | only(p);
-        left = rest(left);
+        by[c] = by[c] | sets::only(p);
+        left = sets::rest(left);
     }
     by
 }

@@ -1,10 +1,5 @@
 // One round in plain form makes of a fleet record the next. Bit j of a word and of a set says something of truck j.
 use crate::hearing::heard_by;
-use crate::hearing::holds;
-use crate::hearing::joined;
-use crate::hearing::lowest;
-use crate::hearing::only;
-use crate::hearing::rest;
 use crate::hearing::values_of;
 use protocol::Fleet;
 use protocol::Truck;
@@ -17,7 +12,8 @@ ghost use Rattle.refusals.specs.declared.Outcome.the-variants.{Accepted};
 ghost use Rattle.basics.specs.Lists.{filled};
 ghost use Rattle.protocol.specs.Rules.{runs, vetoes};
 ghost use Rattle.protocol.specs.Fleets.{stepCheck, nextFleet};
-ghost use Rattle.fleet.specs.Sets.{Members, Sorted};
+ghost use Rattle.sets.specs.Sets.{Members};
+ghost use Rattle.fleet.specs.Sets.{Sorted};
 ghost use Rattle.fleet.specs.Rounds.{estimates, nextOnAir, eventOf, eventAt, noEvents};
 
 // Whether a truck sends: in a proposal round where it is active, in a veto round where it has a veto.
@@ -41,8 +37,8 @@ fn senders_of(f: Fleet, words: &[u32]) -> u32
     let mut i = 0;
     while i < n {
         let t = f.trucks[i];
-        let joins = sends(t, proposals, holds(stop, i), holds(active, i));
-        senders = joined(senders, i, joins);
+        let joins = sends(t, proposals, sets::holds(stop, i), sets::holds(active, i));
+        senders = sets::joined(senders, sets::only(i), joins);
         i += 1;
     }
     senders
@@ -56,11 +52,11 @@ fn by_crusher(f: Fleet, senders: u32) -> [u32; 16]
     let mut values = [0u32; 16];
     let mut left = senders;
     while left != 0 {
-        let i = lowest(left);
+        let i = sets::lowest(left);
         let t = f.trucks[i];
         let c = t.estimate as usize;
-        values[c] = values[c] | only(i);
-        left = rest(left);
+        values[c] = values[c] | sets::only(i);
+        left = sets::rest(left);
     }
     values
 }
@@ -107,11 +103,11 @@ fn events_of(f: Fleet, words: &[u32], senders: u32, values: &[u32; 16]) -> [Even
     let mut i = 0;
     while i < n {
         let t = f.trucks[i];
-        let heard = heard_by(senders, words[3 + i], only(i));
+        let heard = heard_by(senders, words[3 + i], sets::only(i));
         let event = event_of(
             proposals,
-            holds(stop, i),
-            holds(mark, i),
+            sets::holds(stop, i),
+            sets::holds(mark, i),
             heard,
             values,
             t.estimate,

@@ -11,18 +11,18 @@ returns c = λ a d. rw (not-true (c .before .before .args .judging) (c .if1 .tak
 returns-2 : tie.Need-returns-2
 returns-2 c = λ a d.
     let z = c .before .before .before .before .before .before .before .before .before .before .before .before .before .before .before .before .before .before .before .args in
-    let u = c .before .before .before .before .before .before .before .before .before .before .before .before .before .less in
+    let u = c .before .before .before .before .before .before .before .before .before .before .before .before .before .without in
     let f = c .before .before .before .before .before .before .before .before .before .before .before .before .where-open in
     let l = c .before .before .before .before .before .before .before .before .before .before .where-open2 in
     let w = c .before .before .before .before .before .before .before .before .before .listeners in
     let m = c .before .before .before .before .before .before .before .before .missing in
-    let x1 = c .before .before .before .before .before .before .before .less2 in
+    let x1 = c .before .before .before .before .before .before .before .without2 in
     let c1 = c .before .before .before .before .before .before .carry in
-    let x2 = c .before .before .before .before .before .less3 in
+    let x2 = c .before .before .before .before .before .without3 in
     let c2 = c .before .before .before .before .carry2 in
-    let x3 = c .before .before .before .less4 in
+    let x3 = c .before .before .before .without4 in
     let c3 = c .before .before .carry3 in
-    let x4 = c .before .less5 in
+    let x4 = c .before .without5 in
     let c4 = c .carry4 in
     rw (not-false (z .judging) (c .before .before .before .before .before .before .before .before .before .before .before .before .before .before .before .before .before .if1 .left))
     (judged-done d (z .grades) (m .result) (z .k) (u .result) (f .result) (l .result) (w .result) (x1 .result) (x2 .result) (x3 .result) (x4 .result) (c1 .result) (c2 .result) (c3 .result) (c4 .result)

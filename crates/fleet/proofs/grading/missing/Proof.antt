@@ -8,10 +8,10 @@ use borrow.Author.Needs.{needs}
 use lib.Bits.{bitOr, bitXor}
 use Rattle.basics.specs.Bits.{bit}
 use Rattle.basics.proofs.Laws.{and-left}
-use Rattle.words.proofs.Words.{removed-lt}
-use Rattle.fleet.specs.Sets.{Members, heardSet}
+use Rattle.sets.specs.Sets.{Members}
+use Rattle.fleet.specs.Sets.{heardSet}
 use Rattle.fleet.specs.Grading.{heardAt, missesSome, missesAll, missesHalf}
-use Rattle.fleet.proofs.Members.{taken-out, within-removed, seen, seen-none, seen-all, seen-joined}
+use Rattle.sets.proofs.Members.{taken, own-taken, within-removed, seen, seen-none, seen-all, seen-joined}
 use Rattle.fleet.proofs.Reading.{product}
 use Rattle.fleet.proofs.Airs.{heard-by-own}
 use Rattle.fleet.proofs.grading.missing.Statement.{statement}
@@ -51,38 +51,42 @@ loop-holds c =
     )
 
 mul-read-at : tie.Need-mul-read-at Inv-loop μ-loop
-mul-read-at c = let z = c .before .before .before .before .before in omega (arith, product (31 - c .before .lowest .result) (z .args .n) (omega arith) (z .pre .0))
+mul-read-at c = let z = c .before .before .before .before .before in omega (arith, product (31 - c .before .lowest .result) (z .args .n) (omega (arith, c .before .lowest .ensures .1 (c .before .before .loop-test .taken) .0)) (z .pre .0))
 
 add-read-at : tie.Need-add-read-at Inv-loop μ-loop
-add-read-at c = let z = c .before .before .before .before .before in omega (arith, product (31 - c .before .lowest .result) (z .args .n) (omega arith) (z .pre .0), z .pre .1)
+add-read-at c = let z = c .before .before .before .before .before in omega (arith, product (31 - c .before .lowest .result) (z .args .n) (omega (arith, c .before .lowest .ensures .1 (c .before .before .loop-test .taken) .0)) (z .pre .0), z .pre .1)
+
+sub-read-at : tie.Need-sub-read-at Inv-loop μ-loop
+sub-read-at c = omega (arith, c .before .lowest .ensures .1 (c .before .before .loop-test .taken) .0)
 
 loop-less : tie.Need-loop-less Inv-loop μ-loop
-loop-less c = let i = c .before .before .before .before .before .lowest in rw (c .rest .ensures, sym (i .ensures .2)) (removed-lt _ _ (i .ensures .1))
+loop-less c = let i = c .before .before .before .before .before in taken (i .before .loop-test .taken) (i .lowest .ensures) (c .rest .ensures) .less
 
 loop-again : tie.Need-loop-again Inv-loop μ-loop
 loop-again c =
     let a = c .before .before .before .before .before .before .before .before .before .args in
     let l = c .before .before .before .before .before .before .before .loop in
     let i = c .before .before .before .before .before .lowest in
-    let o = c .before .before .before .before .first-of in
+    let o = c .before .before .before .before .only-lowest in
     let r = c .before .before .before .read-at in
     let h = c .before .before .heard-by in
     let w = c .before .with-truck in
     let p = i .result in
-    let out = taken-out (l .left) p _ (c .rest .result) (c .rest .ensures) (i .ensures .2) in
-    let own : o .result ≡ 2 ^ p = o .ensures ∙ ap (λ (k : ℕ). 2 ^ k) (sym (i .ensures .2)) in
+    let some = c .before .before .before .before .before .before .loop-test .taken in
+    let t = taken some (i .ensures) (c .rest .ensures) in
+    let own : o .result ≡ 2 ^ p = own-taken some (i .ensures .0) (o .ensures) in
     let is : h .result ≡ heardAt (a .s .now) (a .at) (a .n) (a .senders) p =
     heard-by-own (a .senders) (r .result .value) p (o .result) (h .result) (h .ensures) own ∙ ap (λ (x : ℕ). heardSet (a .senders) x p) (r .ensures .0) in
     let joins : (f : ℕ → Bool) (set set′ : ℕ) → set′ ≡ cond (f (h .result)) (bitOr set (o .result)) set
     → Members set 32 (seen (l .left) (of-wanted f (a .s .now) (a .at) (a .n) (a .senders) (a .wanted)))
     → Members set′ 32 (seen (c .rest .result) (of-wanted f (a .s .now) (a .at) (a .n) (a .senders) (a .wanted)))
-    = λ f set set′ e m. more f (a .s .now) (a .at) (a .n) (a .senders) (a .wanted) (l .left) (c .rest .result) p (o .result) (h .result) set set′ (i .ensures .0) (i .ensures .1) out (l .inv .1 .1 .1 p (i .ensures .1)) own is e m in (
+    = λ f set set′ e m. more f (a .s .now) (a .at) (a .n) (a .senders) (a .wanted) (l .left) (c .rest .result) p (o .result) (h .result) set set′ (t .below) (t .held) (t .rest) (l .inv .1 .1 .1 p (t .held)) own is e m in (
       joins (missesSome (a .senders)) (l .m .some) (w .result .some) (w .ensures .0) (l .inv .0),
       (
         joins (missesAll (a .senders)) (l .m .all) (w .result .all) (w .ensures .1 .0) (l .inv .1 .0),
         (
           joins (missesHalf (a .senders)) (l .m .half) (w .result .half) (w .ensures .1 .1) (l .inv .1 .1 .0),
-          λ j e. l .inv .1 .1 .1 j (within-removed (l .left) p (i .ensures .1) j (rw out at e)),
+          λ j e. l .inv .1 .1 .1 j (within-removed (l .left) p (t .held) j (rw (t .rest) at e)),
         ),
       ),
     )
@@ -99,7 +103,7 @@ missing-spec =
     loop-holds
     (λ c κs. search needs)
     (λ c κs. search needs)
-    (λ c. search needs)
+    sub-read-at
     mul-read-at
     add-read-at
     (λ c κs. search needs)

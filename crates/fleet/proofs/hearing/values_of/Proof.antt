@@ -11,7 +11,8 @@ use lib.ListN.{getD}
 use Rattle.basics.proofs.Laws.{first-le}
 use Rattle.protocol.specs.declared.Heard.{Heard}
 use Rattle.protocol.specs.declared.Heard.the-variants.{One, Several}
-use Rattle.fleet.specs.Sets.{without, wasHeard}
+use Rattle.sets.specs.Sets.{without}
+use Rattle.fleet.specs.Sets.{wasHeard}
 use Rattle.fleet.proofs.ByCrusher.{values-hit, values-none}
 use Rattle.fleet.proofs.hearing.values_of.Statement.{statement}
 use Rattle.fleet.proofs.hearing.values_of.Tie as tie
@@ -20,7 +21,7 @@ returns : tie.Need-returns
 returns c =
     let a = c .before .before .before .before .before .args in
     let f = c .before .before .before .before .first-heard in
-    let w = c .before .less in
+    let w = c .before .without in
     let told : (b : Bool) → eqb (w .result) 0 ≡ b → cond b One Several ≡ cond (eqb (without (a .heard) (getD (a .by .now) (f .result) 0)) 0) One Several
     = λ b e. ap (λ (x : Bool). cond x One Several) (sym e ∙ ap (λ (x : ℕ). eqb x 0) (w .ensures)) in
     ap (λ (h : Heard). record { heard = h; least = f .result })

@@ -9,7 +9,7 @@ use lib.Bits.{bitAnd, bitOr}
 use lib.ListN.{getD}
 use Rattle.basics.specs.Lists.{filled}
 use Rattle.basics.proofs.Laws.{filled-none, fill-step, getD-filled-past}
-use Rattle.fleet.specs.Sets.{without}
+use Rattle.sets.specs.Sets.{without}
 use Rattle.fleet.specs.Listens.{settled}
 use Rattle.fleet.proofs.listening.settle.Statement.{statement}
 use Rattle.fleet.proofs.listening.settle.Tie as tie
@@ -32,7 +32,7 @@ loop-again c =
     ap (λ (d : List ℕ). getD d (l .c) 0) (l .inv .1) ∙ getD-filled-past (settled (a .by .now) (a .taking .now) (a .changed)) (l .c) (a .by .now) (l .c) 0 (le-refl (l .c)) in (
       omega arith,
       fill-step (settled (a .by .now) (a .taking .now) (a .changed)) (a .by .now) (l .by) (l .c) (l .inv .1) _ (omega (arith, s .pre))
-          (ap (λ (x : ℕ). bitOr x (bitAnd (getD (a .taking .now) (l .c) 0) (a .changed))) (c .before .less .ensures ∙ ap (λ (x : ℕ). without x (a .changed)) here)),
+          (ap (λ (x : ℕ). bitOr x (bitAnd (getD (a .taking .now) (l .c) 0) (a .changed))) (c .before .without .ensures ∙ ap (λ (x : ℕ). without x (a .changed)) here)),
     )
 
 returns : tie.Need-returns Inv-loop μ-loop

@@ -14,7 +14,7 @@ use Rattle.fleet.proofs.replay.ended.Reads as ended-reads
 use Rattle.fleet.proofs.grading.judged.Reads as judged-reads
 use Rattle.fleet.proofs.replay.propose.Reads as propose-reads
 use Rattle.fleet.proofs.replay.veto.Reads as veto-reads
-use Rattle.fleet.proofs.hearing.less.Reads as less-reads
+use Rattle.sets.proofs.without.Reads as without-reads
 use Rattle.fleet.proofs.replay.+proposals+vetoes.{statement}
 use Rattle.fleet.proofs.replay.+proposals+vetoes.Tie.{close}
 
@@ -39,10 +39,10 @@ vetoes-below t = and 3 vetoes-kinds.ps (falls 3 vetoes-kinds.ps _<_ μ-vetoes t)
 
 -- what each knows of the functions that it calls
 abbrev proposals-calls : ℕ → proposals-lts.Claims
-proposals-calls t = (propose-reads.Asked, propose-reads.Learnt, judged-reads.Asked, judged-reads.Learnt, less-reads.Asked, less-reads.Learnt, ended-reads.Asked, ended-reads.Learnt, vetoes-below t, vetoes.Post)
+proposals-calls t = (propose-reads.Asked, propose-reads.Learnt, judged-reads.Asked, judged-reads.Learnt, without-reads.Asked, without-reads.Learnt, ended-reads.Asked, ended-reads.Learnt, vetoes-below t, vetoes.Post)
 
 abbrev vetoes-calls : ℕ → vetoes-lts.Claims
-vetoes-calls t = (veto-reads.Asked, veto-reads.Learnt, judged-reads.Asked, judged-reads.Learnt, less-reads.Asked, less-reads.Learnt, ended-reads.Asked, ended-reads.Learnt, proposals-below t, proposals.Post)
+vetoes-calls t = (veto-reads.Asked, veto-reads.Learnt, judged-reads.Asked, judged-reads.Learnt, without-reads.Asked, without-reads.Learnt, ended-reads.Asked, ended-reads.Learnt, proposals-below t, proposals.Post)
 
 proposals-returns : (t : ℕ) → proposals-lts.Need-returns (proposals-calls t) (proposals-at t) proposals.Post
 proposals-returns t c = let z = c .before .before in (halts (z .pre .1 .0) (c .if1 .taken) (z .args .grades), z .pre .1 .1 .1)
@@ -62,8 +62,8 @@ proposals-add-judged-2 t c = let r = due-room (c .before .before .before .before
 proposals-judged-requires : (t : ℕ) → proposals-lts.Need-judged-requires (proposals-calls t) (proposals-at t) proposals.Post
 proposals-judged-requires t c κs = let r = due-room (c .before .before .before .before .pre .1 .0) (c .before .before .if1 .left) in (r .0, omega (arith, r .0, r .1 .1 .0))
 
-proposals-less-requires : (t : ℕ) → proposals-lts.Need-less-requires (proposals-calls t) (proposals-at t) proposals.Post
-proposals-less-requires t c κs = tt
+proposals-without-requires : (t : ℕ) → proposals-lts.Need-without-requires (proposals-calls t) (proposals-at t) proposals.Post
+proposals-without-requires t c κs = tt
 
 proposals-add-ended : (t : ℕ) → proposals-lts.Need-add-ended (proposals-calls t) (proposals-at t) proposals.Post
 proposals-add-ended t c = let r = due-room (c .before .before .before .before .before .before .before .pre .1 .0) (c .before .before .before .before .before .if1 .left) in record { fits = omega (arith, r .1 .1 .1 .1) }
@@ -93,7 +93,7 @@ proposals-vetoes-requires t c κs =
     let r = due-room (z .pre .1 .0) h in
     let q = c .before .before .before .before .before .before .propose .ensures in
     let j = c .before .before .before .before .before .judged in
-    let n = proposal-next (z .pre .1 .0) h (z .pre .1 .1 .0) q (c .before .before .before .less .result) (c .before .before .ended .last .0) (c .before .before .before .less .ensures) (c .before .before .ended .ensures) in
+    let n = proposal-next (z .pre .1 .0) h (z .pre .1 .1 .0) q (c .before .before .before .without .result) (c .before .before .ended .last .0) (c .before .before .before .without .ensures) (c .before .before .ended .ensures) in
     (omega (arith, z .pre .0, r .1 .1 .1 .0), (n .0, (n .1, proposal-graded (z .pre .1 .0) h (z .pre .1 .1 .0) q (z .args .judging) (z .args .grades) (j .result) (z .pre .1 .1 .1) (j .ensures))))
 
 proposals-returns-2 : (t : ℕ) → proposals-lts.Need-returns-2 (proposals-calls t) (proposals-at t) proposals.Post
@@ -117,8 +117,8 @@ vetoes-add-judged-2 t c = let r = due-room (c .before .before .before .pre .1 .0
 vetoes-judged-requires : (t : ℕ) → vetoes-lts.Need-judged-requires (vetoes-calls t) (vetoes-at t) vetoes.Post
 vetoes-judged-requires t c κs = let r = due-room (c .before .before .before .pre .1 .0) (c .before .if1 .left) in (r .0, omega (arith, r .0, r .1 .1 .0))
 
-vetoes-less-requires : (t : ℕ) → vetoes-lts.Need-less-requires (vetoes-calls t) (vetoes-at t) vetoes.Post
-vetoes-less-requires t c κs = tt
+vetoes-without-requires : (t : ℕ) → vetoes-lts.Need-without-requires (vetoes-calls t) (vetoes-at t) vetoes.Post
+vetoes-without-requires t c κs = tt
 
 vetoes-add-ended : (t : ℕ) → vetoes-lts.Need-add-ended (vetoes-calls t) (vetoes-at t) vetoes.Post
 vetoes-add-ended t c = let r = due-room (c .before .before .before .before .before .before .pre .1 .0) (c .before .before .before .before .if1 .left) in record { fits = omega (arith, r .1 .1 .1 .1) }
@@ -148,7 +148,7 @@ vetoes-proposals-requires t c κs =
     let r = due-room (z .pre .1 .0) h in
     let q = c .before .before .before .before .before .before .before .veto .ensures in
     let j = c .before .before .before .before .before .before .judged in
-    let n = veto-next (z .pre .1 .0) h (z .pre .1 .1 .0) q (c .before .before .before .before .less .result) (c .before .before .before .ended .last .0) (c .before .before .before .before .less .ensures) (c .before .before .before .ended .ensures) in
+    let n = veto-next (z .pre .1 .0) h (z .pre .1 .1 .0) q (c .before .before .before .before .without .result) (c .before .before .before .ended .last .0) (c .before .before .before .before .without .ensures) (c .before .before .before .ended .ensures) in
     (omega (arith, z .pre .0, r .1 .1 .1 .0), (n .0, (n .1, veto-graded (z .pre .1 .0) h (z .pre .1 .1 .0) q (z .args .judging) (z .args .grades) (j .result) (z .pre .1 .1 .1) (j .ensures))))
 
 vetoes-returns-2 : (t : ℕ) → vetoes-lts.Need-returns-2 (vetoes-calls t) (vetoes-at t) vetoes.Post
@@ -159,5 +159,5 @@ pub +proposals+vetoes-spec : {M : Type 1} → statement M
     close
     μ-proposals
     μ-vetoes
-    (λ t. proposals-lts.spec (proposals-calls t) (proposals-at t) proposals.Post (proposals-returns t) (proposals-propose-requires t) (proposals-mul-judged t) (proposals-add-judged t) (proposals-add-judged-2 t) (proposals-judged-requires t) (proposals-less-requires t) (proposals-add-ended t) (proposals-ended-requires t) (proposals-add-vetoes t) (proposals-mul-vetoes t) (proposals-add-vetoes-2 t) (proposals-sub-vetoes t) (proposals-add-vetoes-3 t) (proposals-vetoes-requires t) (proposals-returns-2 t))
-    (λ t. vetoes-lts.spec (vetoes-calls t) (vetoes-at t) vetoes.Post (vetoes-returns t) (vetoes-veto-requires t) (vetoes-mul-judged t) (vetoes-add-judged t) (vetoes-add-judged-2 t) (vetoes-judged-requires t) (vetoes-less-requires t) (vetoes-add-ended t) (vetoes-ended-requires t) (vetoes-add-proposals t) (vetoes-mul-proposals t) (vetoes-add-proposals-2 t) (vetoes-sub-proposals t) (vetoes-add-proposals-3 t) (vetoes-proposals-requires t) (vetoes-returns-2 t))
+    (λ t. proposals-lts.spec (proposals-calls t) (proposals-at t) proposals.Post (proposals-returns t) (proposals-propose-requires t) (proposals-mul-judged t) (proposals-add-judged t) (proposals-add-judged-2 t) (proposals-judged-requires t) (proposals-without-requires t) (proposals-add-ended t) (proposals-ended-requires t) (proposals-add-vetoes t) (proposals-mul-vetoes t) (proposals-add-vetoes-2 t) (proposals-sub-vetoes t) (proposals-add-vetoes-3 t) (proposals-vetoes-requires t) (proposals-returns-2 t))
+    (λ t. vetoes-lts.spec (vetoes-calls t) (vetoes-at t) vetoes.Post (vetoes-returns t) (vetoes-veto-requires t) (vetoes-mul-judged t) (vetoes-add-judged t) (vetoes-add-judged-2 t) (vetoes-judged-requires t) (vetoes-without-requires t) (vetoes-add-ended t) (vetoes-ended-requires t) (vetoes-add-proposals t) (vetoes-mul-proposals t) (vetoes-add-proposals-2 t) (vetoes-sub-proposals t) (vetoes-add-proposals-3 t) (vetoes-proposals-requires t) (vetoes-returns-2 t))

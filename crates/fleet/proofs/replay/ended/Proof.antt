@@ -1,9 +1,7 @@
 -- `ended` meets its contract.
-use mathlib.Core.Path.{sym}
 use native.Mathlib.Omega.{arith}
 use borrow.Author.Needs.{needs}
-use Rattle.words.proofs.Words.{removed-lt}
-use Rattle.fleet.proofs.Members.{taken-out}
+use Rattle.sets.proofs.Members.{taken}
 use Rattle.fleet.proofs.Places.{Noting, noting-starts, noting-more, noting-done}
 use Rattle.fleet.proofs.replay.ended.Statement.{statement}
 use Rattle.fleet.proofs.replay.ended.Tie as tie
@@ -17,16 +15,19 @@ abbrev μ-loop : tie.MeasureT-loop
 loop-holds : tie.Need-loop-holds Inv-loop μ-loop
 loop-holds c = let a = c .args in noting-starts (a .ends .now) (a .who) (a .k) (c .pre)
 
+sub-ends : tie.Need-sub-ends Inv-loop μ-loop
+sub-ends c = omega (arith, c .lowest .ensures .1 (c .before .loop-test .taken) .0)
+
 loop-less : tie.Need-loop-less Inv-loop μ-loop
-loop-less c = let i = c .before .lowest in rw (c .rest .ensures, sym (i .ensures .2)) (removed-lt _ _ (i .ensures .1))
+loop-less c = taken (c .before .before .loop-test .taken) (c .before .lowest .ensures) (c .rest .ensures) .less
 
 loop-again : tie.Need-loop-again Inv-loop μ-loop
 loop-again c =
     let z = c .before .before .before .before in
     let l = c .before .before .before .loop in
     let i = c .before .lowest in
-    noting-more (z .args .ends .now) (z .args .who) (z .args .k) (z .pre) (l .inv) (i .result) (i .ensures .0) (i .ensures .1) (c .rest .result)
-    (taken-out (l .left) (i .result) _ (c .rest .result) (c .rest .ensures) (i .ensures .2))
+    let t = taken (c .before .before .loop-test .taken) (i .ensures) (c .rest .ensures) in
+    noting-more (z .args .ends .now) (z .args .who) (z .args .k) (z .pre) (l .inv) (i .result) (t .below) (t .held) (c .rest .result) (t .rest)
 
 returns : tie.Need-returns Inv-loop μ-loop
 returns c = let z = c .before .before in noting-done (z .args .ends .now) (z .args .who) (z .args .k) (z .pre) (c .before .loop .inv) (c .loop-test .left)
@@ -39,7 +40,7 @@ ended-spec =
     μ-loop
     loop-holds
     (λ c κs. search needs)
-    (λ c. search needs)
+    sub-ends
     (λ c. search needs)
     (λ c. omega (arith, c .before .before .loop .inv .long))
     (λ c κs. search needs)

@@ -1,12 +1,12 @@
 -- `openers` meets its contract.
-use mathlib.Core.Path.{sym}
+use mathlib.Core.Path.{_∙_}
 use mathlib.Core.List.{List}
 use Prim.Native.Nat.{ℕ, _-_}
+use native.Mathlib.Omega.{arith}
 use borrow.Author.Needs.{needs}
-use Rattle.words.proofs.Words.{removed-lt}
 use Rattle.recording.specs.Packed.{openingAt}
 use Rattle.fleet.proofs.Places.{opening-lt}
-use Rattle.fleet.proofs.Members.{taken-out}
+use Rattle.sets.proofs.Members.{taken, only-is}
 use Rattle.fleet.proofs.Sorting.{Sorting, sorting-starts, sorting-more, sorting-done}
 use Rattle.fleet.proofs.replay.openers.Statement.{statement}
 use Rattle.fleet.proofs.replay.openers.Tie as tie
@@ -29,17 +29,20 @@ array-read-by c = rw (c .opening .ensures) (opening-lt _ _)
 array-write-by : tie.Need-array-write-by Inv-loop μ-loop
 array-write-by c = rw (c .before .opening .ensures) (opening-lt _ _)
 
+sub-opening : tie.Need-sub-opening Inv-loop μ-loop
+sub-opening c = omega (arith, c .lowest .ensures .1 (c .before .loop-test .taken) .0)
+
 loop-less : tie.Need-loop-less Inv-loop μ-loop
-loop-less c = let i = c .before .before .before .lowest in rw (c .rest .ensures, sym (i .ensures .2)) (removed-lt _ _ (i .ensures .1))
+loop-less c = taken (c .before .before .before .before .loop-test .taken) (c .before .before .before .lowest .ensures) (c .rest .ensures) .less
 
 loop-again : tie.Need-loop-again Inv-loop μ-loop
 loop-again c =
     let a = c .before .before .before .before .before .before .before .args in
     let l = c .before .before .before .before .before .loop in
     let i = c .before .before .before .lowest in
-    rw (c .before .only .ensures, c .before .before .opening .ensures)
-    (sorting-more 32 (a .all) (opens (a .s .now)) (l .inv) (i .result) (i .ensures .0) (i .ensures .1) (opening-lt (a .s .now) (31 - i .result)) (c .rest .result)
-    (taken-out (l .left) (i .result) _ (c .rest .result) (c .rest .ensures) (i .ensures .2)))
+    let t = taken (c .before .before .before .before .loop-test .taken) (i .ensures) (c .rest .ensures) in
+    rw (c .before .only .ensures ∙ only-is (i .result) (t .below), c .before .before .opening .ensures)
+    (sorting-more 32 (a .all) (opens (a .s .now)) (l .inv) (i .result) (t .below) (t .held) (opening-lt (a .s .now) (31 - i .result)) (c .rest .result) (t .rest))
 
 returns : tie.Need-returns Inv-loop μ-loop
 returns c = let a = c .before .before .before .args in (sorting-done 32 (a .all) (opens (a .s .now)) (c .before .loop .inv) (c .loop-test .left), c .before .loop .inv .long)
@@ -52,7 +55,7 @@ openers-spec =
     μ-loop
     loop-holds
     (λ c κs. search needs)
-    (λ c. search needs)
+    sub-opening
     (λ c. search needs)
     (λ c κs. search needs)
     (λ c. search needs)

@@ -3,8 +3,10 @@ use mathlib.Core.Bool.{Bool}
 use Prim.Native.Nat.{ℕ, _<_}
 use native.Mathlib.Omega.{arith}
 use borrow.Author.Needs.{needs}
+use mathlib.Core.Path.{_∙_}
 use Rattle.basics.specs.Lists.{first}
 use Rattle.basics.proofs.Laws.{first-le}
+use Rattle.sets.proofs.Members.{only-is}
 use Rattle.fleet.proofs.replay.truck_of.Statement.{statement}
 use Rattle.fleet.proofs.replay.truck_of.Tie as tie
 
@@ -20,7 +22,7 @@ returns c =
       c .before .before .before .before .before .heard-of .ensures,
       c .before .before .before .state-of .ensures,
       c .before .first-heard .ensures,
-      c .before .before .only .ensures,
+      c .before .before .only .ensures ∙ only-is _ (c .before .before .before .before .before .before .before .before .before .pre),
       c .holds5 .ensures,
       c .before .before .before .before .before .before .before .before .holds .ensures,
       c .before .before .before .before .before .before .before .holds2 .ensures,

@@ -9,8 +9,8 @@ returns c =
     let a = c .before .before .before .before .before .before .args in
     let stop = c .before .before .before .before .bits-at in
     let mark = c .before .before .before .bits-at2 in
-    let going = c .before .before .less in
-    let may = c .before .less2 in
+    let going = c .before .before .without in
+    let may = c .before .without2 in
     vetoes-by (a .s .now) (a .at) (a .n) (a .running) (a .marked) (a .one) (a .several) (stop .result) (mark .result) (going .result) (may .result) (c .deciding .result)
     (stop .ensures) (mark .ensures) (going .ensures) (may .ensures) (c .deciding .ensures)
 

@@ -1,10 +1,10 @@
 -- `by_crusher` meets its contract.
-use mathlib.Core.Path.{sym}
+use mathlib.Core.Path.{_∙_}
 use Prim.Native.Nat.{_<_}
+use native.Mathlib.Omega.{arith}
 use borrow.Author.Needs.{needs}
-use Rattle.words.proofs.Words.{removed-lt}
 use Rattle.fleet.specs.Rounds.{estimates}
-use Rattle.fleet.proofs.Members.{taken-out}
+use Rattle.sets.proofs.Members.{taken, only-is}
 use Rattle.fleet.proofs.Sorting.{Sorting, sorting-starts, sorting-below, sorting-more, sorting-done}
 use Rattle.fleet.proofs.round.by_crusher.Statement.{statement}
 use Rattle.fleet.proofs.round.by_crusher.Tie as tie
@@ -22,10 +22,16 @@ loop-holds c = sorting-starts (c .args .t1 .n) (c .args .senders) (estimates (c 
 below : (c : tie.After-lowest Inv-loop μ-loop) → c .lowest .result < c .before .before .before .args .t1 .n
 below c =
     let s = c .before .before .before in
-    sorting-below (s .args .t1 .n) (s .args .senders) (estimates (s .args .t1 .trucks)) (c .before .before .loop .inv) (s .pre .1) (c .lowest .result) (c .lowest .ensures .1)
+    sorting-below (s .args .t1 .n) (s .args .senders) (estimates (s .args .t1 .trucks)) (c .before .before .loop .inv) (s .pre .1) (c .lowest .result) (c .lowest .ensures .1 (c .before .loop-test .taken) .1)
 
 small : (c : tie.After-lowest Inv-loop μ-loop) → estimates (c .before .before .before .args .t1 .trucks) (c .lowest .result) < 16
 small c = c .before .before .before .pre .2 (c .lowest .result) (below c)
+
+mul-t : tie.Need-mul-t Inv-loop μ-loop
+mul-t c = omega (arith, below c, c .before .before .before .pre .0)
+
+element-copy-out-t : tie.Need-element-copy-out-t Inv-loop μ-loop
+element-copy-out-t c = omega (arith, below c, c .before .before .before .pre .0)
 
 array-read-values : tie.Need-array-read-values Inv-loop μ-loop
 array-read-values c = small (c .before .before)
@@ -34,7 +40,7 @@ array-write-values : tie.Need-array-write-values Inv-loop μ-loop
 array-write-values c = small (c .before .before .before)
 
 loop-less : tie.Need-loop-less Inv-loop μ-loop
-loop-less c = let i = c .before .before .before .before .lowest in rw (c .rest .ensures, sym (i .ensures .2)) (removed-lt _ _ (i .ensures .1))
+loop-less c = let l = c .before .before .before .before in taken (l .before .loop-test .taken) (l .lowest .ensures) (c .rest .ensures) .less
 
 loop-again : tie.Need-loop-again Inv-loop μ-loop
 loop-again c =
@@ -42,9 +48,9 @@ loop-again c =
     let s = l .before .before .before in
     let i = l .lowest in
     let o = l .before .before .loop in
-    rw (c .before .only .ensures)
-    (sorting-more (s .args .t1 .n) (s .args .senders) (estimates (s .args .t1 .trucks)) (o .inv) (i .result) (below l) (i .ensures .1) (small l) (c .rest .result)
-    (taken-out (o .left) (i .result) _ (c .rest .result) (c .rest .ensures) (i .ensures .2)))
+    let t = taken (l .before .loop-test .taken) (i .ensures) (c .rest .ensures) in
+    rw (c .before .only .ensures ∙ only-is (i .result) (t .below))
+    (sorting-more (s .args .t1 .n) (s .args .senders) (estimates (s .args .t1 .trucks)) (o .inv) (i .result) (below l) (t .held) (small l) (c .rest .result) (t .rest))
 
 returns : tie.Need-returns Inv-loop μ-loop
 returns c =
@@ -59,8 +65,8 @@ by-crusher-spec =
     μ-loop
     loop-holds
     (λ c κs. search needs)
-    (λ c. search needs)
-    (λ c. search needs)
+    mul-t
+    element-copy-out-t
     (λ c. search needs)
     (λ c. search needs)
     array-read-values

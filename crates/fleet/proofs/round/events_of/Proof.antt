@@ -7,6 +7,7 @@ use lib.ListN.{getD}
 use Rattle.basics.specs.Lists.{filled}
 use Rattle.basics.proofs.Laws.{filled-none, fill-step}
 use Rattle.fleet.specs.Rounds.{eventAt, noEvents}
+use Rattle.sets.proofs.Members.{only-is}
 use Rattle.fleet.proofs.Laws.{next-kind}
 use Rattle.fleet.proofs.Airs.{heard-by-own}
 use Rattle.fleet.proofs.round.events_of.Statement.{statement}
@@ -31,7 +32,8 @@ loop-again c =
     let w = a .words .now in
     let o = c .before .before .before .before .before .before .before .before .loop in
     let h = c .before .before .before .heard-by in
-    let heard = heard-by-own (a .senders) (getD w (3 + o .i) 0) (o .i) (c .before .before .before .before .only .result) (h .result) (h .ensures) (c .before .before .before .before .only .ensures) in
+    let heard = heard-by-own (a .senders) (getD w (3 + o .i) 0) (o .i) (c .before .before .before .before .only .result) (h .result) (h .ensures)
+    (c .before .before .before .before .only .ensures ∙ only-is (o .i) (omega (arith, c .before .before .before .before .before .before .before .loop-test .taken, s .pre .0))) in
     let is : c .event-of .result ≡ eventAt f w (a .senders) (a .values .now) (o .i) =
     rw (c .event-of .ensures, c .before .before .holds .ensures, c .before .holds2 .ensures, heard, next-kind (f .done)) in
     (search needs, fill-step (eventAt f w (a .senders) (a .values .now)) noEvents (o .events) (o .i) (o .inv .1) (c .event-of .result) (omega (arith, c .before .before .before .before .before .before .before .loop-test .taken, s .pre .0)) is)

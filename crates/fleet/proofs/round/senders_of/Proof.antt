@@ -7,9 +7,9 @@ use native.Mathlib.Numerals.{add-one}
 use borrow.Author.Needs.{needs}
 use lib.Dec.{eqb}
 use Rattle.protocol.specs.Rules.{truck, runs, vetoes}
-use Rattle.fleet.specs.Sets.{Members}
+use Rattle.sets.specs.Sets.{Members}
 use Rattle.fleet.specs.Rounds.{nextOnAir}
-use Rattle.fleet.proofs.Members.{members-none, members-next}
+use Rattle.sets.proofs.Members.{only-is, members-none, members-next}
 use Rattle.fleet.proofs.Laws.{next-kind}
 use Rattle.fleet.proofs.Turns.{sends-is}
 use Rattle.fleet.proofs.round.senders_of.Statement.{statement}
@@ -26,12 +26,13 @@ loop-holds c = (search needs, members-none 0 _ (λ j l. absurd (omega arith)))
 
 loop-again : tie.Need-loop-again Inv-loop μ-loop
 loop-again c =
-    let a = c .before .before .before .before .before .before .before .before .before .before .args in
-    let o = c .before .before .before .before .before .before .loop in (
+    let s = c .before .before .before .before .before .before .before .before .before .before .before in
+    let a = s .args in
+    let o = c .before .before .before .before .before .before .before .loop in (
       search needs,
-      rw (c .joined .ensures, add-one (o .i)) (members-next (o .inv .1) (c .before .sends .result)
-          (c .before .sends .ensures
-          ∙ ap₂ (λ (x y : Bool). (runs (truck (a .t1 .trucks) (o .i)) && not x) && cond (eqb (a .t1 .done % 2) 0) y (vetoes (truck (a .t1 .trucks) (o .i)))) (c .before .before .before .holds .ensures) (c .before .before .holds2 .ensures)
+      rw (c .joined .ensures, c .before .only .ensures ∙ only-is (o .i) (omega (arith, c .before .before .before .before .before .before .loop-test .taken, s .pre .0)), add-one (o .i)) (members-next (o .inv .1) (c .before .before .sends .result)
+          (c .before .before .sends .ensures
+          ∙ ap₂ (λ (x y : Bool). (runs (truck (a .t1 .trucks) (o .i)) && not x) && cond (eqb (a .t1 .done % 2) 0) y (vetoes (truck (a .t1 .trucks) (o .i)))) (c .before .before .before .before .holds .ensures) (c .before .before .before .holds2 .ensures)
           ∙ sends-is (a .t1) (a .words .now) (o .i) (eqb (a .t1 .done % 2) 0) (next-kind (a .t1 .done)))),
     )
 
@@ -53,6 +54,7 @@ senders-of-spec =
     loop-holds
     (λ c. search needs)
     (λ c. search needs)
+    (λ c κs. search needs)
     (λ c κs. search needs)
     (λ c κs. search needs)
     (λ c κs. search needs)

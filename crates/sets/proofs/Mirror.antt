@@ -14,7 +14,7 @@ use Rattle.basics.specs.Bits.{digit, bit}
 use Rattle.basics.proofs.Bits.{bit-and, bit-or, bit-xor, oneOf}
 use Rattle.bitreader.specs.Bits.{mirrored, rowAt}
 use Rattle.bitreader.proofs.Digits.{mirrored-lt, mirrored-digit, mirrored-add, same-digits}
-use Rattle.words.proofs.Words.{bit-power, bit-zero, same-bits, no-bits}
+use Rattle.sets.proofs.Words.{bit-power, bit-zero, same-bits, no-bits}
 
 pub mirror-bit : (k v j : ℕ) → j < k → bit (mirrored k v) j ≡ bit v (k - suc j)
 mirror-bit k v j h = ap (λ (d : ℕ). eqb d 1) (mirrored-digit k v j h)

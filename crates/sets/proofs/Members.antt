@@ -2,11 +2,13 @@
 use mathlib.Core.Path.{_≡_, refl, ap, ap₂, sym, _∙_}
 use mathlib.Core.Bool.{Bool, true, false, cond, not, _&&_, _||_, and-true, and-false, or-false, true≢false, false≢true}
 use mathlib.Core.List.{List}
-use Prim.Native.Nat.{ℕ, suc, _^_, _≤_, _<_}
+use Prim.Native.Nat.{ℕ, suc, _%_, _^_, _≤_, _<_}
+use native.Mathlib.Nat.{mod-eq-of-lt}
 use native.Mathlib.Decide.{decLt, ℕ-discrete}
 use native.Mathlib.Omega.{arith}
 use borrow.Author.Tests.{eq-eqb, ne-eqb}
 use lib.Bits.{bitAnd, bitOr, bitXor, and-le-l, or-lt, xor-lt}
+use lib.Count.{trailingZeros}
 use lib.Dec.{eqb}
 use lib.Pow.{pow-pos, pow-lt}
 use lib.ListN.{length, getD, set, length-set}
@@ -15,8 +17,8 @@ use Rattle.basics.specs.Bits.{bit}
 use Rattle.basics.specs.Lists.{filled}
 use Rattle.basics.proofs.Laws.{and-left, length-filled, getD-filled, getD-filled-past, filled-ext, filled-same}
 use Rattle.basics.proofs.Bits.{bit-and, bit-or}
-use Rattle.words.proofs.Words.{bit-without, bit-power, bit-high, bit-zero, bit-removed}
-use Rattle.fleet.specs.Sets.{Members}
+use Rattle.sets.proofs.Words.{bit-without, bit-power, bit-high, bit-zero, bit-removed, removed-lt}
+use Rattle.sets.specs.Sets.{Members, restOf, lowestOnly}
 
 pub set-below : (set n : ℕ) → set < 2 ^ n → (j : ℕ) → bit set j ≡ true → j < n
 set-below set n below j h = go (decLt j n)
@@ -25,9 +27,27 @@ set-below set n below j h = go (decLt j n)
     go (yes l) = l
     go (no l) = absurd (true≢false (sym h ∙ bit-high set n j below (omega arith)))
 
--- a set without its lowest truck
-pub taken-out : (set i t rest : ℕ) → rest ≡ bitXor set (2 ^ t) → i ≡ t → rest ≡ bitXor set (2 ^ i)
-taken-out set i t rest e h = e ∙ ap (λ (x : ℕ). bitXor set (2 ^ x)) (sym h)
+-- the lowest truck p is taken out of a set
+pub record Taken (left p left′ : ℕ) : Type 0 where
+  pub below : p < 32
+  pub held : bit left p ≡ true
+  pub rest : left′ ≡ bitXor left (2 ^ p)
+  pub less : left′ < left
+
+pub taken : {left p left′ : ℕ} → (left ≡ 0 → ⊥) → (p ≡ trailingZeros 32 left) × ((left ≡ 0 → ⊥) → (p < 32) × (bit left p ≡ true)) → left′ ≡ restOf left → Taken left p left′
+unfolding restOf
+taken {left} {p} {left′} some (lowest, is) e =
+    let r : left′ ≡ bitXor left (2 ^ p) = e ∙ ap₂ (λ (b : Bool) (i : ℕ). cond b 0 (bitXor left (2 ^ i))) (ne-eqb left 0 some) (sym lowest) in
+    record { below = is some .0; held = is some .1; rest = r; less = rw r (removed-lt left p (is some .1)) }
+
+-- its set
+pub own-taken : {left p own : ℕ} → (left ≡ 0 → ⊥) → p ≡ trailingZeros 32 left → own ≡ lowestOnly left → own ≡ 2 ^ p
+unfolding lowestOnly
+own-taken {left} {p} some lowest e = e ∙ ap₂ (λ (b : Bool) (i : ℕ). cond b 0 (2 ^ i)) (ne-eqb left 0 some) (sym lowest)
+
+-- the set of one truck
+pub only-is : (i : ℕ) → i < 32 → 2 ^ i % 2 ^ 32 ≡ 2 ^ i
+only-is i l = mod-eq-of-lt (pow-lt l)
 
 module _ {set n : ℕ} {p : ℕ → Bool} (m : Members set n p) where
   pub member-below : (j : ℕ) → bit set j ≡ true → j < n

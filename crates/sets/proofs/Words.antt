@@ -15,8 +15,12 @@ use lib.ListN.{length, length-append}
 use Rattle.basics.specs.Bits.{digit, bit}
 use Rattle.basics.specs.Lists.{who}
 use Rattle.basics.proofs.Bits.{digits, bit-and, oneOf, bit-xor}
-use Rattle.air.proofs.Laws.{who-ext}
+use Rattle.basics.proofs.Laws.{who-ext}
 use Rattle.bitreader.proofs.Digits.{digit-lt, digit-mod, same-digits}
+
+pub positive : (n : ℕ) → (n ≡ 0 → ⊥) → 0 < n
+positive zero h = absurd (h refl)
+positive (suc n) h = omega arith
 
 -- the members of a that b lacks
 pub bit-without : (a b j : ℕ) → bit (bitXor a (bitAnd a b)) j ≡ (bit a j && not (bit b j))

@@ -1,4 +1,5 @@
--- One round on the radio, and what a mark is worth (document 01, 'What a mark is worth'). A protocol says who is running and who sends; all else here holds for any of them.
+-- One round on the radio, and what a mark is worth (document 01, 'What a mark is worth').
+-- A protocol says who is running and who sends; all else here holds for any of them.
 use Prim.Native.Nat.{ℕ, suc, _+_, _*_}
 use mathlib.Core.Bool.{Bool, cond, not, _&&_, _||_}
 use mathlib.Core.List.{List}

@@ -107,7 +107,8 @@ fn bit_at(s: &[u8], at: usize) -> u32
     ((s[b] as u32) << (at % 8)) / 128 % 2
 }
 
-// The leaf that gathers bits: everything reads through it. Always 32 bits are gathered, of which the first w are kept: one width keeps it short enough for the compiler to inline.
+// The leaf that gathers bits: everything reads through it. Always 32 bits are gathered, of which the first w are kept:
+// one width keeps it short enough for the compiler to inline.
 pub fn bits_at(s: &[u8], at: usize, k: usize) -> u32
     ensures { λ r. ⌜ r ≡ numAt (bitAt (now (s .entry))) at (bitsRead k) ⌝ }
 {

@@ -1,5 +1,5 @@
--- What each exported function answers, with everything lent as it leaves it, by the answers of the library. The number answered is document 01's number of the refusal, and 0 where
--- nothing is refused; a refusal changes nothing that was lent.
+-- What each exported function answers, with everything lent as it leaves it, by the answers of the library.
+-- The number answered is document 01's number of the refusal, and 0 where nothing is refused; a refusal changes nothing that was lent.
 use Prim.Native.Nat.{ℕ}
 use mathlib.Core.Bool.{cond}
 use mathlib.Core.List.{List, [], _∷_}

@@ -6,7 +6,8 @@ ghost use Prim.Native.Nat.{min};
 ghost use Rattle.refusals.specs.Numbers.{numberOf, outcomeNumber};
 ghost use Rattle.refusals.specs.declared.Outcome.the-variants.{Accepted};
 ghost use Rattle.recording.specs.Checks.{badTrucks};
-ghost use Rattle.ffi.specs.Calls.{openingLeft, openingCall, readLeft, readCall, writeLeft, writeCall, recordLeft, storeCall, runCall, startCall, stepCall, listLeft, listCall, gradeLeft, gradeCall};
+ghost use Rattle.ffi.specs.Calls.{openingLeft, openingCall, readLeft, readCall, writeLeft, writeCall};
+ghost use Rattle.ffi.specs.Calls.{recordLeft, storeCall, runCall, startCall, stepCall, listLeft, listCall, gradeLeft, gradeCall};
 use listing::Listed;
 use plain::ReadOutcome;
 use plain::WriteOutcome;
@@ -36,7 +37,8 @@ pub extern "C" fn rajvokshul_opening(
     seconds: &[u16],
     crusher: &mut u8,
 ) -> u32
-    ensures { λ r. ⌜ openingLeft r (now (crusher .exit)) ≡ openingCall (now (lengths .entry)) (now (metres .entry)) (now (seconds .entry)) (now (crusher .entry)) ⌝ }
+    ensures { λ r. ⌜ openingLeft r (now (crusher .exit))
+        ≡ openingCall (now (lengths .entry)) (now (metres .entry)) (now (seconds .entry)) (now (crusher .entry)) ⌝ }
 {
     let o = roads::opening_crusher(lengths, metres, seconds);
     match o {

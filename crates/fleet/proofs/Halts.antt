@@ -48,7 +48,7 @@ use Rattle.fleet.specs.Grading.{carriedBy, Aired}
 use Rattle.air.specs.Air.{Air}
 use Rattle.protocol.specs.declared.Grades.{Grades}
 use Rattle.fleet.proofs.Graded.{airAfter, grades-next, grades-idle}
-use Rattle.fleet.specs.Standing.{ReadsAs, next, holds, trucksAfter, stateOf, memoryOf, standing, Stands, Proposes, Vetoes, noted, Fresh, Due, Halted}
+use Rattle.fleet.specs.Standing.{ReadsAs, next, holds, trucksAfter, stateOf, memoryOf, standing, truckBy, Stands, Proposes, Vetoes, noted, Fresh, Due, Halted}
 use Rattle.fleet.proofs.Reading.{placeOf, word-here, place-small, place-next}
 use Rattle.fleet.proofs.Places.{read-bit, everyone, everyone-lt, everyone-in, everyone-out, turn-back}
 use Rattle.fleet.proofs.Stood.{runs-is, memory-back, proposal-stands, veto-stands, veto-ended, proposal-aired, veto-aired}
@@ -269,8 +269,7 @@ module _ {s : List ℕ} {last : ℕ} {by ends : List ℕ} {b : Sets} (h : Halted
   heard-then j l false e = refl
 
   pub truck-ended : (j : ℕ) → j < trucksOf s
-      → standing (openingAt s j) (first (wasHeard by (2 ^ (31 - j))) 16) (memoryOf (holds (b .one) j) (holds (b .several) j)) (holds (b .running) j) (holds (b .decided) j) (holds (b .marked) j) (getD ends j 0)
-      ≡ truck (trucksAfter s last) j
+      → truckBy b by (openingAt s j) (getD ends j 0) (31 - j) ≡ truck (trucksAfter s last) j
   truck-ended j l =
       sym (stays j l ∙ h .stands .each j l
       ∙ ap₂ (λ (e : ℕ) (x : Heard). record { opening = openingAt s j; estimate = e; mark = holds (b .running) j && holds (b .marked) j; heard = x; state = stateOf (holds (b .running) j) (holds (b .decided) j) (getD ends j 0) })
@@ -286,7 +285,7 @@ module _ {s : List ℕ} {last : ℕ} {by ends : List ℕ} {b : Sets} (h : Halted
       ap (λ (l : List Truck). record { n = n; done = last; trucks = l }) (ap (λ (g : Fleet). g .trucks) e ∙ sym (filled-none (truck (trucksAfter s last)) (openedTrucks [])))
 
   pub filling-more : (n : ℕ) (f : Fleet) (i : ℕ) (t : Truck) → Filling n f i → i < trucksOf s
-      → t ≡ standing (openingAt s i) (first (wasHeard by (2 ^ (31 - i))) 16) (memoryOf (holds (b .one) i) (holds (b .several) i)) (holds (b .running) i) (holds (b .decided) i) (holds (b .marked) i) (getD ends i 0)
+      → t ≡ truckBy b by (openingAt s i) (getD ends i 0) (31 - i)
       → Filling n (record { n = f .n; done = f .done; trucks = set (f .trucks) i t }) (i + 1)
   filling-more n f i t g l e =
       ap₂ (λ (a : Fleet) (x : List Truck). record { n = a .n; done = a .done; trucks = x }) g

@@ -23,8 +23,8 @@ sentHere values heard c = bitAnd heard (getD values c 0)
 abbrev pub wasHeard : List ℕ → ℕ → ℕ → Bool
 wasHeard values heard c = not (eqb (sentHere values heard c) 0)
 
--- what is known of the values heard, where values holds the senders of each crusher: the first crusher that was heard is the least value, and it is the only one
--- where it was sent by all that were heard; e is the value where none was heard
+-- what is known of the values heard, where values holds the senders of each crusher: the first crusher that was heard is the least value,
+-- and it is the only one where it was sent by all that were heard; e is the value where none was heard
 unfoldable pub valuesOf : List ℕ → ℕ → ℕ → Values
 valuesOf values heard e =
     let c = first (wasHeard values heard) 16 in

@@ -7,7 +7,7 @@ use lib.Bits.{bitAnd, bitOr, bitXor}
 use lib.Dec.{eqb, ltb}
 use lib.ListN.{length, getD}
 use Rattle.basics.specs.Bits.{bit}
-use Rattle.basics.specs.Lists.{filled}
+use Rattle.basics.specs.Lists.{first, filled}
 use Rattle.air.specs.Round.{activeBit}
 use Rattle.refusals.specs.declared.Outcome.the-variants.{Accepted}
 use Rattle.bitreader.specs.Bits.{bitAt, numAt}
@@ -24,7 +24,7 @@ use Rattle.fleet.specs.declared.replay.Proposed.{Proposed}
 use Rattle.fleet.specs.declared.replay.Vetoed.{Vetoed}
 use Rattle.fleet.specs.declared.replay.Sets.{Sets}
 use Rattle.sets.specs.Sets.{Members, without}
-use Rattle.fleet.specs.Sets.{Sorted}
+use Rattle.fleet.specs.Sets.{Sorted, wasHeard}
 use Rattle.fleet.specs.Listens.{rowFrom, heardFrom, settled}
 
 -- truck j is in the set
@@ -50,15 +50,24 @@ abbrev pub standing : ℕ → ℕ → Heard → Bool → Bool → Bool → ℕ �
 standing o e h running decided marked end =
     record { opening = o; estimate = e; mark = running && marked; heard = cond running h Nothing; state = stateOf running decided end }
 
--- the sets say how n trucks with these openings stand after k rounds. What a truck with a mark heard is known after the last round only: it sends a veto whatever it heard
+-- the truck at place p by these sets, the trucks of each crusher, its opening and the round of its end
+abbrev pub truckBy : Sets → List ℕ → ℕ → ℕ → ℕ → Truck
+truckBy b by opening end p =
+    standing opening (first (wasHeard by (2 ^ p)) 16) (memoryOf (bit (b .one) p) (bit (b .several) p))
+    (bit (b .running) p) (bit (b .decided) p) (bit (b .marked) p) end
+
+-- the sets say how n trucks with these openings stand after k rounds. What a truck with a mark heard is known after the last round only:
+-- it sends a veto whatever it heard
 pub record Stands (n last k : ℕ) (opening : ℕ → ℕ) (ts : List Truck) (by ends : List ℕ) (running decided marked one several : ℕ) : Type 0 where
   pub crushers : length by ≡ 16
   pub places : length ends ≡ 32
   pub fits : running < 2 ^ 32
   pub none : (j : ℕ) → n ≤ j → j < 32 → holds running j ≡ false
   pub apart : (j : ℕ) → j < n → holds running j ≡ true → holds decided j ≡ false
-  pub each : (j : ℕ) → j < n → truck ts j ≡ standing (opening j) (truck ts j .estimate) (truck ts j .heard) (holds running j) (holds decided j) (holds marked j) (getD ends j 0)
-  pub heard : (j : ℕ) → j < n → holds running j ≡ true → (holds marked j ≡ true → k ≡ last) → (isOne (truck ts j .heard) ≡ holds one j) × (isSeveral (truck ts j .heard) ≡ holds several j)
+  pub each : (j : ℕ) → j < n
+      → truck ts j ≡ standing (opening j) (truck ts j .estimate) (truck ts j .heard) (holds running j) (holds decided j) (holds marked j) (getD ends j 0)
+  pub heard : (j : ℕ) → j < n → holds running j ≡ true → (holds marked j ≡ true → k ≡ last)
+      → (isOne (truck ts j .heard) ≡ holds one j) × (isSeveral (truck ts j .heard) ≡ holds several j)
   pub sorted : (c : ℕ) → c < 16 → (j : ℕ) → j < 32 → holds (getD by c 0) j ≡ (ltb j n && eqb (truck ts j .estimate) c)
 
 -- the words of a round of n trucks stand packed at a place
@@ -89,8 +98,10 @@ pub record Proposes (s : List ℕ) (at n left running : ℕ) (by by′ : List �
   pub going : r .going ≡ goingOn s at running
   pub senders : r .senders ≡ proposersOf s at n running
   pub mark : r .mark ≡ wordFrom s (at + 2 * n)
-  pub one : Members (r .one) 32 (λ p. bit (wantedOf s at n left running) p && isOne (heardFrom s (at + 3 * n) n (proposersOf s at n running) by p .heard))
-  pub several : Members (r .several) 32 (λ p. bit (wantedOf s at n left running) p && isSeveral (heardFrom s (at + 3 * n) n (proposersOf s at n running) by p .heard))
+  pub one : Members (r .one) 32
+      (λ p. bit (wantedOf s at n left running) p && isOne (heardFrom s (at + 3 * n) n (proposersOf s at n running) by p .heard))
+  pub several : Members (r .several) 32
+      (λ p. bit (wantedOf s at n left running) p && isSeveral (heardFrom s (at + 3 * n) n (proposersOf s at n running) by p .heard))
   pub taking : List ℕ
   pub sorted : Sorted taking 32 (wantedOf s at n left running) (λ p. heardFrom s (at + 3 * n) n (proposersOf s at n running) by p .least)
   pub took : by′ ≡ filled (settled by taking (without (bitOr (r .one) (r .several)) (r .mark))) 16 by
@@ -107,7 +118,8 @@ pub record Vetoes (s : List ℕ) (at n running marked one several : ℕ) (r : Ve
   pub going : r .going ≡ goingOn s at running
   pub senders : r .senders ≡ vetoersOf s at running marked several
   pub mark : r .mark ≡ wordFrom s (at + 2 * n)
-  pub done : Members (r .done) 32 (λ p. bit (mayOf s at n running marked one) p && eqb (without (vetoersOf s at running marked several) (rowFrom s (at + 3 * n) n p)) 0)
+  pub done : Members (r .done) 32
+      (λ p. bit (mayOf s at n running marked one) p && eqb (without (vetoersOf s at running marked several) (rowFrom s (at + 3 * n) n p)) 0)
   pub on : r .on ≡ bitXor (goingOn s at running) (r .done)
 
 -- the end of truck j, where those of a set come to their end in round k

@@ -1,4 +1,5 @@
-// A recording run from its bytes by sets in packed order, truck j at the bit worth 2 to the 31 - j: proposal rounds and veto rounds hand on to each other, each with one round fewer left.
+// A recording run from its bytes by sets in packed order, truck j at the bit worth 2 to the 31 - j: proposal rounds and veto rounds hand on
+// to each other, each with one round fewer left.
 use crate::grading::judged;
 use crate::hearing::first_heard;
 use crate::listening::deciding;
@@ -22,7 +23,7 @@ ghost use Rattle.recording.specs.Checks.{frameCheck};
 ghost use Rattle.protocol.specs.declared.Heard.the-variants.{Nothing};
 ghost use Rattle.fleet.specs.Sets.{Sorted, wasHeard};
 ghost use Rattle.fleet.specs.Replays.{fleetAfter, gradesAfter};
-ghost use Rattle.fleet.specs.Standing.{stateOf, memoryOf, standing, unreadOf, Proposes, Vetoes, noted, Due, Halted};
+ghost use Rattle.fleet.specs.Standing.{stateOf, memoryOf, truckBy, unreadOf, Proposes, Vetoes, noted, Due, Halted};
 
 // Those that go on after a proposal round's stops, its senders and marks, and who heard one value and who several.
 pub struct Proposed {
@@ -144,7 +145,8 @@ fn proposals(
     grades: Grades,
 ) -> Sets
     requires { ⌜ Due (now s) at n left k (now by) (now ends) running decided 0 0 0 until × ((odd k ≡ false) × (grades ≡ gradesAfter (now s) judging k)) ⌝ }
-    ensures { λ r. ⌜ Halted (now (s .entry)) (k + left) (now (by .exit)) (now (ends .exit)) until r × (r .grades ≡ gradesAfter (now (s .entry)) judging (r .done)) ⌝ }
+    ensures { λ r. ⌜ Halted (now (s .entry)) (k + left) (now (by .exit)) (now (ends .exit)) until r
+        × (r .grades ≡ gradesAfter (now (s .entry)) judging (r .done)) ⌝ }
 {
     if (left == 0) | (running == 0) | (decided & until != 0) {
         return Sets {
@@ -207,8 +209,10 @@ fn vetoes(
     judging: bool,
     grades: Grades,
 ) -> Sets
-    requires { ⌜ Due (now s) at n left k (now by) (now ends) running decided marked one several until × ((odd k ≡ true) × (grades ≡ gradesAfter (now s) judging k)) ⌝ }
-    ensures { λ r. ⌜ Halted (now (s .entry)) (k + left) (now (by .exit)) (now (ends .exit)) until r × (r .grades ≡ gradesAfter (now (s .entry)) judging (r .done)) ⌝ }
+    requires { ⌜ Due (now s) at n left k (now by) (now ends) running decided marked one several until
+        × ((odd k ≡ true) × (grades ≡ gradesAfter (now s) judging k)) ⌝ }
+    ensures { λ r. ⌜ Halted (now (s .entry)) (k + left) (now (by .exit)) (now (ends .exit)) until r
+        × (r .grades ≡ gradesAfter (now (s .entry)) judging (r .done)) ⌝ }
 {
     if (left == 0) | (running == 0) | (decided & until != 0) {
         return Sets {
@@ -280,7 +284,7 @@ fn heard_of(running: bool, one: bool, several: bool) -> Heard
 // The truck at place p.
 fn truck_of(b: Sets, by: &[u32; 16], opening: u8, end: u16, p: usize) -> Truck
     requires { ⌜ p < 32 ⌝ }
-    ensures { λ r. ⌜ r ≡ standing opening (first (wasHeard (now (by .entry)) (2 ^ p)) 16) (memoryOf (bit (b .one) p) (bit (b .several) p)) (bit (b .running) p) (bit (b .decided) p) (bit (b .marked) p) end ⌝ }
+    ensures { λ r. ⌜ r ≡ truckBy b (now (by .entry)) opening end p ⌝ }
 {
     let running = sets::holds(b.running, p);
     let heard = heard_of(running, sets::holds(b.one, p), sets::holds(b.several, p));
@@ -339,7 +343,8 @@ fn everyone(n: usize) -> u32
 // All rounds of a recording whose frame is good.
 pub(crate) fn replay(s: &[u8], judging: bool) -> Course
     requires { ⌜ frameCheck (now s) ≡ Accepted ⌝ }
-    ensures { λ r. ⌜ (r .fleet ≡ fleetAfter (now (s .entry)) (roundsOf (now (s .entry)))) × (r .grades ≡ gradesAfter (now (s .entry)) judging (roundsOf (now (s .entry)))) ⌝ }
+    ensures { λ r. ⌜ (r .fleet ≡ fleetAfter (now (s .entry)) (roundsOf (now (s .entry))))
+        × (r .grades ≡ gradesAfter (now (s .entry)) judging (roundsOf (now (s .entry)))) ⌝ }
 {
     let trucks = recording::truck_count(s);
     let rounds = recording::round_count(s);

@@ -1,5 +1,5 @@
--- The rules of the two-round cycle (document 01, 'The fleet and its rounds'): odd rounds are for proposals, even rounds for vetoes. Their laws are in proofs/Rules
--- and, for lists of values, in proofs/Values.
+-- The rules of the two-round cycle (document 01, 'The fleet and its rounds'): odd rounds are for proposals, even rounds for vetoes.
+-- Their laws are in proofs/Rules and, for lists of values, in proofs/Values.
 use Prim.Native.Nat.{ℕ, min}
 use mathlib.Core.Bool.{Bool, true, false, cond, not, _&&_, _||_}
 use mathlib.Core.List.{List, [], _∷_}
@@ -81,8 +81,8 @@ vetoed k m veto t =
       state = cond (decides m veto t) (Decided k) (t .state);
     }
 
--- the rules of the two-round cycle: in odd rounds a truck sends its estimate if it is active, in even rounds its veto if it has one; whoever is heard in an even
--- round sent a veto, so a truck heard a veto if it heard anybody
+-- the rules of the two-round cycle: in odd rounds a truck sends its estimate if it is active, in even rounds its veto if it has one;
+-- whoever is heard in an even round sent a veto, so a truck heard a veto if it heard anybody
 abbrev pub twoRules : Rules recorded
 twoRules =
     record {

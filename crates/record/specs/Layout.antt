@@ -1,5 +1,5 @@
--- A fleet record as 227 bytes, for callers in other languages: n, the rounds done (low byte first), then seven bytes for each of 32 places: opening, estimate, mark, what the truck
--- heard, its state, and the round of its stop or decision (low byte first; 0 for a running truck).
+-- A fleet record as 227 bytes, for callers in other languages: n, the rounds done (low byte first), then seven bytes for each of 32 places:
+-- opening, estimate, mark, what the truck heard, its state, and the round of its stop or decision (low byte first; 0 for a running truck).
 use Prim.Native.Nat.{ℕ, _+_, _*_, _-_, _/_, _%_}
 use mathlib.Core.Bool.{Bool, cond, _&&_, _||_}
 use mathlib.Core.List.{List, [], _∷_}

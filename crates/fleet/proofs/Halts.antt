@@ -316,9 +316,10 @@ module _ (s : List ℕ) (good : frameCheck s ≡ Accepted) (n : ℕ) (count : n 
   opening-truck j l =
       opened-truck twoRules (trucksOf s) (openingsOf s) (roundAt s) j (omega (arith, frame-good s good .most)) ∙ ap opened (getD-tab (openingAt s) (trucksOf s) j 0 l)
 
-  pub first-due : (rounds all until : ℕ) (by : List ℕ) → rounds ≡ roundsOf s → all ≡ everyone n → Sorted by 32 all (λ p. openingAt s (31 - p)) × (length by ≡ 16)
+  -- any number of rounds up to 400 may be asked for
+  pub first-due : {rounds : ℕ} (all until : ℕ) (by : List ℕ) → rounds ≤ 400 → all ≡ everyone n → Sorted by 32 all (λ p. openingAt s (31 - p)) × (length by ≡ 16)
       → Due s (16 + 4 * n) n rounds 0 by (replicate 32 0) all 0 0 0 0 until
-  first-due rounds all until by er ea (sorted, long) =
+  first-due {rounds} all until by most ea (sorted, long) =
       record {
         good = good;
         stands = record {
@@ -334,7 +335,7 @@ module _ (s : List ℕ) (good : frameCheck s ≡ Accepted) (n : ℕ) (count : n 
           sorted = λ c lc j l.
               sorted c lc .each (31 - j) (omega arith) ∙ ap (λ (x : ℕ). holds all j && eqb (openingAt s x) c) (turn-back j l) ∙ go c j l (decLt j (trucksOf s));
         };
-        most = omega (arith, er, first-few .1);
+        most = omega arith;
         count = count;
         place = omega arith;
         fresh = λ j l h. absurd (true≢false (sym h ∙ ap (λ (x : ℕ). holds x j) (and-zero-l until) ∙ bit-zero (31 - j)));

@@ -21,7 +21,7 @@ ghost use Rattle.refusals.specs.declared.Outcome.the-variants.{Accepted};
 ghost use Rattle.recording.specs.Packed.{trucksOf, roundsOf, openingAt};
 ghost use Rattle.recording.specs.Checks.{frameCheck};
 ghost use Rattle.protocol.specs.declared.Heard.the-variants.{Nothing};
-ghost use Rattle.fleet.specs.Sets.{Sorted, wasHeard};
+ghost use Rattle.fleet.specs.Sets.{Sorted};
 ghost use Rattle.fleet.specs.Replays.{fleetAfter, gradesAfter};
 ghost use Rattle.fleet.specs.Standing.{stateOf, memoryOf, truckBy, unreadOf, Proposes, Vetoes, noted, Due, Halted};
 

@@ -1,7 +1,10 @@
 -- `step` meets its contract.
-use mathlib.Core.Path.{sym, _∙_}
+use mathlib.Core.Path.{ap, sym, _∙_}
 use borrow.Author.Needs.{needs}
-use Rattle.protocol.specs.Fleets.{steppedIn}
+use Rattle.refusals.specs.declared.Outcome.{Outcome}
+use Rattle.refusals.specs.declared.Outcome.the-variants.{Accepted}
+use Rattle.protocol.specs.declared.Fleet.{Fleet}
+use Rattle.protocol.specs.Fleets.{answer, nextFleet, steppedIn}
 use Rattle.fleet.proofs.step.Statement.{statement}
 use Rattle.fleet.proofs.step.Tie as tie
 
@@ -10,7 +13,11 @@ next-fleet-requires c κs = sym (c .before .before .check-step .ensures) ∙ c .
 
 returns : tie.Need-returns
 unfolding steppedIn
-returns c = rw (sym (c .before .before .before .check-step .ensures) ∙ c .before .enum-told .given .1, c .next-fleet .ensures)
+returns c =
+    let k = c .before .before .before .check-step in
+    let a = c .before .before .before .before .before .args in
+    ap (λ (g : Fleet). answer Accepted g (a .f)) (c .next-fleet .ensures)
+    ∙ ap (λ (o : Outcome). answer o (nextFleet (a .f) (a .words .now)) (a .f)) (sym (sym (k .ensures) ∙ c .before .enum-told .given .1))
 
 returns-2 : tie.Need-returns-2
 unfolding steppedIn

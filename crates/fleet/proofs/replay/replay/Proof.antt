@@ -3,6 +3,7 @@ use mathlib.Core.Path.{refl, ap, subst, _∙_}
 use Prim.Native.Nat.{ℕ, _+_}
 use mathlib.Core.List.{List}
 use native.Mathlib.Nat.{zero-add}
+use native.Mathlib.Omega.{arith}
 use borrow.Author.Needs.{needs}
 use Rattle.fleet.specs.declared.replay.Sets.{Sets}
 use Rattle.fleet.specs.Replays.{fleetAfter, gradesAfter}
@@ -26,7 +27,7 @@ proposals-requires c κs =
     let r = c .before .before .before .before .round-count in
     let all = c .before .before .before .everyone in
     let by = c .before .before .openers in
-    (first-due (z .args .s .now) (z .pre) (n .result) (n .ensures) (r .result) (all .result) 0 (by .result) (r .ensures) (all .ensures) (by .ensures), (refl, grades-none (z .args .s .now) (z .args .judging)))
+    (first-due (z .args .s .now) (z .pre) (n .result) (n .ensures) (all .result) 0 (by .result) (omega (arith, r .ensures, first-few (z .args .s .now) (z .pre) (n .result) (n .ensures) .1)) (all .ensures) (by .ensures), (refl, grades-none (z .args .s .now) (z .args .judging)))
 
 fleet-of-requires : tie.Need-fleet-of-requires
 fleet-of-requires c κs =

@@ -2,6 +2,8 @@
 
 use oracle::{Fleet, Heard, State, Truck};
 
+pub mod inputs;
+
 mod raw {
     extern "C" {
         pub fn rajvokshul_opening(

@@ -1,0 +1,52 @@
+//! The inputs that are measured: each is what its name says, and the library, the independent reading and the fast one come to the same on it.
+
+use checks::{inputs, record_bytes, RECORD};
+use oracle::fast;
+use std::collections::BTreeSet;
+
+/// Running, grading, reading and writing of an accepted recording.
+fn same(bytes: &[u8]) {
+    let (number, fleet) = oracle::run(bytes);
+    assert_eq!((number, fleet), fast::run(bytes));
+    let mut record = [0; RECORD];
+    assert_eq!((number, checks::run(bytes, &mut record)), (0, 0));
+    assert_eq!(record, record_bytes(&fleet));
+
+    let expected = oracle::grade(bytes).unwrap();
+    assert_eq!(Ok(expected), fast::grade(bytes));
+    let mut grades = [0; 4];
+    assert_eq!((checks::grade(bytes, &mut grades), grades), (0, expected));
+
+    let plain = oracle::read(bytes).unwrap();
+    assert_eq!(Ok(&plain), fast::read(bytes).as_ref());
+    let (mut openings, mut words) = (vec![0; plain.n], vec![0; plain.words.len()]);
+    let (mut n, mut rounds) = (0, 0);
+    assert_eq!(checks::read(bytes, &mut openings, &mut words, &mut n, &mut rounds), 0);
+    assert_eq!((n as usize, rounds as usize), (plain.n, plain.rounds));
+    assert_eq!((&openings, &words), (&plain.openings, &plain.words));
+
+    let mut back = vec![0; bytes.len()];
+    let mut written = 0;
+    assert_eq!(checks::write(n, rounds, &openings, &words, &mut back, &mut written), 0);
+    assert_eq!((&back[..], written), (bytes, bytes.len()));
+}
+
+#[test]
+fn measured_recordings() {
+    let all: Vec<_> = inputs::largest().into_iter().chain(inputs::sizes()).collect();
+    assert_eq!(all.iter().map(|input| &input.what).collect::<BTreeSet<_>>().len(), 27);
+    all.iter().for_each(|input| same(&input.bytes));
+}
+
+#[test]
+fn measured_steps() {
+    let all = inputs::steps();
+    assert_eq!(all.len(), 6);
+    for input in &all {
+        let (number, next) = oracle::step(&input.fleet, &input.words);
+        assert_eq!((number, next), fast::step(&input.fleet, &input.words));
+        let mut record = record_bytes(&input.fleet);
+        assert_eq!(u32::from(number), checks::step(&mut record, &input.words));
+        assert_eq!(record, record_bytes(&next));
+    }
+}

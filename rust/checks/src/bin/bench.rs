@@ -1,8 +1,8 @@
 //! The library and the fast plain Rust reading side by side, in one process, on the same inputs. Prints a table; nothing here is a test.
 
-use checks::RECORD;
-use oracle::gen::{self, Rng};
-use oracle::{fast, Header};
+use checks::inputs::{self, Input, Step};
+use checks::{record_bytes, RECORD};
+use oracle::{fast, gen, Plain};
 use std::hint::black_box;
 use std::time::Instant;
 
@@ -64,58 +64,64 @@ impl Table {
     }
 }
 
-/// Running, grading, reading and writing one recording.
-fn recording(table: &mut Table, what: &str, bytes: &[u8]) {
-    let plain = fast::read(bytes).expect("an accepted recording");
-    let rounds = plain.rounds;
+fn run(table: &mut Table, input: &Input, rounds: usize) {
     let mut record = [0u8; RECORD];
     table.row(
-        &format!("run, {what}"),
+        &format!("run, {}", input.what),
         rounds,
         times(
             || {
-                black_box(checks::run(black_box(bytes), &mut record));
+                black_box(checks::run(black_box(&input.bytes), &mut record));
             },
             || {
-                black_box(fast::run(black_box(bytes)));
+                black_box(fast::run(black_box(&input.bytes)));
             },
         ),
     );
+}
+
+fn grade(table: &mut Table, input: &Input, rounds: usize) {
     let mut grades = [0u16; 4];
     table.row(
-        &format!("grade, {what}"),
+        &format!("grade, {}", input.what),
         rounds,
         times(
             || {
-                black_box(checks::grade(black_box(bytes), &mut grades));
+                black_box(checks::grade(black_box(&input.bytes), &mut grades));
             },
             || {
-                black_box(fast::grade(black_box(bytes)).ok());
+                black_box(fast::grade(black_box(&input.bytes)).ok());
             },
         ),
     );
+}
+
+fn read(table: &mut Table, input: &Input, rounds: usize) {
     let mut openings = [0u8; 32];
     let mut words = vec![0u32; 400 * 35];
     let (mut plain_openings, mut plain_words) = (openings, words.clone());
     let (mut n, mut r) = (0, 0);
     table.row(
-        &format!("read, {what}"),
+        &format!("read, {}", input.what),
         rounds,
         times(
             || {
-                black_box(checks::read(black_box(bytes), &mut openings, &mut words, &mut n, &mut r));
+                black_box(checks::read(black_box(&input.bytes), &mut openings, &mut words, &mut n, &mut r));
             },
             || {
-                black_box(fast::read_into(black_box(bytes), &mut plain_openings, &mut plain_words).ok());
+                black_box(fast::read_into(black_box(&input.bytes), &mut plain_openings, &mut plain_words).ok());
             },
         ),
     );
-    let mut buffer = vec![0u8; bytes.len()];
+}
+
+fn write(table: &mut Table, input: &Input, plain: &Plain) {
+    let mut buffer = vec![0u8; input.bytes.len()];
     let mut plain_buffer = buffer.clone();
     let mut written = 0;
     table.row(
-        &format!("write, {what}"),
-        rounds,
+        &format!("write, {}", input.what),
+        plain.rounds,
         times(
             || {
                 let (n, r) = (plain.n as u32, plain.rounds as u32);
@@ -129,65 +135,35 @@ fn recording(table: &mut Table, what: &str, bytes: &[u8]) {
     );
 }
 
-/// A recording of n trucks and R rounds in which trucks keep running: lossy, with marks, and nobody stops.
-fn busy(seed: u64, n: usize, rounds: usize) -> Vec<u8> {
-    let mut rng = Rng::new(seed);
-    let habits = gen::Habits { stop: 0, active: 128, mark: 40, veto_mark: 250, loss: 60, ..gen::habits(&mut rng) };
-    let openings: Vec<u8> = (0..n).map(|_| rng.below(16) as u8).collect();
-    let mut words = Vec::new();
-    for k in 1..=rounds {
-        words.extend(gen::round(&mut rng, n, k, &habits));
-    }
-    oracle::write(n as u64, rounds as u64, &openings, &words).expect("valid rounds")
+/// Running, grading, reading and writing one recording.
+fn recording(table: &mut Table, input: &Input) {
+    let plain = fast::read(&input.bytes).expect("an accepted recording");
+    run(table, input, plain.rounds);
+    grade(table, input, plain.rounds);
+    read(table, input, plain.rounds);
+    write(table, input, &plain);
 }
 
-/// A largest recording in which nobody but truck 0 has a mark, in proposal rounds only: its veto, which all hear, keeps all trucks running, and every row is needed.
-fn one_vetoes(seed: u64) -> Vec<u8> {
-    let mut rng = Rng::new(seed);
-    let openings: Vec<u8> = (0..32).map(|_| rng.below(16) as u8).collect();
-    let mut words = Vec::new();
-    for k in 1..=400 {
-        let proposals = k % 2 == 1;
-        words.extend([0, if proposals { u32::MAX } else { 0 }, u32::from(proposals)]);
-        for i in 0..32 {
-            words.push((1..32).filter(|j| *j != i && rng.below(256) < 60).fold(0u32, |row, j| row | 1 << j));
-        }
-    }
-    oracle::write(32, 400, &openings, &words).expect("valid rounds")
-}
-
-/// One pass over all inputs.
-fn pass(table: &mut Table) {
-    table.next = 0;
-    recording(table, "32 trucks, 400 rounds, all running", &busy(1, 32, 400));
-    recording(table, "32 trucks, 400 rounds, one truck vetoes", &one_vetoes(5));
-    let quiet = oracle::write(32, 400, &[7; 32], &vec![0; 400 * 35]).expect("a silent recording");
-    recording(table, "32 trucks, 400 silent rounds", &quiet);
-    let mut rng = Rng::new(2);
-    recording(table, "32 trucks, 400 rounds, random", &gen::largest(&mut rng));
-    for n in [1, 2, 4, 8, 16, 24, 32] {
-        recording(table, &format!("{n} trucks, 200 rounds"), &busy(3, n, 200));
-    }
-    for rounds in [1, 10, 50, 100, 400] {
-        recording(table, &format!("16 trucks, {rounds} rounds"), &busy(4, 16, rounds));
-    }
-    let plain = gen::plain_of_size(&mut rng, Header { n: 32, rounds: 1 });
-    let mut record = [0u8; RECORD];
-    checks::start(32, &plain.openings, &mut record);
-    let (_, fleet) = oracle::start(32, &plain.openings);
+/// One step on bytes. The record is copied for each call.
+fn step(table: &mut Table, input: &Step) {
+    let record = record_bytes(&input.fleet);
     table.row(
-        "step, 32 trucks",
+        &format!("step, {}", input.what),
         1,
         times(
             || {
                 let mut d = record;
-                black_box(checks::step(black_box(&mut d), &plain.words));
+                black_box(checks::step(black_box(&mut d), &input.words));
             },
             || {
-                black_box(fast::step(black_box(&fleet), &plain.words));
+                black_box(fast::step(black_box(&input.fleet), &input.words));
             },
         ),
     );
+}
+
+/// An opening crusher by 16 roads.
+fn opening(table: &mut Table) {
     let roads = gen::Roads::of(&(0..16).map(|k| (900 + k, 300 + 7 * k, 60 + 3 * k)).collect::<Vec<_>>());
     let mut crusher = 0;
     table.row(
@@ -205,9 +181,15 @@ fn pass(table: &mut Table) {
 }
 
 fn main() {
+    let mut recordings = inputs::largest();
+    recordings.extend(inputs::sizes());
+    let steps = inputs::steps();
     let mut table = Table::default();
     for _ in 0..5 {
-        pass(&mut table);
+        table.next = 0;
+        recordings.iter().for_each(|input| recording(&mut table, input));
+        steps.iter().for_each(|input| step(&mut table, input));
+        opening(&mut table);
     }
     table.print();
 }

@@ -35,6 +35,12 @@ fn times(mut ours: impl FnMut(), mut plain: impl FnMut()) -> (f64, f64) {
     least
 }
 
+/// Nanoseconds as microseconds, with a place more where there is less than one.
+fn microseconds(time: f64) -> String {
+    let places = if time < 1000.0 { 3 } else { 2 };
+    format!("{:.places$}", time / 1000.0)
+}
+
 /// The table's rows. A further pass over the same inputs keeps the least times, since a slow spell of the machine may outlast a row.
 #[derive(Default)]
 struct Table {
@@ -59,7 +65,7 @@ impl Table {
         println!("|---|---|---|---|---|");
         for (what, rounds, ours, plain) in &self.rows {
             let each = if *rounds == 0 { String::new() } else { format!("{:.1}", ours / *rounds as f64) };
-            println!("| {what} | {:.2} | {:.2} | {:.2} | {each} |", ours / 1000.0, plain / 1000.0, ours / plain);
+            println!("| {what} | {} | {} | {:.2} | {each} |", microseconds(*ours), microseconds(*plain), ours / plain);
         }
     }
 }

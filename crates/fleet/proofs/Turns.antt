@@ -65,7 +65,7 @@ module _ (f : Fleet) (w : List ℕ) where
   unfolding airIn
   sends-is i proposals o = rw o
 
-  module _ (senders : ℕ) (values : List ℕ) (sends : Members senders n (air .sends)) (sorted : Sorted values n senders (estimates ts)) (small : (j : ℕ) → j < n → estimates ts j < 16) where
+  module _ (senders : ℕ) (values : List ℕ) (sends : Members senders n (air .sends)) (sorted : odd k ≡ true → Sorted values n senders (estimates ts)) (small : (j : ℕ) → j < n → estimates ts j < 16) where
     module _ (i : ℕ) (l : i < n) where
       abbrev heardSenders : ℕ
       heardSenders = heardSet senders (getD w (3 + i) 0) i
@@ -74,11 +74,11 @@ module _ (f : Fleet) (w : List ℕ) where
       unfolding airIn
       heard-is = hearers air i senders (getD w (3 + i) 0) sends (λ j lj s. refl)
 
-      values-are : valuesOf values heardSenders (estimates ts i)
+      values-are : odd k ≡ true → valuesOf values heardSenders (estimates ts i)
           ≡ record { heard = different (valuesHeard air ts i); least = leastOr (estimates ts i) (valuesHeard air ts i) }
       unfolding valuesIn heardBy airIn
-      values-are =
-          values-right values n senders heardSenders (estimates ts i) (estimates ts) sorted (heard-is .below)
+      values-are o =
+          values-right values n senders heardSenders (estimates ts i) (estimates ts) (sorted o) (heard-is .below)
           (λ j h. sends .each j (member-below heard-is j h) ∙ hears-sends air i j (member-has heard-is j h)) (λ j lj s. small j lj)
           ∙ ap (λ (js : List ℕ). record { heard = different (map (estimates ts) js); least = leastOr (estimates ts i) (map (estimates ts) js) }) (sym (who-members heard-is))
 
@@ -95,7 +95,7 @@ module _ (f : Fleet) (w : List ℕ) where
               → happened k (eventOf p b (markBit w i) heardSenders values (estimates ts i)) (truck ts i) ≡ cond b (stops k (truck ts i)) (plays air k w ts i)
           go true p o = refl
           go false true o =
-              ap (λ (v : Values). proposed (markBit w i) (v .heard) (v .least) (truck ts i)) values-are
+              ap (λ (v : Values). proposed (markBit w i) (v .heard) (v .least) (truck ts i)) (values-are o)
               ∙ sym (plays-proposal n (activeBit w) k w ts i o)
           go false false o =
               ap (λ (b : Bool). vetoed k (markBit w i) b (truck ts i)) (sym any-heard)

@@ -5,10 +5,11 @@ use protocol::Fleet;
 use protocol::Truck;
 use truck::Event;
 ghost use mathlib.Core.Path.{_≡_};
-ghost use mathlib.Core.Bool.{cond, not, _&&_};
+ghost use mathlib.Core.Bool.{true, cond, not, _&&_};
 ghost use Prim.Native.Nat.{ℕ, _<_, _≤_, _^_, _+_};
 ghost use lib.ListN.{length};
 ghost use Rattle.refusals.specs.declared.Outcome.the-variants.{Accepted};
+ghost use Rattle.basics.specs.Bits.{odd};
 ghost use Rattle.basics.specs.Lists.{filled};
 ghost use Rattle.protocol.specs.Rules.{runs, vetoes};
 ghost use Rattle.protocol.specs.Fleets.{stepCheck, nextFleet};
@@ -59,6 +60,17 @@ fn by_crusher(f: Fleet, senders: u32) -> [u32; 16]
         left = sets::rest(left);
     }
     values
+}
+
+// The senders of each crusher in a proposal round. Nobody asks for them in a veto round, which takes them for none.
+fn values_sent(f: Fleet, senders: u32) -> [u32; 16]
+    requires { ⌜ (f .n ≤ 32) × (senders < 2 ^ f .n) × ((j : ℕ) → j < f .n → estimates (f .trucks) j < 16) ⌝ }
+    ensures { λ r. ⌜ (odd (f .done + 1) ≡ true → Sorted r (f .n) senders (estimates (f .trucks))) ⌝ }
+{
+    if f.done % 2 == 0 {
+        return by_crusher(f, senders);
+    }
+    [0u32; 16]
 }
 
 // What a round is to a truck, by its stop bit, its mark, the senders it hears and those of each crusher.
@@ -124,7 +136,7 @@ pub(crate) fn next_fleet(f: Fleet, words: &[u32]) -> Fleet
     ensures { λ r. ⌜ r ≡ nextFleet f (now (words .entry)) ⌝ }
 {
     let senders = senders_of(f, words);
-    let values = by_crusher(f, senders);
+    let values = values_sent(f, senders);
     let events = events_of(f, words, senders, &values);
     let round = f.done + 1;
     let mut fleet = truck::update_first(f, f.n as usize, round, events);

@@ -1,6 +1,6 @@
 //! The exported functions as they are, and fleet records as the bytes that cross the boundary.
 
-use oracle::{Fleet, Heard, State, Truck};
+use oracle::{fast, Fleet, Heard, State, Truck};
 
 pub mod inputs;
 
@@ -157,6 +157,49 @@ pub fn record_bytes(f: &Fleet) -> [u8; RECORD] {
         d[3 + 7 * i..10 + 7 * i].copy_from_slice(&truck_bytes(t));
     }
     d
+}
+
+/// The truck that seven bytes hold, where they hold one.
+fn truck_of(b: &[u8]) -> Option<Truck> {
+    let round = u16::from_le_bytes([b[5], b[6]]);
+    let heard = match b[3] {
+        0 => Heard::Nothing,
+        1 => Heard::One,
+        2 => Heard::Several,
+        _ => return None,
+    };
+    let state = match b[4] {
+        0 if round == 0 => State::Running,
+        1 => State::Stopped(round),
+        2 => State::Decided(round),
+        _ => return None,
+    };
+    (b[2] <= 1).then_some(Truck { opening: b[0], estimate: b[1], mark: b[2] == 1, heard, state })
+}
+
+/// A step on a record of bytes in plain Rust: what `step` does, for measuring beside it.
+pub fn plain_step(d: &mut [u8; RECORD], words: &[u32]) -> u8 {
+    let n = usize::from(d[0]);
+    if n == 0 || n > 32 {
+        return 7;
+    }
+    let mut fleet = Fleet::blank();
+    fleet.n = d[0];
+    fleet.done = u16::from_le_bytes([d[1], d[2]]);
+    for (t, b) in fleet.trucks[..n].iter_mut().zip(d[3..].chunks_exact(7)) {
+        match truck_of(b) {
+            Some(truck) => *t = truck,
+            None => return 7,
+        }
+    }
+    let (number, next) = fast::step(&fleet, words);
+    if number == 0 {
+        d[1..3].copy_from_slice(&next.done.to_le_bytes());
+        for (t, b) in next.trucks[..n].iter().zip(d[3..].chunks_exact_mut(7)) {
+            b.copy_from_slice(&truck_bytes(t));
+        }
+    }
+    number
 }
 
 /// How often a test repeats: the environment variable CHECKS multiplies it for longer runs.

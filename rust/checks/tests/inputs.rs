@@ -48,5 +48,7 @@ fn measured_steps() {
         let mut record = record_bytes(&input.fleet);
         assert_eq!(u32::from(number), checks::step(&mut record, &input.words));
         assert_eq!(record, record_bytes(&next));
+        let mut plain = record_bytes(&input.fleet);
+        assert_eq!((checks::plain_step(&mut plain, &input.words), plain), (number, record));
     }
 }

@@ -1,7 +1,7 @@
 //! The library and the fast plain Rust reading side by side, in one process, on the same inputs. Prints a table; nothing here is a test.
 
 use checks::inputs::{self, Input, Step};
-use checks::{record_bytes, RECORD};
+use checks::{plain_step, record_bytes, RECORD};
 use oracle::{fast, gen, Plain};
 use std::hint::black_box;
 use std::time::Instant;
@@ -150,22 +150,22 @@ fn recording(table: &mut Table, input: &Input) {
     write(table, input, &plain);
 }
 
-/// One step on bytes. The record is copied for each call.
+/// One step, bytes to bytes on both sides; and beside plain Rust's step of a record that needs no bytes. The record is copied for each call.
 fn step(table: &mut Table, input: &Step) {
     let record = record_bytes(&input.fleet);
-    table.row(
-        &format!("step, {}", input.what),
-        1,
-        times(
-            || {
-                let mut d = record;
-                black_box(checks::step(black_box(&mut d), &input.words));
-            },
-            || {
-                black_box(fast::step(black_box(&input.fleet), &input.words));
-            },
-        ),
-    );
+    let ours = || {
+        let mut d = record;
+        black_box(checks::step(black_box(&mut d), &input.words));
+    };
+    let on_bytes = || {
+        let mut d = record;
+        black_box(plain_step(black_box(&mut d), &input.words));
+    };
+    table.row(&format!("step, {}", input.what), 1, times(ours, on_bytes));
+    let on_record = || {
+        black_box(fast::step(black_box(&input.fleet), &input.words));
+    };
+    table.row(&format!("step, {}, plain Rust without bytes", input.what), 1, times(ours, on_record));
 }
 
 /// An opening crusher by 16 roads.

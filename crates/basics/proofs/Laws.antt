@@ -148,6 +148,9 @@ pub or-right : (a b : Bool) → (a || b) ≡ false → b ≡ false
 or-right true b h = absurd (true≢false h)
 or-right false b h = h
 
+pub or-none : (a b : Bool) → a ≡ false → b ≡ false → (a || b) ≡ false
+or-none a b p q = rw (p, q)
+
 -- tests that agree hold of the same numbers
 pub who-ext : (p q : ℕ → Bool) (m : ℕ) → ((k : ℕ) → k < m → p k ≡ q k) → who p m ≡ who q m
 unfolding who

@@ -13,7 +13,7 @@ use Rattle.refusals.specs.declared.Outcome.the-variants.{Accepted, Refused}
 use Rattle.roads.specs.declared.Opening.{Opening}
 use Rattle.roads.specs.declared.Opening.the-variants as opening
 use Rattle.roads.specs.Opening.{openingOf}
-use Rattle.recording.specs.Checks.{refuse, andThen}
+use Rattle.refusals.specs.Outcomes.{refuse, andThen}
 use Rattle.plain.specs.declared.ReadOutcome.{ReadOutcome}
 use Rattle.plain.specs.declared.ReadOutcome.the-variants as read
 use Rattle.plain.specs.declared.WriteOutcome.{WriteOutcome}

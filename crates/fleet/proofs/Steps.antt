@@ -12,8 +12,10 @@ use Rattle.basics.proofs.Laws.{and-left, and-right, allBelow-at}
 use Rattle.refusals.specs.declared.Refusal.the-variants.{Record, RoundsDone}
 use Rattle.refusals.specs.declared.Outcome.{Outcome}
 use Rattle.refusals.specs.declared.Outcome.the-variants.{Accepted}
-use Rattle.recording.specs.Checks.{refuse, badTrucks, roundCheck}
-use Rattle.recording.proofs.Accepted.{refuse-false, refuse-rest, trucks-in}
+use Rattle.refusals.specs.Outcomes.{refuse}
+use Rattle.recording.specs.Checks.{badTrucks, roundCheck}
+use Rattle.refusals.proofs.Outcomes.{refuse-false, refuse-rest}
+use Rattle.recording.proofs.Accepted.{trucks-in}
 use Rattle.recording.proofs.Rounds.{round-good}
 use Rattle.protocol.specs.declared.Fleet.{Fleet}
 use Rattle.protocol.specs.Rules.{truck}

@@ -13,8 +13,10 @@ use Rattle.refusals.specs.declared.Outcome.{Outcome}
 use Rattle.refusals.specs.declared.Outcome.the-variants.{Accepted, Refused}
 use Rattle.basics.specs.Lists.{filled}
 use Rattle.recording.specs.Packed.{trucksOf, roundsOf, openingAt, wordAt, bytesFor, pack, packed}
-use Rattle.recording.specs.Checks.{refuse, andThen, checkOf, plainCheck}
-use Rattle.recording.proofs.Accepted.{or-left, or-right, bytes-good}
+use Rattle.refusals.specs.Outcomes.{refuse, andThen}
+use Rattle.recording.specs.Checks.{checkOf, plainCheck}
+use Rattle.basics.proofs.Laws.{or-left, or-right}
+use Rattle.recording.proofs.Accepted.{bytes-good}
 use Rattle.plain.specs.declared.ReadOutcome.the-variants.{Plain, Refused as NotRead}
 use Rattle.plain.specs.declared.WriteOutcome.the-variants.{Bytes, Refused as NotWritten}
 use Rattle.plain.specs.Forms.{afterRead, shortBuffers, readCheck, readAs, readPlain, afterWrite, writeCheck, writeAs, writePlain}

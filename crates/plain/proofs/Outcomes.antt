@@ -12,8 +12,9 @@ use Rattle.refusals.specs.declared.Refusal.the-variants.{TruckCount, RoundCount
 use Rattle.refusals.specs.declared.Outcome.{Outcome}
 use Rattle.refusals.specs.declared.Outcome.the-variants.{Accepted, Refused}
 use Rattle.basics.specs.Lists.{someBelow}
-use Rattle.recording.proofs.Accepted.{or-left}
-use Rattle.recording.specs.Checks.{refuse, badTrucks, badRounds, badOpenings, badWords, ownLoss, highBit, roundsCheck, plainCheck}
+use Rattle.basics.proofs.Laws.{or-left}
+use Rattle.refusals.specs.Outcomes.{refuse}
+use Rattle.recording.specs.Checks.{badTrucks, badRounds, badOpenings, badWords, ownLoss, highBit, roundsCheck, plainCheck}
 
 -- ---- 8 and 6
 rounds-by : (n R : ℕ) (words : List ℕ) (a b : Bool) → badWords n R words ≡ a → ownLoss (λ w. getD words w 0) n R ≡ b

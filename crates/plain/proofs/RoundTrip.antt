@@ -15,16 +15,15 @@ use Rattle.refusals.specs.Numbers.{outcomeNumber}
 use Rattle.basics.specs.Lists.{filled}
 use Rattle.basics.proofs.Laws.{length-tab}
 use Rattle.recording.specs.Packed.{trucksOf, roundsOf, openingAt, openingsOf, wordAt, wordsOf, bytesFor, packBit, packed}
-use Rattle.recording.specs.Checks.{refuse, andThen, checkOf, plainCheck}
-use Rattle.recording.proofs.Accepted.{refuse-on, then-first, plain-good, bytes-good}
+use Rattle.refusals.specs.Outcomes.{refuse}
+use Rattle.recording.specs.Checks.{checkOf, plainCheck}
+use Rattle.refusals.proofs.Outcomes.{refuse-on, then-first, then-both}
+use Rattle.recording.proofs.Accepted.{plain-good, bytes-good}
 use Rattle.recording.proofs.Packing.{length-pack}
 use Rattle.recording.proofs.RoundTrip.{read-back, write-back}
 use Rattle.plain.specs.declared.ReadOutcome.the-variants.{Plain}
 use Rattle.plain.specs.declared.WriteOutcome.the-variants.{Bytes}
 use Rattle.plain.specs.Forms.{afterRead, readNumber, shortBuffers, readCheck, readAs, readPlain, afterWrite, writeNumber, writeCheck, writeAs, writePlain}
-
-then-accepted : (a b : Outcome) → a ≡ Accepted → b ≡ Accepted → andThen a b ≡ Accepted
-then-accepted a b p q = rw (p, q)
 
 -- ---- what an answer that is no refusal says
 read-case : (o : Outcome) (s openings words : List ℕ) (n R : ℕ) → readAs o s openings words .answer ≡ Plain n R → (o ≡ Accepted) × (trucksOf s ≡ n) × (roundsOf s ≡ R)
@@ -45,7 +44,7 @@ module _ (s openings words : List ℕ) where
       let short : shortBuffers s (length openings) (length words) ≡ false
       = ap₂ (λ (x y : Bool). x || y) (le-ltb (length openings) (trucksOf s) a) (le-ltb (length words) (roundsOf s * (3 + trucksOf s)) b) in
       ap (λ (o : Outcome). readAs o s openings words)
-      (then-accepted (checkOf s) (refuse (shortBuffers s (length openings) (length words)) ShortBuffer Accepted) h
+      (then-both (checkOf s) (refuse (shortBuffers s (length openings) (length words)) ShortBuffer Accepted) h
       (refuse-on (shortBuffers s (length openings) (length words)) ShortBuffer Accepted short refl))
 
 module _ (n R : ℕ) (openings words buf : List ℕ) where
@@ -54,7 +53,7 @@ module _ (n R : ℕ) (openings words buf : List ℕ) where
   unfolding writePlain writeCheck
   write-whole h a =
       ap (λ (o : Outcome). writeAs o n R openings words buf)
-      (then-accepted (plainCheck n R openings words) (refuse (ltb (length buf) (bytesFor n R)) ShortBuffer Accepted) h
+      (then-both (plainCheck n R openings words) (refuse (ltb (length buf) (bytesFor n R)) ShortBuffer Accepted) h
       (refuse-on (ltb (length buf) (bytesFor n R)) ShortBuffer Accepted (le-ltb (length buf) (bytesFor n R) a) refl))
 
   length-packed : length (packed n R openings words) ≡ bytesFor n R

@@ -10,7 +10,8 @@ use Rattle.refusals.specs.declared.Outcome.the-variants.{Accepted, Refused}
 use Rattle.refusals.specs.Numbers.{numberOf}
 use Rattle.basics.specs.Lists.{filled}
 use Rattle.recording.specs.Packed.{trucksOf, roundsOf, openingAt, wordAt, roundWords, bytesFor, packed}
-use Rattle.recording.specs.Checks.{refuse, andThen, checkOf, plainCheck}
+use Rattle.refusals.specs.Outcomes.{refuse, andThen}
+use Rattle.recording.specs.Checks.{checkOf, plainCheck}
 use Rattle.plain.specs.declared.ReadOutcome.{ReadOutcome}
 use Rattle.plain.specs.declared.ReadOutcome.the-variants.{Plain, Refused as NotRead}
 use Rattle.plain.specs.declared.WriteOutcome.{WriteOutcome}

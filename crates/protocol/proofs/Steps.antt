@@ -17,8 +17,10 @@ use Rattle.refusals.specs.declared.Outcome.{Outcome}
 use Rattle.refusals.specs.declared.Outcome.the-variants.{Accepted, Refused}
 use Rattle.refusals.specs.Numbers.{accepted}
 use Rattle.recording.specs.Packed.{trucksOf, roundsOf, openingsOf, wordsOf, roundAt, packed, joined}
-use Rattle.recording.specs.Checks.{refuse, badTrucks, badOpenings, checkOf, roundCheck}
-use Rattle.recording.proofs.Accepted.{GoodOpenings, refuse-false, refuse-rest, trucks-in, openings-in}
+use Rattle.refusals.specs.Outcomes.{refuse}
+use Rattle.recording.specs.Checks.{badTrucks, badOpenings, checkOf, roundCheck}
+use Rattle.refusals.proofs.Outcomes.{refuse-false, refuse-rest}
+use Rattle.recording.proofs.Accepted.{GoodOpenings, trucks-in, openings-in}
 use Rattle.recording.proofs.RoundTrip.{read-back}
 use Rattle.recording.proofs.Rounds.{joined-accepted, round-back}
 use Rattle.protocol.specs.declared.Truck.{Truck}

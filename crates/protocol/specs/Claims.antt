@@ -10,7 +10,8 @@ use Rattle.basics.specs.Bits.{odd}
 use Rattle.air.specs.Air.{majorityComplete, zeroComplete, calmFor}
 use Rattle.refusals.specs.declared.Outcome.the-variants.{Accepted}
 use Rattle.refusals.specs.declared.Refusal.the-variants.{RoundsDone}
-use Rattle.recording.specs.Checks.{refuse, roundCheck}
+use Rattle.refusals.specs.Outcomes.{refuse}
+use Rattle.recording.specs.Checks.{roundCheck}
 use Rattle.recording.specs.Packed.{trucksOf, roundsOf, openingsOf, roundAt}
 use Rattle.protocol.specs.declared.State.{State}
 use Rattle.protocol.specs.declared.State.the-variants.{Running, Stopped, Decided}

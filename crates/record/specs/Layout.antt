@@ -9,7 +9,8 @@ use Rattle.basics.specs.Lists.{filled, someBelow}
 use Rattle.refusals.specs.declared.Refusal.the-variants.{Record, ShortBuffer}
 use Rattle.refusals.specs.declared.Outcome.{Outcome}
 use Rattle.refusals.specs.declared.Outcome.the-variants.{Accepted, Refused}
-use Rattle.recording.specs.Checks.{refuse, badTrucks}
+use Rattle.refusals.specs.Outcomes.{refuse}
+use Rattle.recording.specs.Checks.{badTrucks}
 use Rattle.protocol.specs.declared.Heard.{Heard}
 use Rattle.protocol.specs.declared.Heard.the-variants.{Nothing, One, Several}
 use Rattle.protocol.specs.declared.State.{State}

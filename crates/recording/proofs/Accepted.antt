@@ -1,55 +1,22 @@
 -- What it says of an input that no refusal holds of it, each condition by itself, and that these together say it.
 use mathlib.Core.Path.{_≡_, refl, ap, sym, _∙_}
-use mathlib.Core.Bool.{Bool, true, false, not, _||_}
+use mathlib.Core.Bool.{Bool, false, not}
 use mathlib.Core.List.{List}
 use Prim.Native.Nat.{ℕ, _+_, _*_, _-_, _^_, _≤_, _<_}
 use native.Mathlib.Omega.{arith}
 use borrow.Author.Tests.{ltb-false, leb-false, eqb-true, eqb-false, le-ltb, lt-leb, eq-eqb, ne-eqb, not-false}
 use lib.Dec.{ltb, leb, eqb}
 use lib.ListN.{length, getD}
-use Rattle.refusals.specs.declared.Refusal.{Refusal}
 use Rattle.refusals.specs.declared.Refusal.the-variants.{ShortRecording, TruckCount, RoundCount, RecordingLength, EndBit, OwnLoss, Record, PlainRound}
 use Rattle.refusals.specs.declared.Outcome.{Outcome}
-use Rattle.refusals.specs.declared.Outcome.the-variants.{Accepted, Refused}
+use Rattle.refusals.specs.declared.Outcome.the-variants.{Accepted}
+use Rattle.refusals.specs.Outcomes.{refuse}
+use Rattle.refusals.proofs.Outcomes.{refuse-false, refuse-rest, refuse-on, then-first, then-second, then-both}
 use Rattle.basics.specs.Lists.{someBelow}
-use Rattle.basics.proofs.Laws.{someBelow-none, none-someBelow}
+use Rattle.basics.proofs.Laws.{or-left, or-right, or-none, someBelow-none, none-someBelow}
 use Rattle.recording.specs.Packed.{bitAt, trucksOf, roundsOf, wordAt, bitsFor, bytesFor}
-use Rattle.recording.specs.Checks.{refuse, andThen, tooShort, badTrucks, badRounds, badLength, endBit, ownBit, ownLoss, badOpenings, badWords, highBit, frameCheck, ownCheck, checkOf, roundsCheck, plainCheck}
+use Rattle.recording.specs.Checks.{tooShort, badTrucks, badRounds, badLength, endBit, ownBit, ownLoss, badOpenings, badWords, highBit, frameCheck, ownCheck, checkOf, roundsCheck, plainCheck}
 use Rattle.bitreader.proofs.Digits.{bitAt-lt}
-
--- ---- a refusal and what comes after it
-refused-not : {A : Type 0} (r : Refusal) → Refused r ≡ Accepted → A
-refused-not r h = let z : _≡_ {A = ℕ} 0 1 = cc in absurd (omega arith)
-
-pub refuse-false : (b : Bool) (r : Refusal) (o : Outcome) → refuse b r o ≡ Accepted → b ≡ false
-refuse-false true r o h = refused-not r h
-refuse-false false r o h = refl
-
-pub refuse-rest : (b : Bool) (r : Refusal) (o : Outcome) → refuse b r o ≡ Accepted → o ≡ Accepted
-refuse-rest true r o h = refused-not r h
-refuse-rest false r o h = h
-
-pub refuse-on : (b : Bool) (r : Refusal) (o : Outcome) → b ≡ false → o ≡ Accepted → refuse b r o ≡ Accepted
-refuse-on b r o h e = rw (h, e)
-
-pub then-first : (a b : Outcome) → andThen a b ≡ Accepted → a ≡ Accepted
-then-first Accepted b h = refl
-then-first (Refused r) b h = h
-
-pub then-second : (a b : Outcome) → andThen a b ≡ Accepted → b ≡ Accepted
-then-second Accepted b h = h
-then-second (Refused r) b h = refused-not r h
-
-pub or-left : (a b : Bool) → (a || b) ≡ false → a ≡ false
-or-left true b h = h
-or-left false b h = refl
-
-pub or-right : (a b : Bool) → (a || b) ≡ false → b ≡ false
-or-right true b h = let z : _≡_ {A = ℕ} 0 1 = cc in absurd (omega arith)
-or-right false b h = h
-
-or-none : (a b : Bool) → a ≡ false → b ≡ false → (a || b) ≡ false
-or-none a b p q = rw (p, q)
 
 -- ---- the conditions, one by one
 pub trucks-in : (n : ℕ) → badTrucks n ≡ false → (0 < n) × (n ≤ 32)
@@ -262,8 +229,6 @@ bytes-good s h =
 pub good-bytes : (s : List ℕ) → GoodBytes s → checkOf s ≡ Accepted
 unfolding checkOf ownCheck ownLoss
 good-bytes s g =
-    let f : frameCheck s ≡ Accepted = good-frame s (g .frame) in
-    let o : ownCheck s ≡ Accepted
-    = refuse-on (ownLoss (wordAt s) (trucksOf s) (roundsOf s)) OwnLoss Accepted
-    (none-someBelow (ownBit (wordAt s) (trucksOf s)) (roundsOf s * trucksOf s) (g .own)) refl in
-    rw (f, o)
+    then-both (frameCheck s) (ownCheck s) (good-frame s (g .frame))
+    (refuse-on (ownLoss (wordAt s) (trucksOf s) (roundsOf s)) OwnLoss Accepted
+    (none-someBelow (ownBit (wordAt s) (trucksOf s)) (roundsOf s * trucksOf s) (g .own)) refl)

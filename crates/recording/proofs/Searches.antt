@@ -22,7 +22,8 @@ use Rattle.basics.proofs.Laws.{someBelow-none, none-someBelow, someBelow-by, so
 use Rattle.basics.proofs.Bits.{bit-or}
 use Rattle.bitreader.proofs.Digits.{bitAt-lt, numAt-digit, rowAt-digit, numAt-one, bit-in-byte}
 use Rattle.recording.specs.Packed.{bitAt, numAt, rowAt, trucksOf, roundsOf, wordAt, bitsFor, bytesFor}
-use Rattle.recording.specs.Checks.{refuse, andThen, tooShort, badTrucks, badRounds, badLength, endBit, ownBit, firstOwn, ownLoss, frameCheck, ownCheck, checkOf}
+use Rattle.refusals.specs.Outcomes.{refuse, andThen}
+use Rattle.recording.specs.Checks.{tooShort, badTrucks, badRounds, badLength, endBit, ownBit, firstOwn, ownLoss, frameCheck, ownCheck, checkOf}
 use Rattle.recording.proofs.Accepted.{GoodFrame, frame-good, trucks-in}
 use Rattle.recording.proofs.RoundTrip.{own-at}
 use Rattle.recording.proofs.Sizes.{bits-small}

@@ -1,21 +1,16 @@
 -- Document 01, 'Who can cause which refusal': what is asked of a recording, and of openings and rounds in plain form.
 use Prim.Native.Nat.{ℕ, _+_, _*_, _-_, _/_, _%_, _^_}
-use mathlib.Core.Bool.{Bool, true, false, not, _||_}
+use mathlib.Core.Bool.{Bool, not, _||_}
 use mathlib.Core.List.{List}
 use lib.Dec.{ltb, leb, eqb}
 use lib.ListN.{length, getD}
-use Rattle.refusals.specs.declared.Refusal.{Refusal}
 use Rattle.refusals.specs.declared.Refusal.the-variants.{ShortRecording, TruckCount, RoundCount, RecordingLength, EndBit, OwnLoss, Record, PlainRound}
 use Rattle.refusals.specs.declared.Outcome.{Outcome}
-use Rattle.refusals.specs.declared.Outcome.the-variants.{Accepted, Refused}
+use Rattle.refusals.specs.declared.Outcome.the-variants.{Accepted}
+use Rattle.refusals.specs.Outcomes.{refuse, andThen}
 use Rattle.basics.specs.Bits.{bit}
 use Rattle.basics.specs.Lists.{first, someBelow}
 use Rattle.recording.specs.Packed.{bitAt, trucksOf, roundsOf, wordAt, bitsFor, bytesFor, roundWords}
-
--- the refusal where its condition holds, else what the later conditions give
-abbrev pub refuse : Bool → Refusal → Outcome → Outcome
-refuse true r o = Refused r
-refuse false r o = o
 
 -- 1: fewer than 2 bytes
 unfoldable pub tooShort : List ℕ → Bool
@@ -77,11 +72,6 @@ frameCheck s =
 -- 6 of a recording
 unfoldable pub ownCheck : List ℕ → Outcome
 ownCheck s = refuse (ownLoss (wordAt s) (trucksOf s) (roundsOf s)) OwnLoss Accepted
-
--- the second outcome where the first is no refusal
-abbrev pub andThen : Outcome → Outcome → Outcome
-andThen Accepted o = o
-andThen (Refused r) o = Refused r
 
 -- 1 to 6, in this order
 unfoldable pub checkOf : List ℕ → Outcome

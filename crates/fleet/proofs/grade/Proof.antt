@@ -2,7 +2,7 @@
 use mathlib.Core.Path.{sym, _∙_}
 use borrow.Author.Needs.{needs}
 use Rattle.recording.specs.Checks.{frameCheck, ownCheck, checkOf}
-use Rattle.recording.proofs.Accepted.{then-first}
+use Rattle.refusals.proofs.Outcomes.{then-first}
 use Rattle.protocol.specs.Fleets.{gradedIn}
 use Rattle.fleet.specs.Replays.{gradesAfter}
 use Rattle.fleet.proofs.grade.Statement.{statement}

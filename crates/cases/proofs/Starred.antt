@@ -11,10 +11,10 @@ use Rattle.protocol.specs.Rules.{allSame, different, leastOr}
 use Rattle.protocol.specs.Runs.{openedIn, trucksIn, airsIn, gradesFor}
 use Rattle.protocol.specs.Fleets.{blank, fleetIn, ranIn, gradedIn}
 use Rattle.listing.specs.Text.{decimalIn, decimal, stateText, truckLine, truckLines, listingOf, refusalText, printed}
-use Rattle.roads.specs.Opening.{least, openingOf}
+use Rattle.roads.specs.Opening.{least, openingCheck, openingOf}
 use Rattle.cases.specs.Questions.{reply}
 use Rattle.cases.specs.Table.{Row, table}
 
 pub starred : map (λ (r : Row). reply (r .asks)) table ≡ map (λ (r : Row). r .gets) table
-unfolding table reply tabFrom tab filled allBelow who first someBelow sent hears heardBy heard misses missesAny judged complete majorityComplete zeroComplete accurate firstBreak stateAt bitAt numAt rowAt trucksOf roundsOf openingAt openingsOf wordAt wordsOf roundAt bitsFor bytesFor tooShort badTrucks badRounds badLength endBit ownBit ownLoss frameCheck ownCheck checkOf allSame different leastOr airIn valuesIn playsIn afterIn openedIn trucksIn airsIn blank fleetIn ranIn gradedIn decimalIn decimal stateText truckLine truckLines listingOf refusalText printed least openingOf gradesFor
+unfolding table reply tabFrom tab filled allBelow who first someBelow sent hears heardBy heard misses missesAny judged complete majorityComplete zeroComplete accurate firstBreak stateAt bitAt numAt rowAt trucksOf roundsOf openingAt openingsOf wordAt wordsOf roundAt bitsFor bytesFor tooShort badTrucks badRounds badLength endBit ownBit ownLoss frameCheck ownCheck checkOf allSame different leastOr airIn valuesIn playsIn afterIn openedIn trucksIn airsIn blank fleetIn ranIn gradedIn decimalIn decimal stateText truckLine truckLines listingOf refusalText printed least openingCheck openingOf gradesFor
 starred = refl

@@ -1,6 +1,6 @@
 -- The answer at each return of the opening crusher, with what the code knows there.
 use mathlib.Core.Path.{_≡_, refl, sym, _∙_, subst}
-use mathlib.Core.Bool.{Bool, true, false, cond, not, _||_, true≢false}
+use mathlib.Core.Bool.{Bool, true, false, not, _||_, true≢false}
 use mathlib.Core.List.{List}
 use Prim.Native.Nat.{ℕ, _^_, _≤_, _<_}
 use borrow.Author.Tests.{eqb-true, ltb-false, not-false}
@@ -10,24 +10,26 @@ use lib.Ieee.{Float}
 use Rattle.basics.specs.Lists.{allBelow}
 use Rattle.basics.proofs.Laws.{or-left, or-right, allBelow-at, allBelow-all}
 use Rattle.refusals.specs.declared.Refusal.the-variants.{RoadLists, Seconds, NoTime, AllIdle}
+use Rattle.refusals.specs.declared.Outcome.the-variants.{Accepted}
+use Rattle.refusals.specs.Outcomes.{refuse}
 use Rattle.rounding.proofs.Order.{Small}
 use Rattle.roads.specs.declared.Opening.{Opening}
 use Rattle.roads.specs.declared.Opening.the-variants.{Crusher, Refused}
 use Rattle.roads.specs.declared.Fastest.{Fastest}
 use Rattle.roads.specs.declared.Fastest.the-variants.{Road as Chose, NoRoad}
-use Rattle.roads.specs.Opening.{Road, roadAt, idle, numerator, denominator, badLists, secondsAbove, noTime, allIdle, leastRoad, openingOf}
+use Rattle.roads.specs.Opening.{Road, roadAt, idle, numerator, denominator, badLists, secondsAbove, noTime, allIdle, leastRoad, openingCheck, crusherAs, openingOf}
 use Rattle.roads.specs.Choice.{chosenBelow, estimateAt}
 use Rattle.roads.proofs.Estimates.{estimate-exact, in-range}
 use Rattle.roads.proofs.Least.{time-there, least-is}
 use Rattle.roads.proofs.Chosen.{Chosen, chosen-least}
 
 -- ---- the answer by its four tests
-abbrev pub answer : Bool → Bool → Bool → Bool → ℕ → Opening
-answer a b c d k = cond a (Refused RoadLists) (cond b (Refused Seconds) (cond c (Refused NoTime) (cond d (Refused AllIdle) (Crusher k))))
+abbrev pub openingBy : Bool → Bool → Bool → Bool → ℕ → Opening
+openingBy a b c d k = crusherAs (refuse a RoadLists (refuse b Seconds (refuse c NoTime (refuse d AllIdle Accepted)))) k
 
 pub opened : (l m s : List ℕ)
-    → openingOf l m s ≡ answer (badLists l m s) (secondsAbove s) (noTime m s) (allIdle (roadAt l m s) (length l)) (leastRoad (roadAt l m s) (length l))
-unfolding openingOf
+    → openingOf l m s ≡ openingBy (badLists l m s) (secondsAbove s) (noTime m s) (allIdle (roadAt l m s) (length l)) (leastRoad (roadAt l m s) (length l))
+unfolding openingOf openingCheck
 opened l m s = refl
 
 -- ---- the lists, where 10 does not hold

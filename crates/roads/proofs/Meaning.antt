@@ -11,7 +11,7 @@ use Rattle.refusals.specs.declared.Refusal.the-variants.{AllIdle}
 use Rattle.roads.specs.declared.Opening.{Opening}
 use Rattle.roads.specs.declared.Opening.the-variants.{Crusher, Refused}
 use Rattle.roads.specs.Opening.{Road, roadAt, idle, numerator, denominator, badLists, secondsAbove, noTime, allIdle, leastRoad, openingOf, answerOf}
-use Rattle.roads.proofs.Answers.{answer, opened}
+use Rattle.roads.proofs.Answers.{openingBy, opened}
 use Rattle.roads.proofs.Least.{LeastRoad, time-there, least-is, least-there}
 
 abbrev number : Opening → ℕ
@@ -21,21 +21,21 @@ apart : {A : Type 0} {p q : Opening} → p ≡ q → (number p ≡ number q → 
 apart e h = absurd (h (ap number e))
 
 -- the tests that lead to a crusher, and to 13
-at-road : (a b c d : Bool) (k j : ℕ) → answer a b c d k ≡ Crusher j → (d ≡ false) × (k ≡ j)
+at-road : (a b c d : Bool) (k j : ℕ) → openingBy a b c d k ≡ Crusher j → (d ≡ false) × (k ≡ j)
 at-road true b c d k j e = apart e (λ z. omega arith)
 at-road false true c d k j e = apart e (λ z. omega arith)
 at-road false false true d k j e = apart e (λ z. omega arith)
 at-road false false false true k j e = apart e (λ z. omega arith)
 at-road false false false false k j e = (refl, cc)
 
-at-13 : (a b c d : Bool) (k : ℕ) → answer a b c d k ≡ Refused AllIdle → (a ≡ false) × (b ≡ false) × (c ≡ false) × (d ≡ true)
+at-13 : (a b c d : Bool) (k : ℕ) → openingBy a b c d k ≡ Refused AllIdle → (a ≡ false) × (b ≡ false) × (c ≡ false) × (d ≡ true)
 at-13 true b c d k e = apart e (λ z. omega arith)
 at-13 false true c d k e = apart e (λ z. omega arith)
 at-13 false false true d k e = apart e (λ z. omega arith)
 at-13 false false false true k e = (refl, refl, refl, refl)
 at-13 false false false false k e = apart e (λ z. omega arith)
 
-numbers : (a b c d : Bool) (k : ℕ) → answerOf (answer a b c d k) ≡ cond a (10, []) (cond b (11, []) (cond c (12, []) (cond d (13, []) (0, k ∷ []))))
+numbers : (a b c d : Bool) (k : ℕ) → answerOf (openingBy a b c d k) ≡ cond a (10, []) (cond b (11, []) (cond c (12, []) (cond d (13, []) (0, k ∷ []))))
 numbers true b c d k = refl
 numbers false true c d k = refl
 numbers false false true d k = refl

@@ -1,14 +1,17 @@
 -- The opening crusher of three lists of whole numbers, and its refusals (document 01, 'The opening crusher' and refusals 10 to 13).
 use Prim.Native.Nat.{ℕ, _*_}
-use mathlib.Core.Bool.{Bool, cond, not, _&&_, _||_}
+use mathlib.Core.Bool.{Bool, not, _&&_, _||_}
 use mathlib.Core.List.{List, [], _∷_}
 use lib.Dec.{ltb, eqb}
 use lib.ListN.{length, getD}
 use Rattle.basics.specs.Lists.{allBelow, someBelow, first}
 use Rattle.refusals.specs.declared.Refusal.the-variants.{RoadLists, Seconds, NoTime, AllIdle}
+use Rattle.refusals.specs.declared.Outcome.{Outcome}
+use Rattle.refusals.specs.declared.Outcome.the-variants.{Accepted, Refused}
 use Rattle.refusals.specs.Numbers.{numberOf}
+use Rattle.refusals.specs.Outcomes.{refuse}
 use Rattle.roads.specs.declared.Opening.{Opening}
-use Rattle.roads.specs.declared.Opening.the-variants.{Crusher, Refused}
+use Rattle.roads.specs.declared.Opening.the-variants.{Crusher, Refused as NoOpening}
 
 -- a road: its length, the metres of its last run and the seconds of it
 pub record Road : Type 0 where
@@ -65,24 +68,32 @@ noTime metres seconds = someBelow (λ k. ltb 0 (getD metres k 0) && eqb (getD se
 abbrev pub allIdle : (ℕ → Road) → ℕ → Bool
 allIdle road n = allBelow (λ k. idle (road k)) n
 
+-- 10 to 13, in this order
+unfoldable pub openingCheck : List ℕ → List ℕ → List ℕ → Outcome
+openingCheck lengths metres seconds =
+    refuse (badLists lengths metres seconds) RoadLists
+    (refuse (secondsAbove seconds) Seconds
+    (refuse (noTime metres seconds) NoTime
+    (refuse (allIdle (roadAt lengths metres seconds) (length lengths)) AllIdle
+    Accepted)))
+
 -- ---- the answer
 
 -- the road of least exact time, idle roads passed over
 abbrev pub leastRoad : (ℕ → Road) → ℕ → ℕ
 leastRoad road n = least (λ k. idle (road k)) (λ k. numerator (road k)) (λ k. denominator (road k)) n
 
+-- by the outcome of the check: crusher k where it accepts
+abbrev pub crusherAs : Outcome → ℕ → Opening
+crusherAs Accepted k = Crusher k
+crusherAs (Refused r) k = NoOpening r
+
 -- 01's opening, or the first of the refusals 10 to 13 that holds; road k leads to crusher k
 unfoldable pub openingOf : List ℕ → List ℕ → List ℕ → Opening
 openingOf lengths metres seconds =
-    let n = length lengths in
-    let road = roadAt lengths metres seconds in
-    cond (badLists lengths metres seconds) (Refused RoadLists)
-    (cond (secondsAbove seconds) (Refused Seconds)
-    (cond (noTime metres seconds) (Refused NoTime)
-    (cond (allIdle road n) (Refused AllIdle)
-    (Crusher (leastRoad road n)))))
+    crusherAs (openingCheck lengths metres seconds) (leastRoad (roadAt lengths metres seconds) (length lengths))
 
 -- an answer in document 01's terms: its refusal's number with no value, or 0 with the crusher
 abbrev pub answerOf : Opening → ℕ × List ℕ
 answerOf (Crusher k) = (0, k ∷ [])
-answerOf (Refused r) = (numberOf r, [])
+answerOf (NoOpening r) = (numberOf r, [])

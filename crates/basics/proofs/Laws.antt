@@ -2,16 +2,17 @@
 use mathlib.Core.Path.{_≡_, refl, ap, ap₂, sym, _∙_}
 use mathlib.Core.Bool.{Bool, true, false, cond, not, _&&_, _||_, true≢false, false≢true}
 use mathlib.Core.List.{List, [], _∷_, _++_, append-assoc}
-use Prim.Native.Nat.{ℕ, zero, suc, _+_, _-_, _%_, _≤_, _<_}
+use Prim.Native.Nat.{ℕ, zero, suc, _+_, _*_, _-_, _%_, _≤_, _<_}
 use native.Mathlib.Nat.{add-zero}
 use native.Mathlib.Numerals.{add-one}
 use native.Mathlib.Decide.{decLt}
 use native.Mathlib.Omega.{arith}
 use borrow.Author.Tests.{ltb-true, ltb-false, lt-ltb, le-ltb, eq-eqb, ne-eqb, eqb-true, eqb-false}
 use borrow.Author.Count.{below-more}
+use lib.Arith.{digits-lt}
 use lib.Dec.{ltb}
 use lib.ListN.{length, getD, drop, set, length-append, length-drop, List·getD-append}
-use lib.Seq.{drop-cons, drop-append-add, set-at, getD-append-add, getD-drop, ext-getD}
+use lib.Seq.{drop-cons, drop-append-add, drop-drop, set-at, getD-append-add, getD-drop, ext-getD}
 use Rattle.basics.specs.Bits.{odd}
 use Rattle.basics.specs.Lists.{tabFrom, tab, filled, allBelow, who, first, someBelow}
 
@@ -100,12 +101,15 @@ module _ {ℓ} {A : Type ℓ} where
     pub fill-step : (a : A) → i < length d → a ≡ g i → set l i a ≡ filled g (i + 1) d
     fill-step a h e = rw (now, add-one i) (filled-more g i d a h e)
 
-  -- filled once more, only the last filling counts
-  pub filled-again : (f g : ℕ → A) (m : ℕ) (d : List A) → filled g m (filled f m d) ≡ filled g m d
+  -- filled once more, at least as far: only the last filling counts
+  pub filled-again : (f g : ℕ → A) (k m : ℕ) (d : List A) → k ≤ m → filled g m (filled f k d) ≡ filled g m d
   unfolding filled
-  filled-again f g m d =
+  filled-again f g k m d h =
       ap (λ (l : List A). tab g m ++ l)
-      (ap (λ (k : ℕ). drop k (tab f m ++ drop m d)) (let e : m ≡ length (tab f m) + 0 = omega (arith, length-tab f m) in e) ∙ drop-append-add (tab f m) (drop m d) 0)
+      (ap (λ (i : ℕ). drop i (tab f k ++ drop k d)) (let e : m ≡ length (tab f k) + (m - k) = omega (arith, length-tab f k) in e)
+      ∙ drop-append-add (tab f k) (drop k d) (m - k)
+      ∙ drop-drop (m - k) k d
+      ∙ ap (λ (i : ℕ). drop i d) (let e : k + (m - k) ≡ m = omega arith in e))
 
   -- a list that is filled with what it holds
   pub filled-same : (z : A) (g : ℕ → A) (m : ℕ) (d : List A) → m ≤ length d → ((k : ℕ) → k < m → g k ≡ getD d k z) → filled g m d ≡ d
@@ -227,6 +231,13 @@ module _ (p : ℕ → Bool) where
       go (no l) (yes e) = absurd (true≢false (sym (c (omega (arith, first-le m))) ∙ first-before m r e))
       go (no l) (no e) = omega arith
 
+  -- a search that goes upward and is at c: it passes c, or has found c below every larger bound
+  pub first-step : (c : ℕ) → first p c ≡ c → p c ≡ false → first p (c + 1) ≡ c + 1
+  first-step c e h = ap (first p) (add-one c) ∙ first-on c e h ∙ sym (add-one c)
+
+  pub first-found : (m c : ℕ) → c < m → first p c ≡ c → p c ≡ true → first p m ≡ c
+  first-found m c l e h = first-unique m c (omega arith) (λ k o. first-before c k (omega arith)) (λ o. h)
+
   -- none has p
   pub first-all : (m : ℕ) → ((k : ℕ) → k < m → p k ≡ false) → first p m ≡ m
   first-all m h = first-unique m m (omega arith) h (λ l. absurd (omega arith))
@@ -263,6 +274,10 @@ module _ (p : ℕ → Bool) where
   unfolding someBelow
   none-first m h = ltb-false (first p m) m h
 
+  -- none at all
+  pub some-none : someBelow p 0 ≡ false
+  some-none = none-someBelow 0 (λ k l. absurd (omega arith))
+
   -- one number more
   pub some-more : (m : ℕ) → (someBelow p m || p m) ≡ someBelow p (m + 1)
   some-more m = go (someBelow p m) (p m) refl refl
@@ -272,9 +287,51 @@ module _ (p : ℕ → Bool) where
       go false true h e = sym (someBelow-by (m + 1) m (omega arith) e)
       go false false h e = sym (none-someBelow (m + 1) (λ k l. below-more (λ i. p i ≡ false) m (someBelow-none m h) e k (omega arith)))
 
+  pub none-more : (m : ℕ) → someBelow p m ≡ false → p m ≡ false → someBelow p (m + 1) ≡ false
+  none-more m h e = sym (some-more m) ∙ or-none (someBelow p m) (p m) h e
+
+  -- numbers more of which none has p
+  pub some-past : (m n : ℕ) → m ≤ n → ((k : ℕ) → m ≤ k → k < n → p k ≡ false) → someBelow p m ≡ someBelow p n
+  some-past m n l h = go (someBelow p m) refl
+    where
+      past : someBelow p m ≡ false → (k : ℕ) → k < n → Dec (k < m) → p k ≡ false
+      past e k u (yes o) = someBelow-none m e k o
+      past e k u (no o) = h k (omega arith) u
+
+      go : (b : Bool) → someBelow p m ≡ b → b ≡ someBelow p n
+      go true e =
+          let k = someBelow-at m e in
+          sym (someBelow-by n (k .0) (omega (arith, k .1)) (k .2))
+      go false e = sym (none-someBelow n (λ k u. past e k u (decLt k m)))
+
   -- a loop that looks for a number with p: it finds one, or has passed all of them
   pub some-hit : (m k : ℕ) → k < m → p k ≡ true → true ≡ someBelow p m
   some-hit m k l h = sym (someBelow-by m k l h)
 
   pub some-end : (m k : ℕ) → m ≤ k → ((i : ℕ) → i < k → p i ≡ false) → false ≡ someBelow p m
   some-end m k l h = sym (none-someBelow m (λ i e. h i (omega arith)))
+
+-- a search that goes by rows of n numbers: q is p on row r, and the rows before it have none
+module _ (p q : ℕ → Bool) (n r : ℕ) (same : (i : ℕ) → i < n → q i ≡ p (r * n + i)) where
+  -- no number before the first of row r has p
+  before-row : someBelow p (r * n) ≡ false → (k : ℕ) → k < r * n + first q n → p k ≡ false
+  before-row h k l = go (decLt k (r * n))
+    where
+      go : Dec (k < r * n) → p k ≡ false
+      go (yes o) = someBelow-none p (r * n) h k o
+      go (no o) =
+          let z : r * n + (k - r * n) ≡ k = omega arith in
+          ap p (sym z) ∙ sym (same (k - r * n) (omega (arith, first-le q n))) ∙ first-before q n (k - r * n) (omega arith)
+
+  pub none-row : someBelow p (r * n) ≡ false → someBelow q n ≡ false → someBelow p ((r + 1) * n) ≡ false
+  none-row h e = none-someBelow p ((r + 1) * n) (λ k l. before-row h k (omega (arith, none-first q n e)))
+
+  pub some-row : (R : ℕ) → r < R → someBelow q n ≡ true → someBelow p (R * n) ≡ true
+  some-row R l e =
+      let k = someBelow-at q n e in
+      someBelow-by p (R * n) (r * n + k .0) (digits-lt l (k .1)) (sym (same (k .0) (k .1)) ∙ k .2)
+
+  pub first-row : (R : ℕ) → r < R → someBelow p (r * n) ≡ false → someBelow q n ≡ true → r * n + first q n ≡ first p (R * n)
+  first-row R l h e =
+      let o : first q n < n = some-first q n e in
+      sym (first-unique p (R * n) (r * n + first q n) (omega (arith, digits-lt l o)) (before-row h) (λ u. sym (same (first q n) o) ∙ first-at q n o))

@@ -1,18 +1,11 @@
--- Laws of searches and of the kinds of rounds.
+-- The kinds of rounds take turns, as the code tells them apart.
 use mathlib.Core.Path.{_≡_, sym, _∙_}
-use mathlib.Core.Bool.{Bool, true}
-use Prim.Native.Nat.{ℕ, _+_, _%_, _<_}
+use Prim.Native.Nat.{ℕ, _+_, _%_}
 use native.Mathlib.Decide.{ℕ-discrete}
 use native.Mathlib.Omega.{arith}
 use lib.Dec.{eqb}
 use borrow.Author.Tests.{eq-eqb, ne-eqb}
 use Rattle.basics.specs.Bits.{odd}
-use Rattle.basics.specs.Lists.{first}
-use Rattle.basics.proofs.Laws.{first-before, first-unique}
-
--- a search that finds c finds it below any larger bound
-pub first-found : (p : ℕ → Bool) (m c : ℕ) → c < m → first p c ≡ c → p c ≡ true → first p m ≡ c
-first-found p m c l e h = first-unique p m c (omega arith) (λ k o. first-before p c k (omega arith)) (λ o. h)
 
 -- the kind of the next round
 pub next-kind : (d : ℕ) → odd (d + 1) ≡ eqb (d % 2) 0

@@ -1,16 +1,15 @@
 -- Bits put out four bytes at a time.
 use mathlib.Core.Path.{_≡_, refl, ap, ap₂, sym, _∙_}
-use mathlib.Core.List.{List, _++_}
+use mathlib.Core.List.{List}
 use Prim.Native.Nat.{ℕ, zero, suc, _+_, _*_, _-_, _/_, _%_, _^_, _≤_, _<_}
 use native.Mathlib.Nat.{add-zero, div-one, mod-lt, mod-eq-of-lt}
 use native.Mathlib.Numerals.{add-one}
 use native.Mathlib.Omega.{arith}
 use lib.Arith.{digits-lt}
-use lib.ListN.{length, drop, set, length-set}
-use lib.Seq.{drop-append-add, drop-drop}
+use lib.ListN.{length, set, length-set}
 use lib.Pow.{pow-pos, pow-add, mod-pow-add, mod-mod-pow, field, high, low, shl-shr, shr-shr}
-use Rattle.basics.specs.Lists.{tab, filled}
-use Rattle.basics.proofs.Laws.{length-tab, filled-none, filled-more, length-filled}
+use Rattle.basics.specs.Lists.{filled}
+use Rattle.basics.proofs.Laws.{filled-none, filled-more, length-filled, filled-again}
 use Rattle.bitreader.proofs.Digits.{numAt-add, numAt-part, numAt-lt}
 use Rattle.recording.specs.Packed.{numAt}
 use Rattle.plain.specs.Steps.{over, byteOf, added, Put}
@@ -133,16 +132,6 @@ put-first f bits k v d h e =
       buffer = sym (filled-none (λ q. numAt f (8 * q) 8) d);
     }
 
--- filling from the front once more
-filled-again : (g : ℕ → ℕ) (a b : ℕ) (d : List ℕ) → b ≤ a → filled g a (filled g b d) ≡ filled g a d
-unfolding filled
-filled-again g a b d h =
-    ap (λ (l : List ℕ). tab g a ++ l)
-    (ap (λ (k : ℕ). drop k (tab g b ++ drop b d)) (let o : a ≡ length (tab g b) + (a - b) = omega (arith, length-tab g b) in o)
-    ∙ drop-append-add (tab g b) (drop b d) (a - b)
-    ∙ drop-drop (a - b) b d
-    ∙ ap (λ (k : ℕ). drop k d) (let o : b + (a - b) ≡ a = omega arith in o))
-
 -- the place under another name
 pub put-at : (f : ℕ → ℕ) (a b at have acc : ℕ) (d buf : List ℕ) → a ≡ b → Put f a at have acc d buf → Put f b at have acc d buf
 put-at f a b at have acc d buf e p = rw e at p
@@ -156,7 +145,7 @@ module _ (f : ℕ → ℕ) (place at have acc : ℕ) (d buf : List ℕ) (sofar :
         bytes = sofar .bytes;
         left = sofar .left;
         number = sofar .number;
-        buffer = sofar .buffer ∙ sym (ap (filled g at) (sofar .buffer) ∙ filled-again g at at d (omega arith));
+        buffer = sofar .buffer ∙ sym (ap (filled g at) (sofar .buffer) ∙ filled-again g g at at d (omega arith));
       }
 
   -- and back
@@ -167,7 +156,7 @@ module _ (f : ℕ → ℕ) (place at have acc : ℕ) (d buf : List ℕ) (sofar :
         bytes = p .bytes;
         left = p .left;
         number = p .number;
-        buffer = p .buffer ∙ ap (filled g at′) (sofar .buffer) ∙ filled-again g at′ at d (omega (arith, sofar .bytes, p .bytes));
+        buffer = p .buffer ∙ ap (filled g at′) (sofar .buffer) ∙ filled-again g g at at′ d (omega (arith, sofar .bytes, p .bytes));
       }
 
   pub put-length : place ≤ 8 * length d → length buf ≡ length d

@@ -3,7 +3,6 @@ use mathlib.Core.Path.{_≡_, refl, ap, sym, _∙_}
 use mathlib.Core.Bool.{Bool, true, false, not, _||_}
 use mathlib.Core.List.{List}
 use Prim.Native.Nat.{ℕ, _+_, _*_, _-_, _/_, _%_, _^_, _≤_, _<_, min}
-use native.Mathlib.Decide.{decLt}
 use native.Mathlib.Nat.{div-eq-of-lt, le-div-iff-mul-le, mul-le-mul}
 use native.Mathlib.Omega.{arith}
 use borrow.Author.Tests.{leb-true, leb-false, le-leb, lt-leb, lt-ltb, eq-eqb, ne-eqb, eqb-true, eqb-false}
@@ -13,11 +12,10 @@ use lib.ListN.{length, getD}
 use lib.Pow.{pow-mono, pow-pos, pow-add, shl-exact}
 use Rattle.basics.specs.Bits.{digit, bit}
 use Rattle.basics.specs.Lists.{someBelow}
-use Rattle.basics.proofs.Laws.{someBelow-at, someBelow-by, someBelow-none, none-someBelow, some-hit}
+use Rattle.basics.proofs.Laws.{someBelow-by, some-past}
 use Rattle.bitreader.proofs.Digits.{digit-lt}
 use Rattle.recording.specs.Checks.{highBit, ownBit, badOpenings, badWords}
 use Rattle.recording.proofs.RoundTrip.{own-at}
-use Rattle.recording.proofs.Searches.{none-more}
 
 -- a shift in place of a power
 pub high-shift : (n w : ℕ) → leb 1 (w / 2 ^ n) ≡ highBit n w
@@ -109,35 +107,6 @@ module _ (n R : ℕ) (words : List ℕ) where
 -- the number of words fits
 pub words-small : (n R : ℕ) → n < 256 → R < 65536 → R * (3 + n) ≤ 16908030
 words-small n R h l = mul-le-mul (let o : R ≤ 65535 = omega arith in o) (let o : 3 + n ≤ 258 = omega arith in o)
-
--- before the first element
-pub some-none : (p : ℕ → Bool) → someBelow p 0 ≡ false
-some-none p = none-someBelow p 0 (λ k l. absurd (omega arith))
-
--- one element more
-pub some-more : (p : ℕ → Bool) (i : ℕ) → (someBelow p i || p i) ≡ someBelow p (i + 1)
-some-more p i = go (someBelow p i) (p i) refl refl
-  where
-    go : (a b : Bool) → someBelow p i ≡ a → p i ≡ b → (a || b) ≡ someBelow p (i + 1)
-    go true b h e =
-        let k = someBelow-at p i h in
-        some-hit p (i + 1) (k .0) (omega (arith, k .1)) (k .2)
-    go false true h e = some-hit p (i + 1) i (omega arith) e
-    go false false h e = sym (none-more p i h e)
-
--- no element more has p
-some-past : (p : ℕ → Bool) (m n : ℕ) → m ≤ n → ((k : ℕ) → m ≤ k → k < n → p k ≡ false) → someBelow p m ≡ someBelow p n
-some-past p m n l h = go (someBelow p m) refl
-  where
-    past : someBelow p m ≡ false → (k : ℕ) → k < n → Dec (k < m) → p k ≡ false
-    past e k u (yes o) = someBelow-none p m e k o
-    past e k u (no o) = h k (omega arith) u
-
-    go : (b : Bool) → someBelow p m ≡ b → b ≡ someBelow p n
-    go true e =
-        let k = someBelow-at p m e in
-        some-hit p n (k .0) (omega (arith, k .1)) (k .2)
-    go false e = sym (none-someBelow p n (λ k u. past e k u (decLt k m)))
 
 -- the first 32 trucks alone have an own loss bit
 pub own-held : (words : List ℕ) (base n m : ℕ) → ((k : ℕ) → getD words k 0 < 2 ^ 32) → m ≡ min n 32 → someBelow (ownHere words base) m ≡ someBelow (ownHere words base) n

@@ -43,5 +43,5 @@ module _ (s : List ℕ) (n : ℕ) (counted : n ≡ trucksOf s) (few : n ≤ 32) 
       let gathered : List ℕ = filled (gatheredWord s n) count d in
       let turned : ℕ → ℕ = λ w. turnedWord n (getD gathered w 0) in
       g ∙ ap (λ (l : List ℕ). filled (λ w. turnedWord n (getD l w 0)) count l) h
-      ∙ filled-again (gatheredWord s n) turned count d
+      ∙ filled-again (gatheredWord s n) turned count count d (omega arith)
       ∙ filled-ext turned (wordAt s) count d (λ w l. ap (turnedWord n) (getD-filled (gatheredWord s n) count d w 0 l) ∙ turned-word w)

@@ -5,15 +5,14 @@ use mathlib.Core.List.{List, [], _∷_}
 use Prim.Native.Nat.{ℕ, zero, suc, _+_, _*_, _-_, _/_, _%_, _≤_, _<_}
 use native.Mathlib.Nat.{add-zero}
 use native.Mathlib.Numerals.{towards-suc}
-use native.Mathlib.Decide.{decLt}
 use native.Mathlib.Omega.{arith}
 use lib.Dec.{eqb, ltb}
 use lib.ListN.{length, getD, set}
-use lib.Seq.{ext-getD, sets}
+use lib.Seq.{sets}
 use mir.Val.{boolByte}
 use borrow.Author.Tests.{lt-ltb, le-ltb, ltb-false, eq-eqb, ne-eqb}
 use Rattle.basics.specs.Lists.{filled, someBelow}
-use Rattle.basics.proofs.Laws.{filled-none, filled-more, length-filled, getD-filled, getD-filled-past, fill-length}
+use Rattle.basics.proofs.Laws.{filled-none, filled-more, filled-again, fill-length}
 use Rattle.refusals.specs.declared.Refusal.{Refusal}
 use Rattle.refusals.specs.declared.Refusal.the-variants.{Record, ShortBuffer}
 use Rattle.refusals.specs.declared.Outcome.{Outcome}
@@ -44,20 +43,6 @@ truck-put d at t h s r eh es er = simp (mark-byte (t .mark), eh, es, er, towards
     mark-byte false = refl
 
 -- ---- a list that is filled from the front
-
--- a longer part written over a shorter one
-pub filled-over {ℓ} : {A : Type ℓ} (z : A) (g : ℕ → A) (d : List A) (k m : ℕ) → k ≤ m → m ≤ length d → filled g m (filled g k d) ≡ filled g m d
-filled-over z g d k m h l =
-    let same : length (filled g k d) ≡ length d = length-filled g k d (omega arith) in
-    let len : length (filled g m (filled g k d)) ≡ length (filled g m d) = length-filled g m (filled g k d) (omega arith) ∙ same ∙ sym (length-filled g m d l) in
-    ext-getD z (filled g m (filled g k d)) (filled g m d) len (λ i e. at i (decLt i m))
-  where
-    at : (i : ℕ) → Dec (i < m) → getD (filled g m (filled g k d)) i z ≡ getD (filled g m d) i z
-    at i (yes e) = getD-filled g m (filled g k d) i z e ∙ sym (getD-filled g m d i z e)
-    at i (no e) =
-        getD-filled-past g m (filled g k d) i z (omega arith)
-        ∙ getD-filled-past g k d i z (omega arith)
-        ∙ sym (getD-filled-past g m d i z (omega arith))
 
 -- a run of stores that goes on with it
 pub fill-sets {ℓ} : {A : Type ℓ} (z : A) (g : ℕ → A) (d vs l : List A) (i : ℕ) → l ≡ filled g i d → i + length vs ≤ length d → ((j : ℕ) → j < length vs → getD vs j z ≡ g (i + j))
@@ -108,7 +93,7 @@ module _ (f : Fleet) (d : List ℕ) (room : sizeFor 32 ≤ length d) where
       same (suc (suc (suc j))) h = absurd (omega arith)
 
   over-head : (i : ℕ) → i ≤ 32 → filled (recordByte f) (sizeFor i) (headed f d) ≡ filled (recordByte f) (sizeFor i) d
-  over-head i h = rw head-filled (filled-over 0 (recordByte f) d 3 (sizeFor i) (omega arith) (omega arith))
+  over-head i h = rw head-filled (filled-again (recordByte f) (recordByte f) 3 (sizeFor i) d (omega arith))
 
   pub put-holds : headed f d ≡ filled (recordByte f) (sizeFor 0) (headed f d)
   put-holds = head-filled ∙ sym (over-head 0 (omega arith))

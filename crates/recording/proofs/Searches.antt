@@ -4,7 +4,6 @@ use mathlib.Core.Bool.{Bool, true, false, not, _||_, true≢false}
 use mathlib.Core.List.{List}
 use Prim.Native.Nat.{ℕ, zero, suc, _+_, _*_, _-_, _/_, _%_, _^_, _≤_, _<_}
 use native.Mathlib.Nat.{mul-le-mul, mul-le-mul-right, zero-div}
-use native.Mathlib.Numerals.{add-one}
 use native.Mathlib.Decide.{decLt}
 use native.Mathlib.Omega.{arith}
 use borrow.Author.Tests.{eqb-false, eq-eqb, ne-eqb, lt-ltb, le-ltb}
@@ -18,7 +17,7 @@ use Rattle.refusals.specs.declared.Outcome.{Outcome}
 use Rattle.refusals.specs.declared.Outcome.the-variants.{Accepted, Refused}
 use Rattle.basics.specs.Bits.{bit, digit}
 use Rattle.basics.specs.Lists.{first, someBelow}
-use Rattle.basics.proofs.Laws.{someBelow-none, none-someBelow, someBelow-by, some-first, none-first, some-more, first-all, first-le, first-before, first-at, first-on, first-unique}
+use Rattle.basics.proofs.Laws.{someBelow-none, none-someBelow, some-first, some-more, none-row, first-row, first-all}
 use Rattle.basics.proofs.Bits.{bit-or}
 use Rattle.bitreader.proofs.Digits.{bitAt-lt, numAt-digit, rowAt-digit, numAt-one, bit-in-byte}
 use Rattle.recording.specs.Packed.{bitAt, numAt, rowAt, trucksOf, roundsOf, wordAt, bitsFor, bytesFor}
@@ -64,35 +63,7 @@ number-tests f bits p k v e = go (someBelow (λ j. eqb (f (p + j)) 1) k) refl
         zero-digit : (j : ℕ) → digit 0 j ≡ 0
         zero-digit j = ap (λ (x : ℕ). x % 2) (zero-div (2 ^ j))
 
--- ---- a search that goes by rounds of n
-pub none-more : (p : ℕ → Bool) (i : ℕ) → someBelow p i ≡ false → p i ≡ false → someBelow p (i + 1) ≡ false
-none-more p i h e = sym (some-more p i) ∙ ap₂ _||_ h e
-
-module _ (p q : ℕ → Bool) (n r : ℕ) (same : (i : ℕ) → i < n → q i ≡ p (r * n + i)) where
-  -- where the rounds before round r have none, no number before its first one has p
-  before-round : someBelow p (r * n) ≡ false → (k : ℕ) → k < r * n + first q n → p k ≡ false
-  before-round h k l = go (decLt k (r * n))
-    where
-      go : Dec (k < r * n) → p k ≡ false
-      go (yes o) = someBelow-none p (r * n) h k o
-      go (no o) =
-          let z : r * n + (k - r * n) ≡ k = omega arith in
-          ap p (sym z) ∙ sym (same (k - r * n) (omega (arith, first-le q n))) ∙ first-before q n (k - r * n) (omega arith)
-
-  pub none-round : someBelow p (r * n) ≡ false → n ≤ first q n → someBelow p ((r + 1) * n) ≡ false
-  none-round h e = none-someBelow p ((r + 1) * n) (λ k l. before-round h k (omega arith))
-
-  first-round : (R : ℕ) → r < R → someBelow p (r * n) ≡ false → first q n < n → r * n + first q n ≡ first p (R * n)
-  first-round R l h e =
-      sym
-      (first-unique p (R * n) (r * n + first q n) (omega (arith, digits-lt l e)) (before-round h) (λ o. sym (same (first q n) e) ∙ first-at q n e))
-
-  pub some-round : (R : ℕ) → r < R → first q n < n → someBelow p (R * n) ≡ true
-  some-round R l e =
-      someBelow-by p (R * n) (r * n + first q n)
-      (digits-lt l e)
-      (sym (same (first q n) e) ∙ first-at q n e)
-
+-- ---- the first own bit
 -- refusal 6 by the first own bit
 own-loss-first : (word : ℕ → ℕ) (n R : ℕ) → ownLoss word n R ≡ ltb (firstOwn word n R) (R * n)
 unfolding ownLoss firstOwn someBelow
@@ -132,23 +103,15 @@ module _ (s : List ℕ) (n r at : ℕ) (counted : n ≡ trucksOf s) (placed : at
       → (r * n + truck ≡ firstOwn (wordAt s) n R) × (truck < n)
   unfolding firstOwn
   own-found b truck R l e h f =
-      let some : first (ownHere s at n) n < n = some-first (ownHere s at n) n (sym e ∙ h) in
-      (ap (λ (i : ℕ). r * n + i) f ∙ first-round (ownBit (wordAt s) n) (ownHere s at n) n r here R l none some, omega arith)
+      (ap (λ (i : ℕ). r * n + i) f ∙ first-row (ownBit (wordAt s) n) (ownHere s at n) n r here R l none (sym e ∙ h), omega (arith, some-first (ownHere s at n) n (sym e ∙ h)))
 
   pub own-passed : (b : Bool) → b ≡ someBelow (ownHere s at n) n → b ≡ false → someBelow (ownBit (wordAt s) n) ((r + 1) * n) ≡ false
-  own-passed b e h = none-round (ownBit (wordAt s) n) (ownHere s at n) n r here none (none-first (ownHere s at n) n (sym e ∙ h))
+  own-passed b e h = none-row (ownBit (wordAt s) n) (ownHere s at n) n r here none (sym e ∙ h)
 
 -- and where all rounds were passed
 pub own-none : (s : List ℕ) (n R : ℕ) → 0 < n → someBelow (ownBit (wordAt s) n) (R * n) ≡ false → (R * n + 0 ≡ firstOwn (wordAt s) n R) × (0 < n)
 unfolding firstOwn
 own-none s n R l h = (omega (arith, first-all (ownBit (wordAt s) n) (R * n) (someBelow-none (ownBit (wordAt s) n) (R * n) h)), l)
-
--- ---- a search that stops at the first hit
-pub first-found : (p : ℕ → Bool) (i n : ℕ) → first p i ≡ i → p i ≡ true → i < n → i ≡ first p n
-first-found p i n e h l = sym (first-unique p n i (omega arith) (λ k o. first-before p i k (omega arith)) (λ o. h))
-
-pub first-step : (p : ℕ → Bool) (i : ℕ) → first p i ≡ i → p i ≡ false → first p (i + 1) ≡ i + 1
-first-step p i e h = ap (first p) (add-one i) ∙ first-on p i e h ∙ sym (add-one i)
 
 -- the places of a round's own bits are not far apart
 pub place-small : (n i : ℕ) → n ≤ 32 → i ≤ n → i * (n + 1) ≤ 1056

@@ -9,8 +9,8 @@ use borrow.Author.Tests.{le-ltb}
 use lib.Dec.{ltb}
 use lib.ListN.{length, getD}
 use Rattle.basics.specs.Lists.{someBelow}
-use Rattle.recording.proofs.Searches.{none-more}
-use Rattle.plain.proofs.Tests.{openings-count, openings-above, openings-fine, some-none}
+use Rattle.basics.proofs.Laws.{some-none, none-more}
+use Rattle.plain.proofs.Tests.{openings-count, openings-above, openings-fine}
 use Rattle.plain.proofs.bad_openings.Statement.{statement}
 use Rattle.plain.proofs.bad_openings.Tie as tie
 

@@ -7,8 +7,9 @@ use native.Mathlib.Omega.{arith}
 use borrow.Author.Needs.{needs}
 use lib.ListN.{length, getD}
 use Rattle.basics.specs.Lists.{someBelow}
+use Rattle.basics.proofs.Laws.{some-none, some-more}
 use Rattle.recording.specs.Checks.{highBit}
-use Rattle.plain.proofs.Tests.{words-count, words-tested, words-small, high-zero, high-or, some-none, some-more}
+use Rattle.plain.proofs.Tests.{words-count, words-tested, words-small, high-zero, high-or}
 use Rattle.plain.proofs.bad_words.Statement.{statement}
 use Rattle.plain.proofs.bad_words.Tie as tie
 

@@ -7,8 +7,9 @@ use borrow.Author.Needs.{needs}
 use lib.Bits.{bitAnd}
 use lib.ListN.{getD}
 use Rattle.basics.specs.Lists.{someBelow}
+use Rattle.basics.proofs.Laws.{some-none, some-more}
 use Rattle.recording.specs.Checks.{highBit}
-use Rattle.plain.proofs.Tests.{ownHere, high-zero, high-or, bit-alone, some-none, some-more}
+use Rattle.plain.proofs.Tests.{ownHere, high-zero, high-or, bit-alone}
 use Rattle.plain.proofs.own_any.Statement.{statement}
 use Rattle.plain.proofs.own_any.Tie as tie
 

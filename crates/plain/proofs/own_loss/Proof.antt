@@ -4,12 +4,10 @@ use mathlib.Core.Bool.{false}
 use Prim.Native.Nat.{ℕ, _≤_, _+_, _*_, _-_}
 use native.Mathlib.Omega.{arith}
 use borrow.Author.Needs.{needs}
-use lib.Arith.{digits-lt}
 use lib.ListN.{length, getD}
 use Rattle.basics.specs.Lists.{someBelow}
-use Rattle.basics.proofs.Laws.{first-all, someBelow-at, someBelow-none, none-someBelow, some-hit}
+use Rattle.basics.proofs.Laws.{none-someBelow, none-row, some-row}
 use Rattle.recording.specs.Checks.{ownBit, ownLoss}
-use Rattle.recording.proofs.Searches.{none-round}
 use Rattle.plain.proofs.Outcomes.{base-fits}
 use Rattle.plain.proofs.Tests.{ownHere, own-place, own-held, words-small}
 use Rattle.plain.proofs.own_loss.Statement.{statement}
@@ -49,9 +47,9 @@ returns c =
     let a = c .before .before .before .before .before .before .args in
     let l = c .before .before .before .loop in
     let n : ℕ = a .n in
-    let k = someBelow-at (ownHere (a .words .now) (l .base)) n (sym (answer (c .before)) ∙ c .if1 .taken) in
-    some-hit (ownBit (λ w. getD (a .words .now) w 0) n) (a .rounds * n) (l .r * n + k .0) (digits-lt (c .before .before .loop-test .taken) (k .1))
-    (sym (own-place (a .words .now) n (l .r) (l .base) (l .inv .1) (k .0) (k .1)) ∙ k .2)
+    sym
+    (some-row (ownBit (λ w. getD (a .words .now) w 0) n) (ownHere (a .words .now) (l .base)) n (l .r) (own-place (a .words .now) n (l .r) (l .base) (l .inv .1)) (a .rounds) (c .before .before .loop-test .taken)
+    (sym (answer (c .before)) ∙ c .if1 .taken))
 
 add-base-2 : tie.Need-add-base-2 Inv-loop μ-loop
 add-base-2 c =
@@ -64,8 +62,7 @@ loop-again : tie.Need-loop-again Inv-loop μ-loop
 loop-again c =
     let a = c .before .before .before .before .before .before .args in
     let l = c .before .before .before .loop in
-    let q = ownHere (a .words .now) (l .base) in
-    (omega arith, omega (arith, l .inv .1), none-round (ownBit (λ w. getD (a .words .now) w 0) (a .n)) q (a .n) (l .r) (own-place (a .words .now) (a .n) (l .r) (l .base) (l .inv .1)) (l .inv .2) (omega (arith, first-all q (a .n) (someBelow-none q (a .n) (sym (answer (c .before)) ∙ c .if1 .left)))))
+    (omega arith, omega (arith, l .inv .1), none-row (ownBit (λ w. getD (a .words .now) w 0) (a .n)) (ownHere (a .words .now) (l .base)) (a .n) (l .r) (own-place (a .words .now) (a .n) (l .r) (l .base) (l .inv .1)) (l .inv .2) (sym (answer (c .before)) ∙ c .if1 .left))
 
 returns-2 : tie.Need-returns-2 Inv-loop μ-loop
 unfolding ownLoss

@@ -1,11 +1,11 @@
 -- `own_any` meets its contract: the bit worth 128 of the union says whether a truck that the loop has passed has its own bit set.
-use mathlib.Core.Path.{_≡_}
+use mathlib.Core.Path.{_≡_, sym}
 use Prim.Native.Nat.{_≤_, _+_, _*_, _-_, _/_}
 use native.Mathlib.Omega.{arith}
 use borrow.Author.Needs.{needs}
 use Rattle.basics.specs.Bits.{bit}
 use Rattle.basics.specs.Lists.{someBelow}
-use Rattle.basics.proofs.Laws.{some-end}
+use Rattle.basics.proofs.Laws.{some-none}
 use Rattle.recording.proofs.Searches.{ownHere, place-small, union-more, within-rows}
 use Rattle.recording.proofs.own_any.Statement.{statement}
 use Rattle.recording.proofs.own_any.Tie as tie
@@ -19,7 +19,7 @@ abbrev μ-loop : tie.MeasureT-loop
 loop-holds : tie.Need-loop-holds Inv-loop μ-loop
 loop-holds c =
     let a = c .args in
-    (omega arith, omega arith, some-end (ownHere (a .s .now) (a .at) (a .n)) 0 0 (omega arith) (λ k l. absurd (omega arith)))
+    (omega arith, omega arith, sym (some-none (ownHere (a .s .now) (a .at) (a .n))))
 
 shared-slice-read-any : tie.Need-shared-slice-read-any Inv-loop μ-loop
 shared-slice-read-any c =

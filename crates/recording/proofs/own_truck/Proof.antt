@@ -6,8 +6,8 @@ use borrow.Author.Needs.{needs}
 use borrow.Author.Tests.{eq-eqb, ne-eqb}
 use lib.Dec.{eqb}
 use Rattle.basics.specs.Lists.{first}
-use Rattle.basics.proofs.Laws.{first-none}
-use Rattle.recording.proofs.Searches.{ownHere, first-found, first-step, place-small, bit-read}
+use Rattle.basics.proofs.Laws.{first-none, first-step, first-found}
+use Rattle.recording.proofs.Searches.{ownHere, place-small, bit-read}
 use Rattle.recording.proofs.own_truck.Statement.{statement}
 use Rattle.recording.proofs.own_truck.Tie as tie
 
@@ -34,8 +34,9 @@ returns : tie.Need-returns Inv-loop μ-loop
 returns c =
     let a = c .before .before .before .before .before .args in
     let l = c .before .before .before .loop in
-    first-found (ownHere (a .s .now) (a .at) (a .n)) (l .i) (a .n) (l .inv .2)
-    (sym (read (c .before)) ∙ eq-eqb (c .before .read-at .result .value) 1 (c .if1 .taken)) (omega arith)
+    sym
+    (first-found (ownHere (a .s .now) (a .at) (a .n)) (a .n) (l .i) (omega arith) (l .inv .2)
+    (sym (read (c .before)) ∙ eq-eqb (c .before .read-at .result .value) 1 (c .if1 .taken)))
 
 add-p-2 : tie.Need-add-p-2 Inv-loop μ-loop
 add-p-2 c =

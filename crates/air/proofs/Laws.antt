@@ -1,4 +1,4 @@
--- Laws of what is sent, heard and missed in one round, and of calm rounds.
+-- What follows from what is sent, heard and missed in one round: two majorities share a message, a truck without a mark heard what its class promises; and calm rounds.
 use mathlib.Core.Path.{_≡_, refl, ap, sym, subst, _∙_}
 use mathlib.Core.Bool.{Bool, true, false, cond, not, _&&_, _||_, true≢false, false≢true}
 use mathlib.Core.List.{[], _∷_}

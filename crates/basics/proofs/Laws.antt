@@ -1,4 +1,4 @@
--- Laws of the definitions of specs/Lists.
+-- Laws of the definitions of specs/Lists: tables and filled lists by their elements, tests over the numbers below a bound, and searches among them.
 use mathlib.Core.Path.{_≡_, refl, ap, ap₂, sym, _∙_}
 use mathlib.Core.Bool.{Bool, true, false, cond, not, _&&_, _||_, true≢false, false≢true}
 use mathlib.Core.List.{List, [], _∷_, _++_, append-assoc}

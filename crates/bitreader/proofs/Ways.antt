@@ -1,4 +1,4 @@
--- Laws of the two ways to gather bits.
+-- Gathering bits out of eight bytes and out of as many bytes as hold them gives the same number: the bits, the first worth most.
 use mathlib.Core.Path.{_≡_, refl, ap, ap₂, sym, _∙_}
 use mathlib.Core.List.{List}
 use Prim.Native.Nat.{ℕ, zero, suc, _+_, _*_, _-_, _/_, _%_, _^_, _≤_, _<_}

@@ -1,4 +1,4 @@
--- Laws of text in a buffer and of decimal numbers.
+-- What putting a text leaves in a buffer, byte by byte and text by text; a number by its digits; the lines of a listing; and that a listing fits its buffer.
 use mathlib.Core.Path.{_≡_, refl, ap, ap₂, sym, subst, _∙_}
 use mathlib.Core.Bool.{Bool, true, false, cond}
 use mathlib.Core.List.{List, [], _∷_, _++_, append-assoc, append-nil}

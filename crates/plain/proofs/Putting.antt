@@ -1,4 +1,4 @@
--- Bits put out four bytes at a time.
+-- Bits put out four bytes at a time fill the buffer with the bytes of those bits.
 use mathlib.Core.Path.{_≡_, refl, ap, ap₂, sym, _∙_}
 use mathlib.Core.List.{List}
 use Prim.Native.Nat.{ℕ, zero, suc, _+_, _*_, _-_, _/_, _%_, _^_, _≤_, _<_}

@@ -1,4 +1,4 @@
--- The tests of openings and words, as the code makes them.
+-- The tests of openings and words that the code makes, by shifts and unions, are those that the checks ask.
 use mathlib.Core.Path.{_≡_, refl, ap, sym, _∙_}
 use mathlib.Core.Bool.{Bool, true, false, not, _||_}
 use mathlib.Core.List.{List}

@@ -1,4 +1,4 @@
--- Laws of gathering words and turning them round.
+-- Words gathered with the first bit worth most, and then turned round, are the words of the recording.
 use mathlib.Core.Path.{_≡_, refl, ap, ap₂, _∙_}
 use mathlib.Core.List.{List}
 use Prim.Native.Nat.{ℕ, _+_, _*_, _<_, _≤_, _/_, _%_, _^_, min}

@@ -1,4 +1,4 @@
--- Whole runs of the two-round cycle.
+-- Whole runs of the two-round cycle: under its marks nobody decides or all hold one crusher, and five calm rounds end it.
 use mathlib.Core.Path.{_≡_, refl, ap, sym, _∙_}
 use mathlib.Core.Bool.{Bool, true, false, not, false≢true}
 use mathlib.Core.List.{List}

@@ -1,4 +1,4 @@
--- What it says of an input that no refusal holds of it, each condition by itself, and that these together say it.
+-- An input is accepted exactly where each condition of a refusal fails: openings, rounds, plain form, and the bytes of a recording.
 use mathlib.Core.Path.{_≡_, refl, ap, sym, _∙_}
 use mathlib.Core.Bool.{Bool, false, not}
 use mathlib.Core.List.{List}

@@ -1,4 +1,4 @@
--- Bytes and the bits they are packed from; the bits of the packed form, region by region.
+-- A packed bit is read where it was put, and bytes are what their bits pack to; the bits of the packed form, region by region.
 use mathlib.Core.Path.{_≡_, ap, ap₂, sym, _∙_}
 use mathlib.Core.Bool.{Bool, true, false, cond}
 use mathlib.Core.List.{List}

@@ -1,4 +1,4 @@
--- Reading what was written, and writing what was read.
+-- Reading gives back what was written, and writing what was read.
 use mathlib.Core.Path.{_≡_, ap, ap₂, sym, _∙_}
 use mathlib.Core.Bool.{false}
 use mathlib.Core.List.{List}

@@ -1,4 +1,4 @@
--- The rounds of a recording one by one, and a recording made of rounds.
+-- Each round of a recording is read as its words; a recording made of accepted rounds is accepted, and gives each of them back.
 use mathlib.Core.Path.{_≡_, refl, ap, ap₂, sym, _∙_}
 use mathlib.Core.Bool.{false}
 use mathlib.Core.List.{List, [], _∷_, _++_}

@@ -1,4 +1,4 @@
--- Searches for a bit, as the code makes them, and the outcome of a check by its conditions.
+-- The searches for a set bit that the code makes find what the checks ask for; the outcome of each check by its conditions.
 use mathlib.Core.Path.{_≡_, refl, ap, ap₂, sym, _∙_}
 use mathlib.Core.Bool.{Bool, true, false, not, _||_, true≢false}
 use mathlib.Core.List.{List}

@@ -1,4 +1,4 @@
--- Sizes of a recording as numbers of the code: they fit.
+-- The sizes of a recording stay far below the limits of the code's numbers, and each round stands within its recording.
 use mathlib.Core.Path.{_≡_}
 use Prim.Native.Nat.{ℕ, _+_, _*_, _<_, _≤_, _^_}
 use native.Mathlib.Nat.{mul-le-mul, mul-le-mul-right}

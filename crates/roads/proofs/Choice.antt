@@ -1,4 +1,4 @@
--- Laws of the code's choice by estimates.
+-- The code's choice by estimates, comparison by comparison and road by road, is `chosenBelow`.
 use mathlib.Core.Path.{_≡_, refl, ap, ap₂, _∙_}
 use mathlib.Core.Bool.{true, false}
 use Prim.Native.Nat.{ℕ, _+_, _≤_}

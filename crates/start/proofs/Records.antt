@@ -1,4 +1,4 @@
--- Fleet records: a fleet that opens, and what refusal 7 asks.
+-- A fleet of which one truck after the other opens becomes the record of a start; refusal 7 of a record, test by test.
 use mathlib.Core.Path.{_≡_, sym, _∙_, refl}
 use mathlib.Core.Bool.{true, false}
 use mathlib.Core.List.{List, []}

@@ -1,4 +1,4 @@
--- A truck, a fleet, an event, an array of events and a round as the machine holds them: the steps that the walks of `update` and `update_first` share; and a local as an operand.
+-- How a truck, a fleet, an event, an array of events and a round stand in memory: the steps that the walks of `update` and `update_first` share; and a local as an operand.
 use mathlib.Core.Path.{_≡_}
 use mathlib.Core.List.{List, [], _∷_, map}
 use Prim.Native.Nat.{ℕ}

@@ -1,4 +1,4 @@
--- `put_number` meets its contract.
+-- `put_number` meets its contract: it calls itself for the digits before the last, of a smaller number.
 use borrow.Author.Needs.{needs}
 use Prim.Native.Nat.{ℕ, _<_}
 use borrow.Fn.Kinds.{In}

@@ -1,4 +1,4 @@
--- `lend_text` meets its contract.
+-- `lend_text` meets its contract: a text that fits is put at the front, one that does not leaves the buffer.
 use denote.Ref.{now}
 use Rattle.listing.proofs.Laws.{lent, not-lent}
 use borrow.Author.Needs.{needs}

@@ -1,4 +1,4 @@
--- `list` meets its contract.
+-- `list` meets its contract: the listing of an accepted run is lent, a refused run leaves the buffer.
 use denote.Ref.{now}
 use Rattle.listing.proofs.Laws.{put-count, run-small, listed-by}
 use borrow.Author.Needs.{needs}

@@ -1,4 +1,4 @@
--- `put` meets its contract.
+-- `put` meets its contract: the loop holds the buffer with the text so far, and what follows it unchanged.
 use borrow.Author.Needs.{needs}
 use mathlib.Core.Path.{_≡_, refl, ap, sym, _∙_}
 use mathlib.Core.List.{_++_, append-nil}

@@ -1,4 +1,4 @@
--- `put_lines` meets its contract.
+-- `put_lines` meets its contract: the loop holds the buffer with the lines of the trucks so far, 45 bytes or fewer for each.
 use mathlib.Core.Path.{_≡_, ap}
 use Prim.Native.Nat.{_+_, _*_, _-_, _≤_}
 use native.Mathlib.Omega.{arith}

@@ -1,4 +1,4 @@
--- `put` meets its contract. The invariant: the head and the places passed are in the buffer.
+-- `put` meets its contract: the loop holds that the head and the places passed are in the buffer.
 use mathlib.Core.Path.{_≡_, ap, _∙_}
 use Prim.Native.Nat.{ℕ, _-_, _≤_}
 use native.Mathlib.Omega.{arith}

@@ -1,4 +1,4 @@
--- `record::some_damaged` meets its contract. The invariant: no place passed is damaged.
+-- `some_damaged` meets its contract: the loop holds that no place passed is damaged.
 use mathlib.Core.Path.{_∙_, _≡_, sym}
 use mathlib.Core.Bool.{false}
 use Prim.Native.Nat.{ℕ, _-_, _≤_, _<_}

@@ -1,4 +1,4 @@
--- `with_trucks` meets its contract. The invariant: the places passed are filled.
+-- `with_trucks` meets its contract: the loop holds that the places passed are filled.
 use mathlib.Core.Path.{_≡_, ap, sym, _∙_}
 use mathlib.Core.List.{[]}
 use Prim.Native.Nat.{ℕ, _-_, _≤_}

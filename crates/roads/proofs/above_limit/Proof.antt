@@ -1,4 +1,4 @@
--- `roads::above_limit` meets its contract. The invariant: no seconds passed are above the limit.
+-- `above_limit` meets its contract: the loop holds that no seconds passed are above the limit.
 use mathlib.Core.Path.{_≡_}
 use mathlib.Core.Bool.{Bool, false}
 use mathlib.Core.List.{List}

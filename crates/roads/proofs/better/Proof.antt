@@ -1,4 +1,4 @@
--- `roads::better` meets its contract: each of the four ways is one law of `betterOf`.
+-- `better` meets its contract: each of the four ways is one law of `betterOf`.
 use borrow.Author.Needs.{needs}
 use Rattle.roads.proofs.Choice.{better-idle, better-first, better-less, better-kept}
 use Rattle.roads.proofs.better.Statement.{statement}

@@ -1,4 +1,4 @@
--- `roads::estimate_of` meets its contract, for every leg.
+-- `estimate_of` meets its contract, for every leg.
 use Rattle.roads.proofs.Estimates.{estimate-idle, estimate-seconds}
 use Rattle.roads.proofs.estimate_of.Statement.{statement}
 use Rattle.roads.proofs.estimate_of.Tie as tie

@@ -1,4 +1,4 @@
--- `roads::fastest_road` meets its contract. The invariant: the road chosen so far is that of the roads passed.
+-- `fastest_road` meets its contract: the loop holds that the road chosen so far is that of the roads passed.
 use mathlib.Core.Path.{_≡_, ap, _∙_}
 use Prim.Native.Nat.{_-_, _≤_}
 use lib.ListN.{length}

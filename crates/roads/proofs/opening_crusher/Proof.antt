@@ -1,4 +1,4 @@
--- `roads::opening_crusher` meets its contract: each return cites the law of its answer, with what the tests before it left.
+-- `opening_crusher` meets its contract: each return cites the law of its answer, with what the tests before it left.
 use mathlib.Core.Path.{_≡_, sym, _∙_}
 use mathlib.Core.Bool.{false}
 use mathlib.Core.List.{List}

@@ -1,4 +1,4 @@
--- `roads::without_time` meets its contract. The invariant: no road passed has metres above 0 in 0 seconds.
+-- `without_time` meets its contract: the loop holds that no road passed has metres above 0 in 0 seconds.
 use mathlib.Core.Path.{_≡_}
 use mathlib.Core.Bool.{Bool, false, _&&_}
 use mathlib.Core.List.{List}

@@ -1,4 +1,4 @@
--- `good_fleet` meets its contract.
+-- `good_fleet` meets its contract: a law for each return.
 use mathlib.Core.Path.{sym, _∙_}
 use borrow.Author.Needs.{needs}
 use Rattle.recording.proofs.Accepted.{trucks-in}

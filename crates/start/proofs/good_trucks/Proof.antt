@@ -1,4 +1,4 @@
--- `good_trucks` meets its contract.
+-- `good_trucks` meets its contract: the loop holds whether every truck that it has passed is within the limits.
 use mathlib.Core.Bool.{_&&_}
 use mathlib.Core.Path.{_≡_, refl, ap, ap₂, _∙_}
 use Prim.Native.Nat.{_≤_, _-_}

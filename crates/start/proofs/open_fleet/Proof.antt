@@ -1,4 +1,4 @@
--- `open_fleet` meets its contract.
+-- `open_fleet` meets its contract: the loop holds the fleet of which the trucks that it has passed have opened.
 use mathlib.Core.Path.{_≡_}
 use Prim.Native.Nat.{_≤_, _-_}
 use native.Mathlib.Omega.{arith}

@@ -1,4 +1,4 @@
--- `start` meets its contract.
+-- `start` meets its contract: a law for each return, refusal 2 before 7.
 use mathlib.Core.Path.{sym, _∙_}
 use borrow.Author.Needs.{needs}
 use Rattle.protocol.specs.Fleets.{started, startCheck}

@@ -1,4 +1,4 @@
--- `truck::update` meets its contract: a walk of its MIR, by hand. All that the proof knows of `updated` is that it meets its contract.
+-- `update` meets its contract: a walk of its MIR, by hand. All that the proof knows of `updated` is that it meets its contract.
 -- Assumes nothing.
 use mathlib.Core.Path.{_≡_, refl}
 use mathlib.Core.List.{[], _∷_, List}

@@ -1,4 +1,4 @@
--- `truck::update_first` meets its contract: a walk of its MIR, by hand. Before the loop the fleet's local is taken apart once: the row of its trucks, and the way back
+-- `update_first` meets its contract: a walk of its MIR, by hand. Before the loop the fleet's local is taken apart once: the row of its trucks, and the way back
 -- to the fleet with the last trucks in it. The loop's invariant is that row, with the first i trucks up to date. A turn reads event i, takes truck i out of the row,
 -- lends it to `update` for a lifetime that is made for the call, and puts it back at its last value. All that the proof knows of `update` is that it meets its contract.
 --     cut          the fleet in memory is its array of trucks and the way back

@@ -29,24 +29,24 @@ use Rattle.ffi.proofs.Narrow.{narrow-write}
 -- ---- the opening crusher
 
 module _ (lengths metres seconds : List ℕ) (crusher : ℕ) (o : Opening) (found : o ≡ openingOf lengths metres seconds) where
-  pub opening-0 : (k : ℕ) → o ≡ opening.Crusher k → openingLeft 0 k ≡ openingCall lengths metres seconds crusher
+  pub opening-call-0 : (k : ℕ) → o ≡ opening.Crusher k → openingLeft 0 k ≡ openingCall lengths metres seconds crusher
   unfolding openingCall
-  opening-0 k h = rw (← found, h)
+  opening-call-0 k h = rw (← found, h)
 
-  pub opening-refused : (r : Refusal) (k : ℕ) → o ≡ opening.Refused r → k ≡ numberOf r → openingLeft k crusher ≡ openingCall lengths metres seconds crusher
+  pub opening-call-refused : (r : Refusal) (k : ℕ) → o ≡ opening.Refused r → k ≡ numberOf r → openingLeft k crusher ≡ openingCall lengths metres seconds crusher
   unfolding openingCall
-  opening-refused r k h e = rw (e, ← found, h)
+  opening-call-refused r k h e = rw (e, ← found, h)
 
 -- ---- reading
 
 module _ (bytes openings words : List ℕ) (trucks rounds : ℕ) (o : ReadOutcome) (left₁ left₂ : List ℕ) (done : afterRead o left₁ left₂ ≡ readPlain bytes openings words) where
-  pub read-0 : (n R : ℕ) → o ≡ read.Plain n R → readLeft 0 left₁ left₂ n R ≡ readCall bytes openings words trucks rounds
+  pub read-call-0 : (n R : ℕ) → o ≡ read.Plain n R → readLeft 0 left₁ left₂ n R ≡ readCall bytes openings words trucks rounds
   unfolding readCall
-  read-0 n R h = rw (← done, h)
+  read-call-0 n R h = rw (← done, h)
 
-  pub read-refused : (r : Refusal) (k : ℕ) → o ≡ read.Refused r → k ≡ numberOf r → readLeft k left₁ left₂ trucks rounds ≡ readCall bytes openings words trucks rounds
+  pub read-call-refused : (r : Refusal) (k : ℕ) → o ≡ read.Refused r → k ≡ numberOf r → readLeft k left₁ left₂ trucks rounds ≡ readCall bytes openings words trucks rounds
   unfolding readCall
-  read-refused r k h e = rw (e, ← done, h)
+  read-call-refused r k h e = rw (e, ← done, h)
 
 -- ---- writing
 
@@ -55,24 +55,24 @@ module _ (n R m S : ℕ) (openings words bytes : List ℕ) (written : ℕ) (few 
   written-as : afterWrite o left₁ ≡ writePlain n R openings words bytes
   written-as = done ∙ narrow-write openings words bytes n R m S few short
 
-  pub write-0 : (k : ℕ) → o ≡ write.Bytes k → writeLeft 0 left₁ k ≡ writeCall n R openings words bytes written
+  pub write-call-0 : (k : ℕ) → o ≡ write.Bytes k → writeLeft 0 left₁ k ≡ writeCall n R openings words bytes written
   unfolding writeCall
-  write-0 k h = rw (← written-as, h)
+  write-call-0 k h = rw (← written-as, h)
 
-  pub write-refused : (r : Refusal) (k : ℕ) → o ≡ write.Refused r → k ≡ numberOf r → writeLeft k left₁ written ≡ writeCall n R openings words bytes written
+  pub write-call-refused : (r : Refusal) (k : ℕ) → o ≡ write.Refused r → k ≡ numberOf r → writeLeft k left₁ written ≡ writeCall n R openings words bytes written
   unfolding writeCall
-  write-refused r k h e = rw (e, ← written-as, h)
+  write-call-refused r k h e = rw (e, ← written-as, h)
 
 -- ---- a recording's listing
 
 module _ (bytes text : List ℕ) (written : ℕ) (o : Listed) (left₁ : List ℕ) (done : left o left₁ ≡ listed bytes text) where
-  pub list-0 : (k : ℕ) → o ≡ listing.Text k → listLeft 0 left₁ k ≡ listCall bytes text written
+  pub list-call-0 : (k : ℕ) → o ≡ listing.Text k → listLeft 0 left₁ k ≡ listCall bytes text written
   unfolding listCall
-  list-0 k h = rw (← done, h)
+  list-call-0 k h = rw (← done, h)
 
-  pub list-refused : (r : Refusal) (k : ℕ) → o ≡ listing.Refused r → k ≡ numberOf r → listLeft k left₁ written ≡ listCall bytes text written
+  pub list-call-refused : (r : Refusal) (k : ℕ) → o ≡ listing.Refused r → k ≡ numberOf r → listLeft k left₁ written ≡ listCall bytes text written
   unfolding listCall
-  list-refused r k h e = rw (e, ← done, h)
+  list-call-refused r k h e = rw (e, ← done, h)
 
 -- ---- a recording's grading
 
@@ -84,15 +84,15 @@ four-put (x ∷ y ∷ z ∷ []) a b c e h = absurd (omega arith)
 four-put (x ∷ y ∷ z ∷ w ∷ d) a b c e h = refl
 
 module _ (bytes grades : List ℕ) (g : Grading) (judged : g ≡ graded bytes) where
-  pub grade-refused : (r : Refusal) (k : ℕ) → g ≡ grading.Refused r → k ≡ numberOf r → gradeLeft k grades ≡ gradeCall bytes grades
+  pub grade-call-refused : (r : Refusal) (k : ℕ) → g ≡ grading.Refused r → k ≡ numberOf r → gradeLeft k grades ≡ gradeCall bytes grades
   unfolding gradeCall
-  grade-refused r k h e = rw (e, ← judged, h)
+  grade-call-refused r k h e = rw (e, ← judged, h)
 
-  pub grade-9 : (x : Grades) (k : ℕ) → g ≡ grading.Graded x → length grades < 4 → k ≡ numberOf ShortBuffer → gradeLeft k grades ≡ gradeCall bytes grades
+  pub grade-call-9 : (x : Grades) (k : ℕ) → g ≡ grading.Graded x → length grades < 4 → k ≡ numberOf ShortBuffer → gradeLeft k grades ≡ gradeCall bytes grades
   unfolding gradeCall
-  grade-9 x k h l e = rw (e, ← judged, h, lt-ltb (length grades) 4 l)
+  grade-call-9 x k h l e = rw (e, ← judged, h, lt-ltb (length grades) 4 l)
 
-  pub grade-0 : (x : Grades) → g ≡ grading.Graded x → 4 ≤ length grades
+  pub grade-call-0 : (x : Grades) → g ≡ grading.Graded x → 4 ≤ length grades
       → gradeLeft 0 (set (set (set (set grades 0 (x .complete)) 1 (x .majority)) 2 (x .zero)) 3 (x .accurate)) ≡ gradeCall bytes grades
   unfolding gradeCall
-  grade-0 x h l = rw (four-put grades (x .complete) (x .majority) (x .zero) (x .accurate) l, ← judged, h, le-ltb (length grades) 4 l)
+  grade-call-0 x h l = rw (four-put grades (x .complete) (x .majority) (x .zero) (x .accurate) l, ← judged, h, le-ltb (length grades) 4 l)

@@ -31,7 +31,7 @@ use Rattle.protocol.proofs.Steps.{accepted-by, start-by}
 use Rattle.record.specs.Layout.{sizeFor, recordByte, packedRecord, packedWhole, unpacked}
 use Rattle.record.proofs.RoundTrip.{Tidy, record-tidy, whole-tidy, undamaged, taken-whole}
 use Rattle.ffi.specs.Calls.{recordAs, storeCall, startCall, stepCall, runCall, bytesAfter}
-use Rattle.ffi.proofs.Records.{step-good, room-for, start-range, step-range, run-range}
+use Rattle.ffi.proofs.Records.{step-trucks, room-for, start-range, step-range, run-range}
 
 -- a round keeps the places n and above
 tidy-after : (n : ℕ) (active : ℕ → Bool) (k : ℕ) (w : List ℕ) (ts : List Truck) → n ≤ 32 → Tidy n ts → Tidy n (after n active k w ts)
@@ -70,7 +70,7 @@ step-tidy f w t = go (stepCheck f w) refl
   where
     go : (o : Outcome) → stepCheck f w ≡ o → Tidy (answer o (nextFleet f w) f .fleet .n) (answer o (nextFleet f w) f .fleet .trucks)
     go Accepted e =
-        tidy-after (f .n) (activeBit w) (f .done + 1) w (f .trucks) (trucks-in (f .n) (step-good f w e) .1) t
+        tidy-after (f .n) (activeBit w) (f .done + 1) w (f .trucks) (trucks-in (f .n) (step-trucks f w e) .1) t
     go (Refused r) e = t
 
 -- a refused step returns the record it was given

@@ -40,9 +40,9 @@ good-range f h =
     not-true (badTrucks (f .n)) (and-left range few (and-left (range && few) all (not-false (range && few && all) h)))
 
 -- so has the record of an accepted step
-pub step-good : (f : Fleet) (w : List ℕ) → stepCheck f w ≡ Accepted → badTrucks (f .n) ≡ false
+pub step-trucks : (f : Fleet) (w : List ℕ) → stepCheck f w ≡ Accepted → badTrucks (f .n) ≡ false
 unfolding stepCheckIn
-step-good f w h = good-range f (refuse-false (not (goodFleet f)) Record (refuse (eqb (f .done) 400) RoundsDone (roundCheck (f .n) w)) h)
+step-trucks f w h = good-range f (refuse-false (not (goodFleet f)) Record (refuse (eqb (f .done) 400) RoundsDone (roundCheck (f .n) w)) h)
 
 -- a buffer with room for a record of n trucks
 pub room-for : (n : ℕ) (d : List ℕ) → badTrucks n ≡ false → sizeFor 32 ≤ length d → packCheck n (length d) ≡ Accepted
@@ -99,7 +99,7 @@ pub step-range : (f : Fleet) (w : List ℕ) → stepped f w .outcome ≡ Accepte
 unfolding steppedIn nextFleetIn
 step-range f w h =
     let o = accepted-by (stepCheck f w) (nextFleet f w) f h in
-    rw (o .1) (step-good f w (o .0))
+    rw (o .1) (step-trucks f w (o .0))
 
 module _ (d w : List ℕ) (u : Answer) (read : u ≡ unpacked d) where
   pub step-7 : (r : Refusal) (k : ℕ) → u .outcome ≡ Refused r → k ≡ numberOf r → recordLeft k d ≡ stepCall d w

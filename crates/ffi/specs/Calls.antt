@@ -38,13 +38,13 @@ pub record OpeningLeft : Type 0 where
 abbrev pub openingLeft : ℕ → ℕ → OpeningLeft
 openingLeft number crusher = record { number = number; crusher = crusher }
 
-abbrev pub openingAs : Opening → ℕ → OpeningLeft
-openingAs (opening.Crusher k) crusher = openingLeft 0 k
-openingAs (opening.Refused r) crusher = openingLeft (numberOf r) crusher
+abbrev pub openingLeftAs : Opening → ℕ → OpeningLeft
+openingLeftAs (opening.Crusher k) crusher = openingLeft 0 k
+openingLeftAs (opening.Refused r) crusher = openingLeft (numberOf r) crusher
 
 -- 10, 11, 12, 13
 unfoldable pub openingCall : List ℕ → List ℕ → List ℕ → ℕ → OpeningLeft
-openingCall lengths metres seconds crusher = openingAs (openingOf lengths metres seconds) crusher
+openingCall lengths metres seconds crusher = openingLeftAs (openingOf lengths metres seconds) crusher
 
 -- ---- reading to plain form
 
@@ -59,15 +59,15 @@ abbrev pub readLeft : ℕ → List ℕ → List ℕ → ℕ → ℕ → ReadLeft
 readLeft number openings words trucks rounds =
     record { number = number; openings = openings; words = words; trucks = trucks; rounds = rounds }
 
-abbrev pub readAs : ReadOutcome → List ℕ → List ℕ → ℕ → ℕ → ReadLeft
-readAs (read.Plain n R) openings words trucks rounds = readLeft 0 openings words n R
-readAs (read.Refused r) openings words trucks rounds = readLeft (numberOf r) openings words trucks rounds
+abbrev pub readLeftAs : ReadOutcome → List ℕ → List ℕ → ℕ → ℕ → ReadLeft
+readLeftAs (read.Plain n R) openings words trucks rounds = readLeft 0 openings words n R
+readLeftAs (read.Refused r) openings words trucks rounds = readLeft (numberOf r) openings words trucks rounds
 
 -- 1 to 6, then 9
 unfoldable pub readCall : List ℕ → List ℕ → List ℕ → ℕ → ℕ → ReadLeft
 readCall bytes openings words trucks rounds =
     let a = readPlain bytes openings words in
-    readAs (a .answer) (a .openings) (a .words) trucks rounds
+    readLeftAs (a .answer) (a .openings) (a .words) trucks rounds
 
 -- ---- writing
 
@@ -79,15 +79,15 @@ pub record WriteLeft : Type 0 where
 abbrev pub writeLeft : ℕ → List ℕ → ℕ → WriteLeft
 writeLeft number bytes written = record { number = number; bytes = bytes; written = written }
 
-abbrev pub writeAs : WriteOutcome → List ℕ → ℕ → WriteLeft
-writeAs (write.Bytes m) bytes written = writeLeft 0 bytes m
-writeAs (write.Refused r) bytes written = writeLeft (numberOf r) bytes written
+abbrev pub writeLeftAs : WriteOutcome → List ℕ → ℕ → WriteLeft
+writeLeftAs (write.Bytes m) bytes written = writeLeft 0 bytes m
+writeLeftAs (write.Refused r) bytes written = writeLeft (numberOf r) bytes written
 
 -- 2, 3, 7, 8, 6, then 9
 unfoldable pub writeCall : ℕ → ℕ → List ℕ → List ℕ → List ℕ → ℕ → WriteLeft
 writeCall n R openings words bytes written =
     let a = writePlain n R openings words bytes in
-    writeAs (a .answer) (a .buffer) written
+    writeLeftAs (a .answer) (a .buffer) written
 
 -- ---- a recording's listing
 
@@ -99,15 +99,15 @@ pub record ListLeft : Type 0 where
 abbrev pub listLeft : ℕ → List ℕ → ℕ → ListLeft
 listLeft number text written = record { number = number; text = text; written = written }
 
-abbrev pub listAs : Listed → List ℕ → ℕ → ListLeft
-listAs (listing.Text k) text written = listLeft 0 text k
-listAs (listing.Refused r) text written = listLeft (numberOf r) text written
+abbrev pub listLeftAs : Listed → List ℕ → ℕ → ListLeft
+listLeftAs (listing.Text k) text written = listLeft 0 text k
+listLeftAs (listing.Refused r) text written = listLeft (numberOf r) text written
 
 -- 1 to 6, then 9
 unfoldable pub listCall : List ℕ → List ℕ → ℕ → ListLeft
 listCall bytes text written =
     let a = listed bytes text in
-    listAs (a .answer) (a .buffer) written
+    listLeftAs (a .answer) (a .buffer) written
 
 -- ---- a recording's grading
 
@@ -119,15 +119,15 @@ abbrev pub gradeLeft : ℕ → List ℕ → GradeLeft
 gradeLeft number grades = record { number = number; grades = grades }
 
 -- complete, majority, zero and accurate, in this order
-abbrev pub gradeAs : Grading → List ℕ → GradeLeft
-gradeAs (grading.Graded g) grades =
+abbrev pub gradeLeftAs : Grading → List ℕ → GradeLeft
+gradeLeftAs (grading.Graded g) grades =
     cond (ltb (length grades) 4) (gradeLeft (numberOf ShortBuffer) grades)
     (gradeLeft 0 (g .complete ∷ g .majority ∷ g .zero ∷ g .accurate ∷ drop 4 grades))
-gradeAs (grading.Refused r) grades = gradeLeft (numberOf r) grades
+gradeLeftAs (grading.Refused r) grades = gradeLeft (numberOf r) grades
 
 -- 1 to 6, then 9
 unfoldable pub gradeCall : List ℕ → List ℕ → GradeLeft
-gradeCall bytes grades = gradeAs (graded bytes) grades
+gradeCall bytes grades = gradeLeftAs (graded bytes) grades
 
 -- ---- fleet records as bytes
 

@@ -12,7 +12,7 @@ use Rattle.basics.specs.Lists.{filled}
 use Rattle.basics.proofs.Laws.{filled-none, filled-more, length-filled, filled-again}
 use Rattle.bitreader.proofs.Digits.{numAt-add, numAt-part, numAt-lt}
 use Rattle.recording.specs.Packed.{numAt}
-use Rattle.plain.specs.Steps.{over, byteOf, added, Put}
+use Rattle.plain.specs.Steps.{over, byteOf, added, BitsPut}
 
 -- ---- the buffer
 module _ (g : ℕ → ℕ) (i : ℕ) where
@@ -123,8 +123,8 @@ module _ (f : ℕ → ℕ) (bits : (i : ℕ) → f i < 2) (at h x : ℕ) (digits
       ∙ ap (λ (p : ℕ). numAt f p rest) (omega arith)
 
 -- ---- the bits put out so far
-pub put-first : (f : ℕ → ℕ) → ((i : ℕ) → f i < 2) → (k v : ℕ) (d : List ℕ) → k < 32 → v ≡ numAt f 0 k → Put f k 0 k v d d
-put-first f bits k v d h e =
+pub bits-put-first : (f : ℕ → ℕ) → ((i : ℕ) → f i < 2) → (k v : ℕ) (d : List ℕ) → k < 32 → v ≡ numAt f 0 k → BitsPut f k 0 k v d d
+bits-put-first f bits k v d h e =
     record {
       bytes = omega arith;
       left = omega arith;
@@ -133,13 +133,13 @@ put-first f bits k v d h e =
     }
 
 -- the place under another name
-pub put-at : (f : ℕ → ℕ) (a b at have acc : ℕ) (d buf : List ℕ) → a ≡ b → Put f a at have acc d buf → Put f b at have acc d buf
-put-at f a b at have acc d buf e p = rw e at p
+pub bits-put-at : (f : ℕ → ℕ) (a b at have acc : ℕ) (d buf : List ℕ) → a ≡ b → BitsPut f a at have acc d buf → BitsPut f b at have acc d buf
+bits-put-at f a b at have acc d buf e p = rw e at p
 
-module _ (f : ℕ → ℕ) (place at have acc : ℕ) (d buf : List ℕ) (sofar : Put f place at have acc d buf) where
+module _ (f : ℕ → ℕ) (place at have acc : ℕ) (d buf : List ℕ) (sofar : BitsPut f place at have acc d buf) where
   -- seen from the buffer as it is
-  pub put-anew : Put f place at have acc buf buf
-  put-anew =
+  pub bits-put-anew : BitsPut f place at have acc buf buf
+  bits-put-anew =
       let g : ℕ → ℕ = λ q. numAt f (8 * q) 8 in
       record {
         bytes = sofar .bytes;
@@ -149,8 +149,8 @@ module _ (f : ℕ → ℕ) (place at have acc : ℕ) (d buf : List ℕ) (sofar :
       }
 
   -- and back
-  pub put-since : (place′ at′ have′ acc′ : ℕ) (buf′ : List ℕ) → place ≤ place′ → Put f place′ at′ have′ acc′ buf buf′ → Put f place′ at′ have′ acc′ d buf′
-  put-since place′ at′ have′ acc′ buf′ h p =
+  pub bits-put-since : (place′ at′ have′ acc′ : ℕ) (buf′ : List ℕ) → place ≤ place′ → BitsPut f place′ at′ have′ acc′ buf buf′ → BitsPut f place′ at′ have′ acc′ d buf′
+  bits-put-since place′ at′ have′ acc′ buf′ h p =
       let g : ℕ → ℕ = λ q. numAt f (8 * q) 8 in
       record {
         bytes = p .bytes;
@@ -159,38 +159,38 @@ module _ (f : ℕ → ℕ) (place at have acc : ℕ) (d buf : List ℕ) (sofar :
         buffer = p .buffer ∙ ap (filled g at′) (sofar .buffer) ∙ filled-again g g at at′ d (omega (arith, sofar .bytes, p .bytes));
       }
 
-  pub put-length : place ≤ 8 * length d → length buf ≡ length d
-  put-length h = ap length (sofar .buffer) ∙ length-filled (λ q. numAt f (8 * q) 8) at d (omega (arith, sofar .bytes))
+  pub bits-put-length : place ≤ 8 * length d → length buf ≡ length d
+  bits-put-length h = ap length (sofar .buffer) ∙ length-filled (λ q. numAt f (8 * q) 8) at d (omega (arith, sofar .bytes))
 
   module _ (bits : (i : ℕ) → f i < 2) (v k : ℕ) (next : v ≡ numAt f place k) where
-    joined : k ≤ 32 → added acc v k % 2 ^ (have + k) ≡ numAt f (8 * at) (have + k)
-    joined h =
+    digits-added : k ≤ 32 → added acc v k % 2 ^ (have + k) ≡ numAt f (8 * at) (have + k)
+    digits-added h =
         let e : place ≡ 8 * at + have = omega (arith, sofar .bytes, sofar .left) in
         added-low acc have v k (omega (arith, sofar .left)) (omega (arith, numAt-lt f bits place k))
         ∙ ap₂ (λ (a b : ℕ). a * 2 ^ k + b) (sofar .number) (next ∙ ap (λ (p : ℕ). numAt f p k) e)
         ∙ sym (numAt-add f (8 * at) have k)
 
     -- the rest, up to the end of its last byte
-    pub put-end : k ≤ 32 → at + (have + k) / 8 ≤ length d → (buf′ : List ℕ) → buf′ ≡ over (byteOf (added acc v k) (have + k)) at ((have + k) / 8) buf
+    pub bits-put-end : k ≤ 32 → at + (have + k) / 8 ≤ length d → (buf′ : List ℕ) → buf′ ≡ over (byteOf (added acc v k) (have + k)) at ((have + k) / 8) buf
         → buf′ ≡ filled (λ q. numAt f (8 * q) 8) (at + (have + k) / 8) d
-    put-end h room buf′ e = bytes-bits f bits at (have + k) (added acc v k) (joined h) ((have + k) / 8) d buf buf′ (omega arith) room (sofar .buffer) e
+    bits-put-end h room buf′ e = bytes-bits f bits at (have + k) (added acc v k) (digits-added h) ((have + k) / 8) d buf buf′ (omega arith) room (sofar .buffer) e
 
     module _ (room : place + k ≤ 8 * length d) (few : k ≤ 32) where
       -- what the next step asks
-      pub put-asks : (have < 32) × ((k ≤ 32) × ((v < 2 ^ k) × (at + 4 * ((have + k) / 32) ≤ length buf)))
-      put-asks =
-          (omega (arith, sofar .left), (few, (omega (arith, numAt-lt f bits place k), omega (arith, sofar .bytes, sofar .left, put-length (omega arith)))))
+      pub bits-put-asks : (have < 32) × ((k ≤ 32) × ((v < 2 ^ k) × (at + 4 * ((have + k) / 32) ≤ length buf)))
+      bits-put-asks =
+          (omega (arith, sofar .left), (few, (omega (arith, numAt-lt f bits place k), omega (arith, sofar .bytes, sofar .left, bits-put-length (omega arith)))))
 
       -- and what it makes
-      pub put-more : (at′ have′ acc′ : ℕ) (buf′ : List ℕ) → buf′ ≡ over (byteOf (added acc v k) (have + k)) at (4 * ((have + k) / 32)) buf
-          → acc′ ≡ added acc v k → have′ ≡ (have + k) % 32 → at′ ≡ at + 4 * ((have + k) / 32) → Put f (place + k) at′ have′ acc′ d buf′
-      put-more at′ have′ acc′ buf′ b a h t =
+      pub bits-put-more : (at′ have′ acc′ : ℕ) (buf′ : List ℕ) → buf′ ≡ over (byteOf (added acc v k) (have + k)) at (4 * ((have + k) / 32)) buf
+          → acc′ ≡ added acc v k → have′ ≡ (have + k) % 32 → at′ ≡ at + 4 * ((have + k) / 32) → BitsPut f (place + k) at′ have′ acc′ d buf′
+      bits-put-more at′ have′ acc′ buf′ b a h t =
           let x : ℕ = added acc v k in
           let m : ℕ = 4 * ((have + k) / 32) in
           record {
             bytes = omega (arith, sofar .bytes, sofar .left);
             left = omega (arith, sofar .bytes, sofar .left);
-            number = ap₂ (λ (y q : ℕ). y % 2 ^ q) a h ∙ rest-bits f bits at (have + k) x (joined few) ∙ ap₂ (λ (p q : ℕ). numAt f (8 * p) q) (sym t) (sym h);
-            buffer = bytes-bits f bits at (have + k) x (joined few) m d buf buf′ (omega arith) (omega (arith, sofar .bytes, sofar .left)) (sofar .buffer) b
+            number = ap₂ (λ (y q : ℕ). y % 2 ^ q) a h ∙ rest-bits f bits at (have + k) x (digits-added few) ∙ ap₂ (λ (p q : ℕ). numAt f (8 * p) q) (sym t) (sym h);
+            buffer = bytes-bits f bits at (have + k) x (digits-added few) m d buf buf′ (omega arith) (omega (arith, sofar .bytes, sofar .left)) (sofar .buffer) b
                 ∙ ap (λ (p : ℕ). filled (λ q. numAt f (8 * q) 8) p d) (sym t);
           }

@@ -68,12 +68,12 @@ bit-alone w i h =
         lt-leb 1 (digit w i * 2 ^ i) (rw (let z : digit w i ≡ 0 = omega (arith, digit-lt w i) in z) (omega arith))
 
 -- the own loss bits of the round whose words begin at a place
-abbrev pub ownHere : List ℕ → ℕ → ℕ → Bool
-ownHere words base i = bit (getD words (base + (3 + i)) 0) i
+abbrev pub ownPlain : List ℕ → ℕ → ℕ → Bool
+ownPlain words base i = bit (getD words (base + (3 + i)) 0) i
 
 -- that place in round r
-pub own-place : (words : List ℕ) (n r base : ℕ) → base ≡ r * (3 + n) → (i : ℕ) → i < n → ownHere words base i ≡ ownBit (λ w. getD words w 0) n (r * n + i)
-own-place words n r base e i h = ap (λ (b : ℕ). ownHere words b i) e ∙ sym (own-at (λ w. getD words w 0) n r i h)
+pub own-plain : (words : List ℕ) (n r base : ℕ) → base ≡ r * (3 + n) → (i : ℕ) → i < n → ownPlain words base i ≡ ownBit (λ w. getD words w 0) n (r * n + i)
+own-plain words n r base e i h = ap (λ (b : ℕ). ownPlain words b i) e ∙ sym (own-at (λ w. getD words w 0) n r i h)
 
 -- ---- openings and words as a whole
 or-true : (a b : Bool) → b ≡ true → true ≡ (a || b)
@@ -109,6 +109,6 @@ pub words-small : (n R : ℕ) → n < 256 → R < 65536 → R * (3 + n) ≤ 1690
 words-small n R h l = mul-le-mul (let o : R ≤ 65535 = omega arith in o) (let o : 3 + n ≤ 258 = omega arith in o)
 
 -- the first 32 trucks alone have an own loss bit
-pub own-held : (words : List ℕ) (base n m : ℕ) → ((k : ℕ) → getD words k 0 < 2 ^ 32) → m ≡ min n 32 → someBelow (ownHere words base) m ≡ someBelow (ownHere words base) n
+pub own-held : (words : List ℕ) (base n m : ℕ) → ((k : ℕ) → getD words k 0 < 2 ^ 32) → m ≡ min n 32 → someBelow (ownPlain words base) m ≡ someBelow (ownPlain words base) n
 own-held words base n m fits e =
-    some-past (ownHere words base) m n (omega arith) (λ k l u. sym (bit-none (getD words (base + (3 + k)) 0) k (omega arith) (fits (base + (3 + k)))))
+    some-past (ownPlain words base) m n (omega arith) (λ k l u. sym (bit-none (getD words (base + (3 + k)) 0) k (omega arith) (fits (base + (3 + k)))))

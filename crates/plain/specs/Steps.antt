@@ -37,7 +37,7 @@ abbrev pub added : ℕ → ℕ → ℕ → ℕ
 added acc v k = acc * 2 ^ k % 2 ^ 64 + v
 
 -- the bits of f are put out up to a place, four bytes at a time: `at` bytes into a buffer that was d, and what is left is the lowest `have` digits of acc
-pub record Put (f : ℕ → ℕ) (place at have acc : ℕ) (d buf : List ℕ) : Type 0 where
+pub record BitsPut (f : ℕ → ℕ) (place at have acc : ℕ) (d buf : List ℕ) : Type 0 where
   pub bytes : at ≡ 4 * (place / 32)
   pub left : have ≡ place % 32
   pub number : acc % 2 ^ have ≡ numAt f (8 * at) have

@@ -10,7 +10,7 @@ ghost use Rattle.basics.specs.Lists.{someBelow, filled};
 ghost use Rattle.recording.specs.Packed.{trucksOf, openingAt, wordAt, bytesFor, packBit};
 ghost use Rattle.recording.specs.Checks.{highBit, badOpenings, badWords, ownLoss, roundsCheck, roundCheck, plainCheck};
 ghost use Rattle.plain.specs.Forms.{afterRead, readPlain, afterWrite, writePlain};
-ghost use Rattle.plain.specs.Steps.{swapped, gatheredWord, turnedWord, over, byteOf, packedByte, added, Put};
+ghost use Rattle.plain.specs.Steps.{swapped, gatheredWord, turnedWord, over, byteOf, packedByte, added, BitsPut};
 use refusals::Outcome;
 use refusals::Refusal;
 
@@ -283,7 +283,7 @@ fn put(buf: &mut [u8], p: Pending, v: u32, k: usize) -> Pending
 // Puts out the header and the openings: the bits of the packed form before the words, whatever these are.
 fn put_front(buf: &mut [u8], trucks: u8, rounds: u16, openings: &[u8]) -> Pending
     requires { ⌜ (trucks ≤ 32) × ((rounds ≤ 400) × ((badOpenings trucks (now openings) ≡ false) × (16 + 4 * trucks ≤ 8 * length (now buf)))) ⌝ }
-    ensures { λ r. ⌜ ((words : List ℕ) → Put (packBit trucks rounds (now (openings .entry)) words) (16 + 4 * trucks)
+    ensures { λ r. ⌜ ((words : List ℕ) → BitsPut (packBit trucks rounds (now (openings .entry)) words) (16 + 4 * trucks)
         (r .at) (r .have) (r .acc) (now (buf .entry)) (now (buf .exit))) ⌝ }
 {
     let mut p = Pending {

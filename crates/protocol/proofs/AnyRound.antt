@@ -87,9 +87,9 @@ module _ {T : Type 0} {K : Kind T} (c : Rules K) (n : ℕ) (active : ℕ → Boo
   running-runs i h = and-left (runsIn K (old i)) (not (stopBit w i)) h
 
   -- a running truck sends if the cycle says so
-  pub sends-is : (i : ℕ) → air .running i ≡ true → air .sends i ≡ c .sends k (active i) (truckIn K ts i)
+  pub sends-rules : (i : ℕ) → air .running i ≡ true → air .sends i ≡ c .sends k (active i) (truckIn K ts i)
   unfolding airIn
-  sends-is i h = rw h
+  sends-rules i h = rw h
 
   -- a value that truck i hears is the estimate of a sender that it hears
   pub heard-value : (i u : ℕ) → List·Memᴰ u (valuesIn K air ts i)
@@ -239,4 +239,4 @@ module _ {T : Type 0} {K : Kind T} (c : Rules K) (n : ℕ) (active : ℕ → Boo
       where
         quiet : (j : ℕ) → j < n → (x : Bool) → air .sends j ≡ x → x ≡ false
         quiet j lj false g = refl
-        quiet j lj true g = let rj = sender-runs j g in sym g ∙ sends-is j rj ∙ none j lj (running-runs j rj)
+        quiet j lj true g = let rj = sender-runs j g in sym g ∙ sends-rules j rj ∙ none j lj (running-runs j rj)

@@ -11,19 +11,19 @@ use Rattle.protocol.specs.Rules.{leastOr}
 use Rattle.protocol.specs.Claims.{isDecided}
 use Rattle.protocol.proofs.Values.{least-in}
 
-pub running : (s : State) → isRunning s ≡ true → s ≡ Running
-running Running h = refl
-running (Stopped r) h = absurd (false≢true h)
-running (Decided r) h = absurd (false≢true h)
+pub running-state : (s : State) → isRunning s ≡ true → s ≡ Running
+running-state Running h = refl
+running-state (Stopped r) h = absurd (false≢true h)
+running-state (Decided r) h = absurd (false≢true h)
 
 -- a truck that decides in round k if d holds, and runs on otherwise
 pub decided-state : (k : ℕ) (d : Bool) (s : State) → isRunning s ≡ true → (cond d (Decided k) s ≡ Running) ⊎ (cond d (Decided k) s ≡ Decided k)
 decided-state k true s h = inr refl
-decided-state k false s h = inl (running s h)
+decided-state k false s h = inl (running-state s h)
 
 pub decided-if : (k : ℕ) (d : Bool) (s : State) → isRunning s ≡ true → isDecided (cond d (Decided k) s) ≡ true → d ≡ true
 decided-if k true s h g = refl
-decided-if k false s h g = absurd (false≢true (rw (running s h) at g))
+decided-if k false s h g = absurd (false≢true (rw (running-state s h) at g))
 
 -- a truck with a mark keeps its estimate, any other takes the least value heard
 pub least-taken : (m : Bool) (e : ℕ) (vs : List ℕ) → (cond m e (leastOr e vs) ≡ e) ⊎ List·Memᴰ (cond m e (leastOr e vs)) vs

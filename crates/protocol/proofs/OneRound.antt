@@ -17,9 +17,9 @@ use Rattle.protocol.specs.Cycles.{isRunning}
 use Rattle.protocol.specs.Claims.{isDecided}
 use Rattle.protocol.specs.Rules.{twoRules, truck, isOne, runs, vetoes, different, leastOr, stops, proposed, decides, vetoed, airOf, valuesHeard, plays}
 use Rattle.protocol.specs.Fleets.{twoMemory, twoRound}
-use Rattle.protocol.proofs.AnyRound.{sends-is, values-heard, plays-is}
+use Rattle.protocol.proofs.AnyRound.{sends-rules, values-heard, plays-is}
 use Rattle.protocol.proofs.Good.{Sound}
-use Rattle.protocol.proofs.Decisions.{running, decided-state, decided-if, least-taken}
+use Rattle.protocol.proofs.Decisions.{running-state, decided-state, decided-if, least-taken}
 use Rattle.protocol.proofs.Rules.{decides-parts, decides-by, sends-veto, plays-odd, plays-even, plays-cases, memory-even, memory-odd, memory-idle}
 
 -- the two-round cycle has what any cycle of fleet records has to show
@@ -30,7 +30,7 @@ sound-two =
         stops = λ k t. refl;
         plays = λ k b m vs t h.
             plays-cases k b m vs t (λ (u : Truck). (u .state ≡ Running) ⊎ (u .state ≡ Decided k))
-            (λ e. inl (running (t .state) h)) (λ e. decided-state k (decides m (ltb 0 (length vs)) t) (t .state) h);
+            (λ e. inl (running-state (t .state) h)) (λ e. decided-state k (decides m (ltb 0 (length vs)) t) (t .state) h);
       };
       takes = record {
         opened = λ v. refl;
@@ -59,7 +59,7 @@ module _ (n : ℕ) (active : ℕ → Bool) (k : ℕ) (w : List ℕ) (ts : List T
 
   -- in a veto round a running truck that would veto sends
   pub veto-sends : (i : ℕ) → odd k ≡ false → airOf n active k w ts .running i ≡ true → airOf n active k w ts .sends i ≡ vetoes (truck ts i)
-  veto-sends i e h = sends-is twoRules n active k w ts i h ∙ sends-veto k (active i) (truck ts i) e
+  veto-sends i e h = sends-rules twoRules n active k w ts i h ∙ sends-veto k (active i) (truck ts i) e
 
   -- what the two kinds of round make of a truck that plays
   pub plays-proposal : (i : ℕ) → odd k ≡ true
@@ -77,7 +77,7 @@ module _ (n : ℕ) (active : ℕ → Bool) (k : ℕ) (w : List ℕ) (ts : List T
 
   -- a proposal round leaves a truck that plays it running
   pub proposal-runs : (i : ℕ) → odd k ≡ true → runs (truck ts i) ≡ true → isDecided (plays (airOf n active k w ts) k w ts i .state) ≡ false
-  proposal-runs i e h = rw (plays-proposal i e) (ap isDecided (running (truck ts i .state) h))
+  proposal-runs i e h = rw (plays-proposal i e) (ap isDecided (running-state (truck ts i .state) h))
 
   -- who decides in a veto round heard no veto, had no mark and had heard one value
   pub veto-decides : (i : ℕ) → odd k ≡ false → runs (truck ts i) ≡ true → isDecided (plays (airOf n active k w ts) k w ts i .state) ≡ true

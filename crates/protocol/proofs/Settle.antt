@@ -14,7 +14,7 @@ use Rattle.protocol.proofs.Rules.{sends-veto, no-veto-by}
 use Rattle.protocol.proofs.OneRound.{sound-two, plays-proposal, plays-veto, veto-ends}
 
 -- all running trucks have one estimate
-pub record Same (n : ℕ) (ts : List Truck) : Type 0 where
+pub record SameEstimate (n : ℕ) (ts : List Truck) : Type 0 where
   pub value : ℕ
   pub alike : (i : ℕ) → i < n → runs (truck ts i) ≡ true → truck ts i .estimate ≡ value
 
@@ -40,7 +40,7 @@ module _ (n : ℕ) (active : ℕ → Bool) (k : ℕ) (w : List ℕ) (ts : List T
       let h = calm-all twoRules n active k w ts b c i l (p .0) in
       (p .1 ∙ plays-proposal n active k w ts i e ∙ rw (h .0, h .1), h .2)
 
-  pub calm-same : (b : ℕ) → odd k ≡ true → calmRound b true a ≡ true → Same n ts′
+  pub calm-same : (b : ℕ) → odd k ≡ true → calmRound b true a ≡ true → SameEstimate n ts′
   calm-same b e c =
       record {
         value = leastOr 0 sent;
@@ -50,7 +50,7 @@ module _ (n : ℕ) (active : ℕ → Bool) (k : ℕ) (w : List ℕ) (ts : List T
             ap (λ (t : Truck). t .estimate) (p .1 ∙ plays-proposal n active k w ts i e) ∙ rw (h .0) (h .1));
       }
 
-  pub calm-ready : (b : ℕ) → odd k ≡ true → calmRound b true a ≡ true → Same n ts → Ready n ts′
+  pub calm-ready : (b : ℕ) → odd k ≡ true → calmRound b true a ≡ true → SameEstimate n ts → Ready n ts′
   calm-ready b e c s i l r =
       let h = heard-all b i e c l r in
       let one : truck ts′ i .heard ≡ One = ap (λ (t : Truck). t .heard) (h .0) ∙ all-one (s .value) (h .1 .0) sent (h .1 .1) all in
@@ -61,7 +61,7 @@ module _ (n : ℕ) (active : ℕ → Bool) (k : ℕ) (w : List ℕ) (ts : List T
           let v = of-value (λ j. truck ts j .estimate) (a .sends) n u m in
           v .3 ∙ s .alike (v .0) (v .1) (running-runs twoRules n active k w ts (v .0) (sender-runs twoRules n active k w ts (v .0) (v .2)))
 
-  pub veto-same : odd k ≡ false → Same n ts → Same n ts′
+  pub veto-same : odd k ≡ false → SameEstimate n ts → SameEstimate n ts′
   veto-same e s =
       record {
         value = s .value;

@@ -18,7 +18,7 @@ use Rattle.protocol.proofs.AnyRound.{EndedIn, UndecidedIn, SettledIn}
 use Rattle.protocol.proofs.AnyRun.{at-suc, air-suc, opened-truck, ended-on, agrees-by}
 use Rattle.protocol.proofs.OneRound.{sound-two}
 use Rattle.protocol.proofs.Agree.{Open, open-proposal, open-veto}
-use Rattle.protocol.proofs.Settle.{Same, Ready, calm-same, calm-ready, veto-same, calm-ended}
+use Rattle.protocol.proofs.Settle.{SameEstimate, Ready, calm-same, calm-ready, veto-same, calm-ended}
 
 module _ (n : ℕ) (openings : List ℕ) (rounds : ℕ → List ℕ) where
   abbrev at : ℕ → List Truck
@@ -53,16 +53,16 @@ module _ (n : ℕ) (openings : List ℕ) (rounds : ℕ → List ℕ) where
   abbrev CalmAt : ℕ → ℕ → Type 0
   CalmAt b k = calmRound b (odd (suc k)) (airAt n openings rounds (suc k)) ≡ true
 
-  round-same : (b k : ℕ) → odd (suc k) ≡ true → CalmAt b k → Same n (at (suc k))
+  round-same : (b k : ℕ) → odd (suc k) ≡ true → CalmAt b k → SameEstimate n (at (suc k))
   round-same b k e c =
       rw (at-suc twoRules n openings rounds k) (calm-same n (activeBit (rounds k)) (suc k) (rounds k) (at k) b e (rw (e, air-suc twoRules n openings rounds) at c))
 
-  round-ready : (b k : ℕ) → odd (suc k) ≡ true → CalmAt b k → Same n (at k) → Ready n (at (suc k))
+  round-ready : (b k : ℕ) → odd (suc k) ≡ true → CalmAt b k → SameEstimate n (at k) → Ready n (at (suc k))
   round-ready b k e c s =
       rw (at-suc twoRules n openings rounds k)
       (calm-ready n (activeBit (rounds k)) (suc k) (rounds k) (at k) b e (rw (e, air-suc twoRules n openings rounds) at c) s)
 
-  round-kept : (k : ℕ) → odd (suc k) ≡ false → Same n (at k) → Same n (at (suc k))
+  round-kept : (k : ℕ) → odd (suc k) ≡ false → SameEstimate n (at k) → SameEstimate n (at (suc k))
   round-kept k e s = rw (at-suc twoRules n openings rounds k) (veto-same n (activeBit (rounds k)) (suc k) (rounds k) (at k) e s)
 
   round-ended : (b k : ℕ) → odd (suc k) ≡ false → CalmAt b k → Ready n (at k) → EndedIn recorded n (at (suc k))

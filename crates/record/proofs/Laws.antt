@@ -29,7 +29,7 @@ use Rattle.protocol.specs.declared.Answer.{Answer}
 use Rattle.protocol.specs.Rules.{truck}
 use Rattle.protocol.specs.Runs.{openedTrucks}
 use Rattle.protocol.specs.Fleets.{blank}
-use Rattle.record.specs.Layout.{markByte, heardByte, stateByte, roundOf, truckBytes, recordByte, sizeFor, packCheck, packFor, heardOf, stateOf, pairOf, placeByte, placeRound, truckAt, damagedAt, damaged, recordOf, noRecord, unpacked}
+use Rattle.record.specs.Layout.{markByte, heardByte, stateByte, roundOf, truckBytes, recordByte, sizeFor, packCheck, packFor, heardOfByte, stateOfByte, pairOf, placeByte, placeRound, truckAt, damagedAt, damaged, recordOf, noRecord, unpacked}
 
 -- ---- the bytes of a truck
 
@@ -122,18 +122,18 @@ accepted-is n room h =
     (t, trucks-in n t .1, ltb-false room (sizeFor 32) (refuse-false (ltb room (sizeFor 32)) ShortBuffer Accepted (refuse-rest (badTrucks n) Record later h)))
 
 module _ (n room : ℕ) where
-  pub check-7 : (b : Bool) → b ≡ badTrucks n → b ≡ true → Refused Record ≡ packCheck n room
+  pub pack-7 : (b : Bool) → b ≡ badTrucks n → b ≡ true → Refused Record ≡ packCheck n room
   unfolding packCheck
-  check-7 b e h = rw (sym e ∙ h)
+  pack-7 b e h = rw (sym e ∙ h)
 
   module _ (b : Bool) (counted : b ≡ badTrucks n) (range : b ≡ false) where
-    pub check-9 : room < sizeFor 32 → Refused ShortBuffer ≡ packCheck n room
+    pub pack-9 : room < sizeFor 32 → Refused ShortBuffer ≡ packCheck n room
     unfolding packCheck
-    check-9 h = rw (sym counted ∙ range, lt-ltb room (sizeFor 32) h)
+    pack-9 h = rw (sym counted ∙ range, lt-ltb room (sizeFor 32) h)
 
-    pub check-0 : sizeFor 32 ≤ room → Accepted ≡ packCheck n room
+    pub pack-0 : sizeFor 32 ≤ room → Accepted ≡ packCheck n room
     unfolding packCheck
-    check-0 h = rw (sym counted ∙ range, le-ltb room (sizeFor 32) h)
+    pack-0 h = rw (sym counted ∙ range, le-ltb room (sizeFor 32) h)
 
 module _ (f : Fleet) (d : List ℕ) (o : Outcome) (checked : o ≡ packCheck (f .n) (length d)) where
   module _ (r : Refusal) (kept : o ≡ Refused r) where
@@ -171,7 +171,7 @@ module _ {A : Type 0} (b : ℕ) (x y z : A) where
     byte-0 h = rw (ne-eqb b 1 not-1, ne-eqb b 2 h)
 
 pub truck-is : (d : List ℕ) (i a b m k s r : ℕ) (h : Heard) (t : State)
-    → k ≡ placeByte d i 3 → h ≡ heardOf k → s ≡ placeByte d i 4 → r ≡ placeRound d i → t ≡ stateOf s r
+    → k ≡ placeByte d i 3 → h ≡ heardOfByte k → s ≡ placeByte d i 4 → r ≡ placeRound d i → t ≡ stateOfByte s r
     → a ≡ placeByte d i 0 → b ≡ placeByte d i 1 → m ≡ placeByte d i 2
     → _≡_ {A = Truck} (record { opening = a; estimate = b; mark = eqb m 1; heard = h; state = t }) (truckAt d i)
 unfolding truckAt

@@ -24,8 +24,8 @@ use Rattle.protocol.specs.declared.Fleet.{Fleet}
 use Rattle.protocol.specs.Rules.{truck, opened}
 use Rattle.protocol.specs.Runs.{openedTrucks}
 use Rattle.protocol.proofs.Opened.{length-opened, truck-unopened}
-use Rattle.record.specs.Layout.{sizeFor, markByte, heardByte, stateByte, roundOf, truckBytes, recordByte, packCheck, packFor, packedRecord, packedWhole, heardOf, stateOf, pairOf, placeByte, placeRound, truckAt, damagedAt, damaged, recordOf, noRecord, unpacked}
-use Rattle.record.proofs.Laws.{place-byte, byte-of-place, accepted-is, check-0}
+use Rattle.record.specs.Layout.{sizeFor, markByte, heardByte, stateByte, roundOf, truckBytes, recordByte, packCheck, packFor, packedRecord, packedWhole, heardOfByte, stateOfByte, pairOf, placeByte, placeRound, truckAt, damagedAt, damaged, recordOf, noRecord, unpacked}
+use Rattle.record.proofs.Laws.{place-byte, byte-of-place, accepted-is, pack-0}
 
 -- ---- numbers of two bytes
 
@@ -45,24 +45,24 @@ mark-back zero h = refl
 mark-back (suc zero) h = refl
 mark-back (suc (suc b)) h = absurd (omega (arith, ltb-false 1 (suc (suc b)) h))
 
-heard-back : (b : ℕ) → ltb 2 b ≡ false → heardByte (heardOf b) ≡ b
+heard-back : (b : ℕ) → ltb 2 b ≡ false → heardByte (heardOfByte b) ≡ b
 heard-back zero h = refl
 heard-back (suc zero) h = refl
 heard-back (suc (suc zero)) h = refl
 heard-back (suc (suc (suc b))) h = absurd (omega (arith, ltb-false 2 (suc (suc (suc b))) h))
 
-state-back : (b k : ℕ) → ltb 2 b ≡ false → stateByte (stateOf b k) ≡ b
+state-back : (b k : ℕ) → ltb 2 b ≡ false → stateByte (stateOfByte b k) ≡ b
 state-back zero k h = refl
 state-back (suc zero) k h = refl
 state-back (suc (suc zero)) k h = refl
 state-back (suc (suc (suc b))) k h = absurd (omega (arith, ltb-false 2 (suc (suc (suc b))) h))
 
 -- a running truck has no round
-round-back : (b k : ℕ) → ltb 2 b ≡ false → (eqb b 0 && ltb 0 k) ≡ false → roundOf (stateOf b k) ≡ k
-round-back zero k h e = omega (arith, ltb-false 0 k e)
-round-back (suc zero) k h e = refl
-round-back (suc (suc zero)) k h e = refl
-round-back (suc (suc (suc b))) k h e = absurd (omega (arith, ltb-false 2 (suc (suc (suc b))) h))
+state-round-back : (b k : ℕ) → ltb 2 b ≡ false → (eqb b 0 && ltb 0 k) ≡ false → roundOf (stateOfByte b k) ≡ k
+state-round-back zero k h e = omega (arith, ltb-false 0 k e)
+state-round-back (suc zero) k h e = refl
+state-round-back (suc (suc zero)) k h e = refl
+state-round-back (suc (suc (suc b))) k h e = absurd (omega (arith, ltb-false 2 (suc (suc (suc b))) h))
 
 -- ---- bytes that are a record come back
 
@@ -98,9 +98,9 @@ place-back d i s low (suc (suc zero)) l = mark-back (placeByte d i 2) (s .mark)
 place-back d i s low (suc (suc (suc zero))) l = heard-back (placeByte d i 3) (s .heard)
 place-back d i s low (suc (suc (suc (suc zero)))) l = state-back (placeByte d i 4) (placeRound d i) (s .state)
 place-back d i s low (suc (suc (suc (suc (suc zero))))) l =
-    ap (λ (k : ℕ). k % 256) (round-back (placeByte d i 4) (placeRound d i) (s .state) (s .round)) ∙ pair-low (placeByte d i 5) (placeByte d i 6) low
+    ap (λ (k : ℕ). k % 256) (state-round-back (placeByte d i 4) (placeRound d i) (s .state) (s .round)) ∙ pair-low (placeByte d i 5) (placeByte d i 6) low
 place-back d i s low (suc (suc (suc (suc (suc (suc zero)))))) l =
-    ap (λ (k : ℕ). k / 256) (round-back (placeByte d i 4) (placeRound d i) (s .state) (s .round)) ∙ pair-high (placeByte d i 5) (placeByte d i 6) low
+    ap (λ (k : ℕ). k / 256) (state-round-back (placeByte d i 4) (placeRound d i) (s .state) (s .round)) ∙ pair-high (placeByte d i 5) (placeByte d i 6) low
 place-back d i s low (suc (suc (suc (suc (suc (suc (suc j))))))) l = absurd (omega arith)
 
 -- bytes: every element of the list is below 256
@@ -163,13 +163,13 @@ bytes-back d bytes h =
     let u = undamaged d h in
     let n = getD d 0 0 in
     let most : n ≤ 32 = trucks-in n (u .range) .1 in
-    ap (λ (o : Outcome). packFor o n (recordOf d) d) (sym (check-0 n (length d) false (sym (u .range)) refl (u .whole)))
+    ap (λ (o : Outcome). packFor o n (recordOf d) d) (sym (pack-0 n (length d) false (sym (u .range)) refl (u .whole)))
     ∙ filled-same 0 (recordByte (recordOf d)) (sizeFor n) d (omega (arith, u .whole)) (byte-back d bytes u)
 
 -- ---- a record that is put into a buffer is read out of it
 
 -- the two records have n, the rounds done and the trucks below n in common
-pub record Same (f g : Fleet) : Type 0 where
+pub record SameRecord (f g : Fleet) : Type 0 where
   pub n : g .n ≡ f .n
   pub done : g .done ≡ f .done
   pub trucks : (i : ℕ) → i < f .n → truck (g .trucks) i ≡ truck (f .trucks) i
@@ -178,32 +178,32 @@ mark-there : (m : Bool) → (eqb (markByte m) 1 ≡ m) × (ltb 1 (markByte m) �
 mark-there true = (refl, refl)
 mark-there false = (refl, refl)
 
-heard-there : (h : Heard) → (heardOf (heardByte h) ≡ h) × (ltb 2 (heardByte h) ≡ false)
+heard-there : (h : Heard) → (heardOfByte (heardByte h) ≡ h) × (ltb 2 (heardByte h) ≡ false)
 heard-there Nothing = (refl, refl)
 heard-there One = (refl, refl)
 heard-there Several = (refl, refl)
 
 state-there : (s : State)
-    → (stateOf (stateByte s) (roundOf s) ≡ s) × (ltb 2 (stateByte s) ≡ false) × ((eqb (stateByte s) 0 && ltb 0 (roundOf s)) ≡ false)
+    → (stateOfByte (stateByte s) (roundOf s) ≡ s) × (ltb 2 (stateByte s) ≡ false) × ((eqb (stateByte s) 0 && ltb 0 (roundOf s)) ≡ false)
 state-there Running = (refl, refl, refl)
 state-there (Stopped k) = (refl, refl, refl)
 state-there (Decided k) = (refl, refl, refl)
 
 -- a place that holds the bytes of a truck
 module _ (d : List ℕ) (i : ℕ) (t : Truck) (holds : (j : ℕ) → j < 7 → placeByte d i j ≡ getD (truckBytes t) j 0) where
-  round-there : placeRound d i ≡ roundOf (t .state)
-  round-there = ap₂ (λ (a b : ℕ). pairOf a b) (holds 5 (omega arith)) (holds 6 (omega arith)) ∙ pair-back (roundOf (t .state))
+  place-round-there : placeRound d i ≡ roundOf (t .state)
+  place-round-there = ap₂ (λ (a b : ℕ). pairOf a b) (holds 5 (omega arith)) (holds 6 (omega arith)) ∙ pair-back (roundOf (t .state))
 
   truck-there : truckAt d i ≡ t
   unfolding truckAt
   truck-there =
-      rw (holds 0 (omega arith), holds 1 (omega arith), holds 2 (omega arith), holds 3 (omega arith), holds 4 (omega arith), round-there)
+      rw (holds 0 (omega arith), holds 1 (omega arith), holds 2 (omega arith), holds 3 (omega arith), holds 4 (omega arith), place-round-there)
       (simp (mark-there (t .mark) .0, heard-there (t .heard) .0, state-there (t .state) .0))
 
   place-there : damagedAt d i ≡ false
   unfolding damagedAt
   place-there =
-      rw (holds 2 (omega arith), holds 3 (omega arith), holds 4 (omega arith), round-there)
+      rw (holds 2 (omega arith), holds 3 (omega arith), holds 4 (omega arith), place-round-there)
       (simp (mark-there (t .mark) .1, heard-there (t .heard) .1, state-there (t .state) .1, state-there (t .state) .2))
 
 -- 32 places, of which those from n on are as a start makes them
@@ -219,7 +219,7 @@ tidy-read d h =
       rest = λ i l. getD-filled-past (truckAt d) (getD d 0 0) (openedTrucks []) i (opened 0) l ∙ truck-unopened [] i (omega arith);
     }
 
-tidy-same : (f g : Fleet) → Tidy (f .n) (f .trucks) → Tidy (g .n) (g .trucks) → Same f g → g ≡ f
+tidy-same : (f g : Fleet) → Tidy (f .n) (f .trucks) → Tidy (g .n) (g .trucks) → SameRecord f g → g ≡ f
 tidy-same f g tf tg s =
     let e : g .trucks ≡ f .trucks = ext-getD (opened 0) (g .trucks) (f .trucks) (tg .places ∙ sym (tf .places)) (λ i l. at i (decLt i (f .n))) in
     let n : g .n ≡ f .n = s .n in
@@ -250,7 +250,7 @@ module _ (f : Fleet) (d : List ℕ) (m : ℕ) (range : badTrucks (f .n) ≡ fals
   unfolding placeByte
   place-laid i h j l = byte-laid (sizeFor i + j) (omega arith) ∙ sym (byte-of-place f i j l)
 
-  same-laid : Same f (recordOf laid)
+  same-laid : SameRecord f (recordOf laid)
   unfolding recordOf
   same-laid =
       record {
@@ -271,7 +271,7 @@ module _ (f : Fleet) (d : List ℕ) (m : ℕ) (range : badTrucks (f .n) ≡ fals
   unfolding unpacked
   read-laid = rw undamaged-laid
 
-  same-back : (unpacked laid .outcome ≡ Accepted) × Same f (unpacked laid .fleet)
+  same-back : (unpacked laid .outcome ≡ Accepted) × SameRecord f (unpacked laid .fleet)
   same-back = rw read-laid (refl, same-laid)
 
   tidy-back : Tidy (f .n) (f .trucks) → unpacked laid ≡ record { outcome = Accepted; fleet = f }
@@ -281,13 +281,13 @@ module _ (f : Fleet) (d : List ℕ) (m : ℕ) (range : badTrucks (f .n) ≡ fals
 
 module _ (f : Fleet) (d : List ℕ) (room : packCheck (f .n) (length d) ≡ Accepted) where
   -- a record brought up to date in a buffer is read out of it, and so is one that is put there whole
-  pub record-back : (unpacked (packedRecord f d) .outcome ≡ Accepted) × Same f (unpacked (packedRecord f d) .fleet)
+  pub record-back : (unpacked (packedRecord f d) .outcome ≡ Accepted) × SameRecord f (unpacked (packedRecord f d) .fleet)
   unfolding packedRecord
   record-back =
       let g = accepted-is (f .n) (length d) room in
       rw room (same-back f d (f .n) (g .0) (g .2) (omega arith) (g .1))
 
-  pub whole-back : (unpacked (packedWhole f d) .outcome ≡ Accepted) × Same f (unpacked (packedWhole f d) .fleet)
+  pub whole-back : (unpacked (packedWhole f d) .outcome ≡ Accepted) × SameRecord f (unpacked (packedWhole f d) .fleet)
   unfolding packedWhole
   whole-back =
       let g = accepted-is (f .n) (length d) room in

@@ -76,11 +76,11 @@ packedWhole f d = packFor (packCheck (f .n) (length d)) 32 f d
 
 -- ---- bytes as a record
 
-abbrev pub heardOf : ℕ → Heard
-heardOf b = cond (eqb b 1) One (cond (eqb b 2) Several Nothing)
+abbrev pub heardOfByte : ℕ → Heard
+heardOfByte b = cond (eqb b 1) One (cond (eqb b 2) Several Nothing)
 
-abbrev pub stateOf : ℕ → ℕ → State
-stateOf b k = cond (eqb b 1) (Stopped k) (cond (eqb b 2) (Decided k) Running)
+abbrev pub stateOfByte : ℕ → ℕ → State
+stateOfByte b k = cond (eqb b 1) (Stopped k) (cond (eqb b 2) (Decided k) Running)
 
 -- byte j of place i
 unfoldable pub placeByte : List ℕ → ℕ → ℕ → ℕ
@@ -100,8 +100,8 @@ truckAt d i =
       opening = placeByte d i 0;
       estimate = placeByte d i 1;
       mark = eqb (placeByte d i 2) 1;
-      heard = heardOf (placeByte d i 3);
-      state = stateOf (placeByte d i 4) (placeRound d i);
+      heard = heardOfByte (placeByte d i 3);
+      state = stateOfByte (placeByte d i 4) (placeRound d i);
     }
 
 -- the seven bytes of place i are those of no truck: a mark above 1, more than 2 for what it heard or for its state, or a running truck with a round

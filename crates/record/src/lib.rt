@@ -9,7 +9,7 @@ ghost use Rattle.basics.specs.Lists.{someBelow, filled};
 ghost use Rattle.recording.specs.Checks.{badTrucks};
 ghost use Rattle.protocol.specs.Runs.{openedTrucks};
 ghost use Rattle.record.specs.Layout.{sizeFor, heardByte, stateByte, roundOf, truckBytes, recordByte, packCheck, packFor, packedRecord, packedWhole};
-ghost use Rattle.record.specs.Layout.{heardOf, stateOf, pairOf, placeByte, placeRound, truckAt, damagedAt, recordOf, unpacked};
+ghost use Rattle.record.specs.Layout.{heardOfByte, stateOfByte, pairOf, placeByte, placeRound, truckAt, damagedAt, recordOf, unpacked};
 use protocol::Answer;
 use protocol::Fleet;
 use protocol::Heard;
@@ -128,7 +128,7 @@ pub fn pack_whole(f: Fleet, d: &mut [u8]) -> Outcome
 }
 
 fn heard_of(b: u8) -> Heard
-    ensures { λ r. ⌜ r ≡ heardOf b ⌝ }
+    ensures { λ r. ⌜ r ≡ heardOfByte b ⌝ }
 {
     if b == 1 {
         return Heard::One;
@@ -140,7 +140,7 @@ fn heard_of(b: u8) -> Heard
 }
 
 fn state_of(b: u8, k: u16) -> State
-    ensures { λ r. ⌜ r ≡ stateOf b k ⌝ }
+    ensures { λ r. ⌜ r ≡ stateOfByte b k ⌝ }
 {
     if b == 1 {
         return State::Stopped(k);

@@ -47,9 +47,9 @@ pub bits-flat : (n R : ℕ) → bitsFor n R ≡ 16 + 4 * n + R * (3 + n) * n
 unfolding bitsFor
 bits-flat n R = omega arith
 
-pub bytes-hold : (n R : ℕ) → (bitsFor n R ≤ 8 * bytesFor n R) × (8 * bytesFor n R < bitsFor n R + 8)
+pub bytes-enough : (n R : ℕ) → (bitsFor n R ≤ 8 * bytesFor n R) × (8 * bytesFor n R < bitsFor n R + 8)
 unfolding bytesFor
-bytes-hold n R = omega arith
+bytes-enough n R = omega arith
 
 -- the last bit of word w stands before the end
 pub word-ends : (n R w i : ℕ) → w < R * (3 + n) → i < n → 16 + 4 * n + w * n + i < bitsFor n R

@@ -16,7 +16,7 @@ use Rattle.recording.specs.Packed.{bitAt, numAt, rowAt, trucksOf, rounds
 use Rattle.recording.specs.Checks.{ownBit, checkOf, plainCheck}
 use Rattle.bitreader.proofs.Digits.{bitAt-lt, numAt-is, numAt-lt, numAt-digit, rowAt-is, rowAt-lt, rowAt-digit}
 use Rattle.recording.proofs.Accepted.{GoodOpenings, GoodRounds, GoodPlain, GoodFrame, GoodBytes, plain-good, good-plain, bytes-good, good-bytes, rounds-good}
-use Rattle.recording.proofs.Packing.{length-pack, pack-ext, bitAt-pack, pack-bitAt, bits-flat, bytes-hold, word-ends, bit-trucks, bit-rounds, bit-openings, bit-words, bit-end, bit-opening, bit-word, packBit-lt}
+use Rattle.recording.proofs.Packing.{length-pack, pack-ext, bitAt-pack, pack-bitAt, bits-flat, bytes-enough, word-ends, bit-trucks, bit-rounds, bit-openings, bit-words, bit-end, bit-opening, bit-word, packBit-lt}
 
 -- ---- own loss bits by round and truck
 pub own-at : (f : ℕ → ℕ) (n r i : ℕ) → i < n → ownBit f n (r * n + i) ≡ bit (f (r * (3 + n) + (3 + i))) i
@@ -46,7 +46,7 @@ module _ (n R : ℕ) (openings words : List ℕ) (good : GoodPlain n R openings 
   bit-back p h = bitAt-pack (packBit n R openings words) (packBit-lt n R openings words) (bytesFor n R) p h
 
   fits : (p : ℕ) → p < bitsFor n R → p < 8 * bytesFor n R
-  fits p h = omega (arith, bytes-hold n R .0)
+  fits p h = omega (arith, bytes-enough n R .0)
 
   pub trucks-back : trucksOf (packed n R openings words) ≡ n
   unfolding trucksOf written
@@ -105,7 +105,7 @@ module _ (n R : ℕ) (openings words : List ℕ) (good : GoodPlain n R openings 
   good-back =
       record {
         frame = record {
-          long = omega (arith, size-back, bytes-hold n R .0, bits-flat n R);
+          long = omega (arith, size-back, bytes-enough n R .0, bits-flat n R);
           some = rw trucks-back (good .some);
           most = rw trucks-back (good .most);
           rounds = rw rounds-back (good .rounds);

@@ -80,13 +80,13 @@ own-before word n R round truck placed below = go (decLt round R) ∙ sym (own-l
         le-ltb round R (omega arith) ∙ sym (le-ltb (firstOwn word n R) (R * n) (omega (arith, placed)))
 
 -- the own loss bits of the round whose first one stands at a place
-abbrev pub ownHere : List ℕ → ℕ → ℕ → ℕ → Bool
-ownHere s at n i = eqb (bitAt s (at + i * (n + 1))) 1
+abbrev pub ownPacked : List ℕ → ℕ → ℕ → ℕ → Bool
+ownPacked s at n i = eqb (bitAt s (at + i * (n + 1))) 1
 
 -- that place in round r
-pub own-place : (s : List ℕ) (n r at : ℕ) → n ≡ trucksOf s → at ≡ 16 + 7 * n + r * (3 * n + n * n) → (i : ℕ) → i < n → ownHere s at n i ≡ ownBit (wordAt s) n (r * n + i)
+pub own-packed : (s : List ℕ) (n r at : ℕ) → n ≡ trucksOf s → at ≡ 16 + 7 * n + r * (3 * n + n * n) → (i : ℕ) → i < n → ownPacked s at n i ≡ ownBit (wordAt s) n (r * n + i)
 unfolding wordAt
-own-place s n r at e p i h =
+own-packed s n r at e p i h =
     let w : ℕ = r * (3 + n) + (3 + i) in
     sym
     (own-at (wordAt s) n r i h
@@ -96,17 +96,17 @@ own-place s n r at e p i h =
 
 -- of rounds of which those before round r have no own bit set: what a look at round r says
 module _ (s : List ℕ) (n r at : ℕ) (counted : n ≡ trucksOf s) (placed : at ≡ 16 + 7 * n + r * (3 * n + n * n)) (none : someBelow (ownBit (wordAt s) n) (r * n) ≡ false) where
-  here : (i : ℕ) → i < n → ownHere s at n i ≡ ownBit (wordAt s) n (r * n + i)
-  here = own-place s n r at counted placed
+  here : (i : ℕ) → i < n → ownPacked s at n i ≡ ownBit (wordAt s) n (r * n + i)
+  here = own-packed s n r at counted placed
 
-  pub own-found : (b : Bool) (truck R : ℕ) → r < R → b ≡ someBelow (ownHere s at n) n → b ≡ true → truck ≡ first (ownHere s at n) n
+  pub own-found : (b : Bool) (truck R : ℕ) → r < R → b ≡ someBelow (ownPacked s at n) n → b ≡ true → truck ≡ first (ownPacked s at n) n
       → (r * n + truck ≡ firstOwn (wordAt s) n R) × (truck < n)
   unfolding firstOwn
   own-found b truck R l e h f =
-      (ap (λ (i : ℕ). r * n + i) f ∙ first-row (ownBit (wordAt s) n) (ownHere s at n) n r here R l none (sym e ∙ h), omega (arith, some-first (ownHere s at n) n (sym e ∙ h)))
+      (ap (λ (i : ℕ). r * n + i) f ∙ first-row (ownBit (wordAt s) n) (ownPacked s at n) n r here R l none (sym e ∙ h), omega (arith, some-first (ownPacked s at n) n (sym e ∙ h)))
 
-  pub own-passed : (b : Bool) → b ≡ someBelow (ownHere s at n) n → b ≡ false → someBelow (ownBit (wordAt s) n) ((r + 1) * n) ≡ false
-  own-passed b e h = none-row (ownBit (wordAt s) n) (ownHere s at n) n r here none (sym e ∙ h)
+  pub own-passed : (b : Bool) → b ≡ someBelow (ownPacked s at n) n → b ≡ false → someBelow (ownBit (wordAt s) n) ((r + 1) * n) ≡ false
+  own-passed b e h = none-row (ownBit (wordAt s) n) (ownPacked s at n) n r here none (sym e ∙ h)
 
 -- and where all rounds were passed
 pub own-none : (s : List ℕ) (n R : ℕ) → 0 < n → someBelow (ownBit (wordAt s) n) (R * n) ≡ false → (R * n + 0 ≡ firstOwn (wordAt s) n R) × (0 < n)
@@ -114,20 +114,20 @@ unfolding firstOwn
 own-none s n R l h = (omega (arith, first-all (ownBit (wordAt s) n) (R * n) (someBelow-none (ownBit (wordAt s) n) (R * n) h)), l)
 
 -- the places of a round's own bits are not far apart
-pub place-small : (n i : ℕ) → n ≤ 32 → i ≤ n → i * (n + 1) ≤ 1056
-place-small n i h l = mul-le-mul (let o : i ≤ 32 = omega arith in o) (let o : n + 1 ≤ 33 = omega arith in o)
+pub own-near : (n i : ℕ) → n ≤ 32 → i ≤ n → i * (n + 1) ≤ 1056
+own-near n i h l = mul-le-mul (let o : i ≤ 32 = omega arith in o) (let o : n + 1 ≤ 33 = omega arith in o)
 
 -- what one bit that was read says of a test of bits
 pub bit-read : (s : List ℕ) (p q v : ℕ) → v ≡ numAt (bitAt s) p 1 → p ≡ q → eqb v 1 ≡ eqb (bitAt s q) 1
 bit-read s p q v e g = ap (λ (x : ℕ). eqb x 1) (e ∙ numAt-one (bitAt s) p ∙ ap (bitAt s) g)
 
 -- a union of bytes, each shifted by the place of one bit in it: its bit worth 128 says whether one of those bits is 1
-pub union-more : (s : List ℕ) (at n i p any : ℕ) → getD s (p / 8) 0 < 256 → p ≡ at + i * (n + 1) → bit any 7 ≡ someBelow (ownHere s at n) i
-    → bit (bitOr any (getD s (p / 8) 0 * 2 ^ (p % 8) % 2 ^ 32)) 7 ≡ someBelow (ownHere s at n) (i + 1)
+pub union-more : (s : List ℕ) (at n i p any : ℕ) → getD s (p / 8) 0 < 256 → p ≡ at + i * (n + 1) → bit any 7 ≡ someBelow (ownPacked s at n) i
+    → bit (bitOr any (getD s (p / 8) 0 * 2 ^ (p % 8) % 2 ^ 32)) 7 ≡ someBelow (ownPacked s at n) (i + 1)
 union-more s at n i p any small e h =
     bit-or any (getD s (p / 8) 0 * 2 ^ (p % 8) % 2 ^ 32) 7
     ∙ ap₂ _||_ h (ap (λ (b : ℕ). eqb b 1) (bit-in-byte s p small ∙ ap (bitAt s) e))
-    ∙ some-more (ownHere s at n) i
+    ∙ some-more (ownPacked s at n) i
 
 -- that bit of each truck stands within the rows of the round
 pub within-rows : (n i : ℕ) → i < n → i * (n + 1) < n * n

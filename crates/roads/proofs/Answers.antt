@@ -27,10 +27,10 @@ use Rattle.roads.proofs.Chosen.{Chosen, chosen-least}
 abbrev pub openingBy : Bool → Bool → Bool → Bool → ℕ → Opening
 openingBy a b c d k = crusherAs (refuse a RoadLists (refuse b Seconds (refuse c NoTime (refuse d AllIdle Accepted)))) k
 
-pub opened : (l m s : List ℕ)
+pub opening-by : (l m s : List ℕ)
     → openingOf l m s ≡ openingBy (badLists l m s) (secondsAbove s) (noTime m s) (allIdle (roadAt l m s) (length l)) (leastRoad (roadAt l m s) (length l))
 unfolding openingOf openingCheck
-opened l m s = refl
+opening-by l m s = refl
 
 -- ---- the lists, where 10 does not hold
 pub record Right (lengths metres seconds : List ℕ) : Type 0 where
@@ -76,23 +76,23 @@ not-all p n k l h = go (allBelow p n) (λ e. allBelow-at p n e k l)
 
 module _ (l m s : List ℕ) where
   pub opening-10 : badLists l m s ≡ true → Refused RoadLists ≡ openingOf l m s
-  opening-10 p = rw (opened l m s, p)
+  opening-10 p = rw (opening-by l m s, p)
 
   pub opening-11 : badLists l m s ≡ false → secondsAbove s ≡ true → Refused Seconds ≡ openingOf l m s
-  opening-11 p q = rw (opened l m s, p, q)
+  opening-11 p q = rw (opening-by l m s, p, q)
 
   pub opening-12 : badLists l m s ≡ false → secondsAbove s ≡ false → noTime m s ≡ true → Refused NoTime ≡ openingOf l m s
-  opening-12 p q r = rw (opened l m s, p, q, r)
+  opening-12 p q r = rw (opening-by l m s, p, q, r)
 
   module _ (p : badLists l m s ≡ false) (q : secondsAbove s ≡ false) (r : noTime m s ≡ false) (L : Short l) (M : Short m) (S : Short s) (best : Fastest) (e : best ≡ chosenBelow (estimateAt l m s) (length l)) where
     pub opening-13 : best ≡ NoRoad → Refused AllIdle ≡ openingOf l m s
-    opening-13 f = rw (opened l m s, p, q, r, allBelow-all (λ k. idle (roadAt l m s k)) (length l) (chosen l m s L M S NoRoad (sym f ∙ e)))
+    opening-13 f = rw (opening-by l m s, p, q, r, allBelow-all (λ k. idle (roadAt l m s k)) (length l) (chosen l m s L M S NoRoad (sym f ∙ e)))
 
     pub opening-road : (k : ℕ) (t : Float) → best ≡ Chose k t → Crusher k ≡ openingOf l m s
     opening-road k t f =
         let h = chosen l m s L M S (Chose k t) (sym f ∙ e) .1 in
         rw (
-          opened l m s,
+          opening-by l m s,
           p,
           q,
           r,

@@ -11,7 +11,7 @@ use Rattle.refusals.specs.declared.Refusal.the-variants.{AllIdle}
 use Rattle.roads.specs.declared.Opening.{Opening}
 use Rattle.roads.specs.declared.Opening.the-variants.{Crusher, Refused}
 use Rattle.roads.specs.Opening.{Road, roadAt, idle, numerator, denominator, badLists, secondsAbove, noTime, allIdle, leastRoad, openingOf, answerOf}
-use Rattle.roads.proofs.Answers.{openingBy, opened}
+use Rattle.roads.proofs.Answers.{openingBy, opening-by}
 use Rattle.roads.proofs.Least.{LeastRoad, time-there, least-is, least-there}
 
 abbrev number : Opening → ℕ
@@ -56,12 +56,12 @@ module _ (lengths metres seconds : List ℕ) where
       (cond (noTime metres seconds) (12, [])
       (cond (allIdle road n) (13, [])
       (0, leastRoad road n ∷ []))))
-  opening-numbers = ap answerOf (opened lengths metres seconds) ∙ numbers (badLists lengths metres seconds) (secondsAbove seconds) (noTime metres seconds) (allIdle road n) (leastRoad road n)
+  opening-numbers = ap answerOf (opening-by lengths metres seconds) ∙ numbers (badLists lengths metres seconds) (secondsAbove seconds) (noTime metres seconds) (allIdle road n) (leastRoad road n)
 
   -- A crusher k is a road that is not idle; no road that is not idle takes less exact time, and none of the same time has a lower number.
   pub opening-least : (k : ℕ) → openingOf lengths metres seconds ≡ Crusher k → LeastRoad road n k
   opening-least k e =
-      let t = at-road (badLists lengths metres seconds) (secondsAbove seconds) (noTime metres seconds) (allIdle road n) (leastRoad road n) k (sym (opened lengths metres seconds) ∙ e) in
+      let t = at-road (badLists lengths metres seconds) (secondsAbove seconds) (noTime metres seconds) (allIdle road n) (leastRoad road n) k (sym (opening-by lengths metres seconds) ∙ e) in
       go t (least-there (λ j. idle (road j)) (λ j. numerator (road j)) (λ j. denominator (road j)) (λ j. time-there (road j)) n)
     where
       go : (allIdle road n ≡ false) × (leastRoad road n ≡ k) → ((j : ℕ) → j < n → idle (road j) ≡ true) ⊎ ((i : ℕ) × LeastRoad road n i) → LeastRoad road n k
@@ -73,7 +73,7 @@ module _ (lengths metres seconds : List ℕ) where
       ↔ ((badLists lengths metres seconds ≡ false) × (secondsAbove seconds ≡ false) × (noTime metres seconds ≡ false) × ((k : ℕ) → k < n → idle (road k) ≡ true))
   opening-idle = (
     λ e.
-        let t = at-13 (badLists lengths metres seconds) (secondsAbove seconds) (noTime metres seconds) (allIdle road n) (leastRoad road n) (sym (opened lengths metres seconds) ∙ e) in
+        let t = at-13 (badLists lengths metres seconds) (secondsAbove seconds) (noTime metres seconds) (allIdle road n) (leastRoad road n) (sym (opening-by lengths metres seconds) ∙ e) in
         (t .0, t .1, t .2, allBelow-at (λ k. idle (road k)) n (t .3)),
-    λ t. rw (opened lengths metres seconds, t .0, t .1, t .2, allBelow-all (λ k. idle (road k)) n (t .3)),
+    λ t. rw (opening-by lengths metres seconds, t .0, t .1, t .2, allBelow-all (λ k. idle (road k)) n (t .3)),
   )

@@ -55,9 +55,9 @@ pub whole-eq : (m n : ℕ) → m ≤ 2 ^ 53 → n ≤ 2 ^ 53 → eq (ofInt binar
 whole-eq m n M N = eq-values (ofInt binary64 (pos m)) (ofInt binary64 (pos n)) m n 1 (zero-lt-suc 0) (whole m M) (whole n N)
 
 -- the product of two 16-bit numbers, as floats, is the float of their product, and is exact
-pub product : (l s : ℕ) → l < 2 ^ 16 → s < 2 ^ 16 → mul binary64 (ofInt binary64 (pos l)) (ofInt binary64 (pos s)) ≡ ofInt binary64 (pos (l * s))
+pub whole-product : (l s : ℕ) → l < 2 ^ 16 → s < 2 ^ 16 → mul binary64 (ofInt binary64 (pos l)) (ofInt binary64 (pos s)) ≡ ofInt binary64 (pos (l * s))
 unfolding ofInt
-product l s L S =
+whole-product l s L S =
     mul-value binary64 (ofInt binary64 (pos l)) (ofInt binary64 (pos s)) l 1 s 1 (zero-lt-suc 0) (zero-lt-suc 0) (whole l (omega arith)) (whole s (omega arith))
 
 -- within the range of the road lists it is below 2 to the 28
@@ -66,13 +66,13 @@ pub product-exact : (l s : ℕ) → l < 2 ^ 16 → s ≤ 3600
 product-exact l s L S =
     let k : l ≤ 65535 = omega arith in
     let h : l * s ≤ 65535 * 3600 = mul-le-mul k S in
-    (omega arith, subst (λ (x : Float). HasValue x false (l * s) 1) (sym (product l s L (omega arith))) (whole (l * s) (omega arith)))
+    (omega arith, subst (λ (x : Float). HasValue x false (l * s) 1) (sym (whole-product l s L (omega arith))) (whole (l * s) (omega arith)))
 
 -- the quotient is the fraction, rounded once
 pub quotient : (l m s : ℕ) → l < 2 ^ 16 → m < 2 ^ 16 → s < 2 ^ 16 → 0 < m
     → div binary64 (mul binary64 (ofInt binary64 (pos l)) (ofInt binary64 (pos s))) (ofInt binary64 (pos m)) ≡ round binary64 false (l * s) m
 quotient l m s L M S P =
     let h : l * s ≤ 2 ^ 16 * 2 ^ 16 = mul-le-mul (le-of-lt L) (le-of-lt S) in
-    ap (λ (x : Float). div binary64 x (ofInt binary64 (pos m))) (product l s L S)
+    ap (λ (x : Float). div binary64 x (ofInt binary64 (pos m))) (whole-product l s L S)
     ∙ div-value binary64 (ofInt binary64 (pos (l * s))) (ofInt binary64 (pos m)) (l * s) 1 m 1 (zero-lt-suc 0) (zero-lt-suc 0) (whole (l * s) (omega arith)) (whole m (omega arith)) P
     ∙ ap₂ (round binary64 false) (mul-one (l * s)) (mul-one m)

@@ -2,7 +2,7 @@
 use native.Mathlib.Omega.{arith}
 use lib.ListN.{length-set}
 use borrow.Author.Needs.{needs}
-use Rattle.ffi.proofs.Answers.{grade-0, grade-9, grade-refused}
+use Rattle.ffi.proofs.Answers.{grade-call-0, grade-call-9, grade-call-refused}
 use Rattle.ffi.proofs.rajvokshul_grade.Statement.{statement}
 use Rattle.ffi.proofs.rajvokshul_grade.Tie as tie
 
@@ -15,11 +15,11 @@ rajvokshul-grade-spec =
     (λ c κs. search needs)
     (λ c. search needs)
     (λ c κs. search needs)
-    (λ c. search grade-9)
+    (λ c. search grade-call-9)
     (λ c. search needs)
     (λ c. simp length-set (omega arith))
     (λ c. simp length-set (omega arith))
     (λ c. simp length-set (omega arith))
-    (λ c. search grade-refused)
+    (λ c. search grade-call-refused)
     (λ c. simp length-set)
-    (λ c. search grade-0))
+    (λ c. search grade-call-0))

@@ -1,6 +1,6 @@
 -- `rajvokshul_list` meets its contract: a law for each return.
 use borrow.Author.Needs.{needs}
-use Rattle.ffi.proofs.Answers.{list-0, list-refused}
+use Rattle.ffi.proofs.Answers.{list-call-0, list-call-refused}
 use Rattle.ffi.proofs.rajvokshul_list.Statement.{statement}
 use Rattle.ffi.proofs.rajvokshul_list.Tie as tie
 
@@ -13,6 +13,6 @@ rajvokshul-list-spec =
     (λ c. search needs)
     (λ c κs. search needs)
     (λ c. search needs)
-    (λ c. search list-0)
+    (λ c. search list-call-0)
     (λ c. search needs)
-    (λ c. search list-refused))
+    (λ c. search list-call-refused))

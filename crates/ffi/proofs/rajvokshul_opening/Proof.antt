@@ -1,6 +1,6 @@
 -- `rajvokshul_opening` meets its contract: a law for each return.
 use borrow.Author.Needs.{needs}
-use Rattle.ffi.proofs.Answers.{opening-0, opening-refused}
+use Rattle.ffi.proofs.Answers.{opening-call-0, opening-call-refused}
 use Rattle.ffi.proofs.rajvokshul_opening.Statement.{statement}
 use Rattle.ffi.proofs.rajvokshul_opening.Tie as tie
 
@@ -12,5 +12,5 @@ rajvokshul-opening-spec =
     (λ c. search needs)
     (λ c. search needs)
     (λ c κs. search needs)
-    (λ c. search opening-0)
-    (λ c. search opening-refused))
+    (λ c. search opening-call-0)
+    (λ c. search opening-call-refused))

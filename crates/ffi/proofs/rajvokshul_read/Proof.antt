@@ -1,6 +1,6 @@
 -- `rajvokshul_read` meets its contract: a law for each return.
 use borrow.Author.Needs.{needs}
-use Rattle.ffi.proofs.Answers.{read-0, read-refused}
+use Rattle.ffi.proofs.Answers.{read-call-0, read-call-refused}
 use Rattle.ffi.proofs.rajvokshul_read.Statement.{statement}
 use Rattle.ffi.proofs.rajvokshul_read.Tie as tie
 
@@ -16,7 +16,7 @@ rajvokshul-read-spec =
     (λ c κs. search needs)
     (λ c. search needs)
     (λ c. search needs)
-    (λ c. search read-0)
+    (λ c. search read-call-0)
     (λ c. search needs)
     (λ c. search needs)
-    (λ c. search read-refused))
+    (λ c. search read-call-refused))

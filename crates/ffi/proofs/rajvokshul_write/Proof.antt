@@ -1,6 +1,6 @@
 -- `rajvokshul_write` meets its contract: a law for each return.
 use borrow.Author.Needs.{needs}
-use Rattle.ffi.proofs.Answers.{write-0, write-refused}
+use Rattle.ffi.proofs.Answers.{write-call-0, write-call-refused}
 use Rattle.ffi.proofs.rajvokshul_write.Statement.{statement}
 use Rattle.ffi.proofs.rajvokshul_write.Tie as tie
 
@@ -15,6 +15,6 @@ rajvokshul-write-spec =
     (λ c. search needs)
     (λ c κs. search needs)
     (λ c. search needs)
-    (λ c. search write-0)
+    (λ c. search write-call-0)
     (λ c. search needs)
-    (λ c. search write-refused))
+    (λ c. search write-call-refused))

@@ -9,7 +9,7 @@ use Rattle.basics.specs.Lists.{someBelow}
 use Rattle.basics.proofs.Laws.{none-someBelow, none-row, some-row}
 use Rattle.recording.specs.Checks.{ownBit, ownLoss}
 use Rattle.plain.proofs.Outcomes.{base-fits}
-use Rattle.plain.proofs.Tests.{ownHere, own-place, own-held, words-small}
+use Rattle.plain.proofs.Tests.{ownPlain, own-plain, own-held, words-small}
 use Rattle.plain.proofs.own_loss.Statement.{statement}
 use Rattle.plain.proofs.own_loss.Tie as tie
 
@@ -34,7 +34,7 @@ own-any-requires c κs =
 
 -- the answer is of all trucks
 answer : (c : tie.After-own-any Inv-loop μ-loop)
-    → c .own-any .result ≡ someBelow (ownHere (c .before .before .before .before .before .args .words .now) (c .before .before .loop .base)) (c .before .before .before .before .before .args .n)
+    → c .own-any .result ≡ someBelow (ownPlain (c .before .before .before .before .before .args .words .now) (c .before .before .loop .base)) (c .before .before .before .before .before .args .n)
 answer c =
     let k = c .before .before .before .before in
     let a = k .before .args in
@@ -48,7 +48,7 @@ returns c =
     let l = c .before .before .before .loop in
     let n : ℕ = a .n in
     sym
-    (some-row (ownBit (λ w. getD (a .words .now) w 0) n) (ownHere (a .words .now) (l .base)) n (l .r) (own-place (a .words .now) n (l .r) (l .base) (l .inv .1)) (a .rounds) (c .before .before .loop-test .taken)
+    (some-row (ownBit (λ w. getD (a .words .now) w 0) n) (ownPlain (a .words .now) (l .base)) n (l .r) (own-plain (a .words .now) n (l .r) (l .base) (l .inv .1)) (a .rounds) (c .before .before .loop-test .taken)
     (sym (answer (c .before)) ∙ c .if1 .taken))
 
 add-base-2 : tie.Need-add-base-2 Inv-loop μ-loop
@@ -62,7 +62,7 @@ loop-again : tie.Need-loop-again Inv-loop μ-loop
 loop-again c =
     let a = c .before .before .before .before .before .before .args in
     let l = c .before .before .before .loop in
-    (omega arith, omega (arith, l .inv .1), none-row (ownBit (λ w. getD (a .words .now) w 0) (a .n)) (ownHere (a .words .now) (l .base)) (a .n) (l .r) (own-place (a .words .now) (a .n) (l .r) (l .base) (l .inv .1)) (l .inv .2) (sym (answer (c .before)) ∙ c .if1 .left))
+    (omega arith, omega (arith, l .inv .1), none-row (ownBit (λ w. getD (a .words .now) w 0) (a .n)) (ownPlain (a .words .now) (l .base)) (a .n) (l .r) (own-plain (a .words .now) (a .n) (l .r) (l .base) (l .inv .1)) (l .inv .2) (sym (answer (c .before)) ∙ c .if1 .left))
 
 returns-2 : tie.Need-returns-2 Inv-loop μ-loop
 unfolding ownLoss

@@ -10,16 +10,16 @@ use Rattle.basics.proofs.Laws.{length-filled}
 use Rattle.bitreader.specs.Bits.{mirrored}
 use Rattle.recording.specs.Packed.{numAt, packBit, bitsFor, bytesFor}
 use Rattle.recording.proofs.Accepted.{GoodPlain, plain-good, in-openings}
-use Rattle.recording.proofs.Packing.{packBit-lt, bits-flat, bytes-hold}
-use Rattle.plain.specs.Steps.{over, byteOf, packedByte, Put}
+use Rattle.recording.proofs.Packing.{packBit-lt, bits-flat, bytes-enough}
+use Rattle.plain.specs.Steps.{over, byteOf, packedByte, BitsPut}
 use Rattle.plain.proofs.Fields.{word-number, word-room, end-number, last-byte}
-use Rattle.plain.proofs.Putting.{put-at, put-anew, put-since, put-length, put-asks, put-more, put-end}
+use Rattle.plain.proofs.Putting.{bits-put-at, bits-put-anew, bits-put-since, bits-put-length, bits-put-asks, bits-put-more, bits-put-end}
 use Rattle.plain.proofs.put_all.Statement.{statement}
 use Rattle.plain.proofs.put_all.Tie as tie
 
 abbrev Inv-loop : tie.InvT-loop
 Inv-loop buf₀ trucks rounds openings words n p₀ w₀ buf p w =
-    (w ≤ length words) × Put (packBit trucks rounds openings words) (16 + 4 * trucks + w * trucks) (p .at) (p .have) (p .acc) buf₀ buf
+    (w ≤ length words) × BitsPut (packBit trucks rounds openings words) (16 + 4 * trucks + w * trucks) (p .at) (p .have) (p .acc) buf₀ buf
 
 abbrev μ-loop : tie.MeasureT-loop
 μ-loop buf₀ trucks rounds openings words n p₀ w₀ buf p w = length words - w
@@ -35,7 +35,7 @@ good : (s : tie.Start Inv-loop μ-loop) → GoodPlain (s .args .trucks) (s .args
 good s = plain-good (s .args .trucks) (s .args .rounds) (s .args .openings .now) (s .args .words .now) (s .pre .0)
 
 enough : (s : tie.Start Inv-loop μ-loop) → bitsFor (s .args .trucks) (s .args .rounds) ≤ 8 * length (s .args .buf .now)
-enough s = omega (arith, s .pre .1, bytes-hold (s .args .trucks) (s .args .rounds) .0)
+enough s = omega (arith, s .pre .1, bytes-enough (s .args .trucks) (s .args .rounds) .0)
 
 front-room : (s : tie.Start Inv-loop μ-loop) → 16 + 4 * s .args .trucks ≤ 8 * length (s .args .buf .now)
 front-room s = omega (arith, enough s, bits-flat (s .args .trucks) (s .args .rounds))
@@ -63,14 +63,14 @@ place s w = 16 + 4 * s .args .trucks + w * s .args .trucks
 
 -- after header and openings
 front : (c : tie.After-put-front Inv-loop μ-loop)
-    → Put (F (S-front c)) (16 + 4 * S-front c .args .trucks) (c .put-front .result .at) (c .put-front .result .have) (c .put-front .result .acc) (S-front c .args .buf .now) (c .put-front .last .0)
+    → BitsPut (F (S-front c)) (16 + 4 * S-front c .args .trucks) (c .put-front .result .at) (c .put-front .result .have) (c .put-front .result .acc) (S-front c .args .buf .now) (c .put-front .last .0)
 front c = c .put-front .ensures (S-front c .args .words .now)
 
 kept : (c : tie.After-put-front Inv-loop μ-loop) → length (c .put-front .last .0) ≡ length (S-front c .args .buf .now)
 kept c =
     let s = S-front c in
     let r = c .put-front in
-    put-length (F s) (16 + 4 * s .args .trucks) (r .result .at) (r .result .have) (r .result .acc) (s .args .buf .now) (r .last .0) (front c) (front-room s)
+    bits-put-length (F s) (16 + 4 * s .args .trucks) (r .result .at) (r .result .have) (r .result .acc) (s .args .buf .now) (r .last .0) (front c) (front-room s)
 
 loop-holds : tie.Need-loop-holds Inv-loop μ-loop
 loop-holds c =
@@ -78,7 +78,7 @@ loop-holds c =
     let s = S-front h in
     let first = 16 + 4 * s .args .trucks in
     let r = h .put-front in
-    (omega arith, put-at (F s) first (place s 0) (r .result .at) (r .result .have) (r .result .acc) (r .last .0) (r .last .0) (omega arith) (put-anew (F s) first (r .result .at) (r .result .have) (r .result .acc) (s .args .buf .now) (r .last .0) (front h)))
+    (omega arith, bits-put-at (F s) first (place s 0) (r .result .at) (r .result .have) (r .result .acc) (r .last .0) (r .last .0) (omega arith) (bits-put-anew (F s) first (r .result .at) (r .result .have) (r .result .acc) (s .args .buf .now) (r .last .0) (front h)))
 
 -- the word, as bits of the packed form
 value : (c : tie.After-mirror Inv-loop μ-loop) → c .mirror .result ≡ numAt (F (S-word c)) (place (S-word c) (c .before .before .before .before .loop .w)) (S-word c .args .trucks)
@@ -101,7 +101,7 @@ put-requires c κs =
     let l = c .before .before .before .before .loop in
     let h = c .before .before .before .before .before .before .before in
     let s = S-word c in
-    put-asks (F s) (place s (l .w)) (l .p .at) (l .p .have) (l .p .acc) (h .put-front .last .0) (l .buf) (l .inv .1) (bits s) (c .mirror .result) (s .args .trucks) (value c) (room c) (good s .most)
+    bits-put-asks (F s) (place s (l .w)) (l .p .at) (l .p .have) (l .p .acc) (h .put-front .last .0) (l .buf) (l .inv .1) (bits s) (c .mirror .result) (s .args .trucks) (value c) (room c) (good s .most)
 
 loop-again : tie.Need-loop-again Inv-loop μ-loop
 loop-again c =
@@ -112,11 +112,11 @@ loop-again c =
     let n = s .args .trucks in
     let r = c .before .before .put in
     let e = r .ensures in
-    (omega arith, put-at (F s) (place s (l .w) + n) (place s (l .w + 1)) (r .result .at) (r .result .have) (r .result .acc) (h .put-front .last .0) (r .last .0) (omega arith) (put-more (F s) (place s (l .w)) (l .p .at) (l .p .have) (l .p .acc) (h .put-front .last .0) (l .buf) (l .inv .1) (bits s) (v .mirror .result) n (value v) (room v) (good s .most) (r .result .at) (r .result .have) (r .result .acc) (r .last .0) (e .0) (e .1 .0) (e .1 .1 .0) (e .1 .1 .1)))
+    (omega arith, bits-put-at (F s) (place s (l .w) + n) (place s (l .w + 1)) (r .result .at) (r .result .have) (r .result .acc) (h .put-front .last .0) (r .last .0) (omega arith) (bits-put-more (F s) (place s (l .w)) (l .p .at) (l .p .have) (l .p .acc) (h .put-front .last .0) (l .buf) (l .inv .1) (bits s) (v .mirror .result) n (value v) (room v) (good s .most) (r .result .at) (r .result .have) (r .result .acc) (r .last .0) (e .0) (e .1 .0) (e .1 .1 .0) (e .1 .1 .1)))
 
 -- after the last word
 all-put : (c : tie.After-loop Inv-loop μ-loop)
-    → Put (F (S-loop c)) (bitsFor (S-loop c .args .trucks) (S-loop c .args .rounds)) (c .before .loop .p .at) (c .before .loop .p .have) (c .before .loop .p .acc) (S-loop c .args .buf .now) (c .before .loop .buf)
+    → BitsPut (F (S-loop c)) (bitsFor (S-loop c .args .trucks) (S-loop c .args .rounds)) (c .before .loop .p .at) (c .before .loop .p .have) (c .before .loop .p .acc) (S-loop c .args .buf .now) (c .before .loop .buf)
 all-put c =
     let h = c .before .before .before .before in
     let s = S-loop c in
@@ -125,8 +125,8 @@ all-put c =
     let l = c .before .loop in
     let r = h .put-front in
     let e : l .w ≡ R * (3 + n) = omega (arith, good s .rounds-good .count) in
-    put-since (F s) (16 + 4 * n) (r .result .at) (r .result .have) (r .result .acc) (s .args .buf .now) (r .last .0) (front h) (bitsFor n R) (l .p .at) (l .p .have) (l .p .acc) (l .buf) (omega (arith, bits-flat n R))
-    (put-at (F s) (place s (l .w)) (bitsFor n R) (l .p .at) (l .p .have) (l .p .acc) (r .last .0) (l .buf) (ap (place s) e ∙ sym (bits-flat n R)) (l .inv .1))
+    bits-put-since (F s) (16 + 4 * n) (r .result .at) (r .result .have) (r .result .acc) (s .args .buf .now) (r .last .0) (front h) (bitsFor n R) (l .p .at) (l .p .have) (l .p .acc) (l .buf) (omega (arith, bits-flat n R))
+    (bits-put-at (F s) (place s (l .w)) (bitsFor n R) (l .p .at) (l .p .have) (l .p .acc) (r .last .0) (l .buf) (ap (place s) e ∙ sym (bits-flat n R)) (l .inv .1))
 
 -- the bytes up to the last
 ended : (c : tie.After-loop Inv-loop μ-loop) → c .before .loop .p .at + (c .before .loop .p .have + 7) / 8 ≡ bytesFor (S-loop c .args .trucks) (S-loop c .args .rounds)
@@ -137,7 +137,7 @@ put-bytes-requires c κs =
     let o = c .before .before .before in
     let s = S-loop o in
     let l = o .before .loop in
-    (omega (arith, all-put o .left), omega (arith, ended o, s .pre .1, put-length (F s) (bitsFor (s .args .trucks) (s .args .rounds)) (l .p .at) (l .p .have) (l .p .acc) (s .args .buf .now) (l .buf) (all-put o) (enough s)))
+    (omega (arith, all-put o .left), omega (arith, ended o, s .pre .1, bits-put-length (F s) (bitsFor (s .args .trucks) (s .args .rounds)) (l .p .at) (l .p .have) (l .p .acc) (s .args .buf .now) (l .buf) (all-put o) (enough s)))
 
 -- after the zeros
 abbrev G : tie.Start Inv-loop μ-loop → ℕ → ℕ
@@ -151,7 +151,7 @@ written c =
     let a = s .args in
     let l = o .before .loop in
     let p = l .p in
-    put-end (F s) (bitsFor (a .trucks) (a .rounds)) (p .at) (p .have) (p .acc) (a .buf .now) (l .buf) (all-put o) (bits s) 0 7 (end-number (a .trucks) (a .rounds) (a .openings .now) (a .words .now) 7) (omega arith) (omega (arith, ended o, s .pre .1)) (c .put-bytes .last .0)
+    bits-put-end (F s) (bitsFor (a .trucks) (a .rounds)) (p .at) (p .have) (p .acc) (a .buf .now) (l .buf) (all-put o) (bits s) 0 7 (end-number (a .trucks) (a .rounds) (a .openings .now) (a .words .now) 7) (omega arith) (omega (arith, ended o, s .pre .1)) (c .put-bytes .last .0)
     (c .put-bytes .ensures ∙ ap (λ (x : ℕ). over (byteOf x (p .have + 7)) (p .at) ((p .have + 7) / 8) (l .buf)) (sym (add-zero (p .acc * 2 ^ 7 % 2 ^ 64))))
     ∙ ap (λ (m : ℕ). filled (G s) m (a .buf .now)) (ended o)
 

@@ -6,12 +6,12 @@ use borrow.Author.Needs.{needs}
 use Rattle.basics.specs.Bits.{bit}
 use Rattle.basics.specs.Lists.{someBelow}
 use Rattle.basics.proofs.Laws.{some-none}
-use Rattle.recording.proofs.Searches.{ownHere, place-small, union-more, within-rows}
+use Rattle.recording.proofs.Searches.{ownPacked, own-near, union-more, within-rows}
 use Rattle.recording.proofs.own_any.Statement.{statement}
 use Rattle.recording.proofs.own_any.Tie as tie
 
 abbrev Inv-loop : tie.InvT-loop
-Inv-loop s at n seen₀ p₀ any₀ seen p any = (p ≡ at + seen * (n + 1)) × (seen ≤ n) × (bit any 7 ≡ someBelow (ownHere s at n) seen)
+Inv-loop s at n seen₀ p₀ any₀ seen p any = (p ≡ at + seen * (n + 1)) × (seen ≤ n) × (bit any 7 ≡ someBelow (ownPacked s at n) seen)
 
 abbrev μ-loop : tie.MeasureT-loop
 μ-loop s at n seen₀ p₀ any₀ seen p any = n - seen
@@ -19,7 +19,7 @@ abbrev μ-loop : tie.MeasureT-loop
 loop-holds : tie.Need-loop-holds Inv-loop μ-loop
 loop-holds c =
     let a = c .args in
-    (omega arith, omega arith, sym (some-none (ownHere (a .s .now) (a .at) (a .n))))
+    (omega arith, omega arith, sym (some-none (ownPacked (a .s .now) (a .at) (a .n))))
 
 shared-slice-read-any : tie.Need-shared-slice-read-any Inv-loop μ-loop
 shared-slice-read-any c =
@@ -34,7 +34,7 @@ add-p-2 : tie.Need-add-p-2 Inv-loop μ-loop
 add-p-2 c =
     let a = c .before .before .before .args in
     let l = c .before .before .loop in
-    omega (arith, l .inv .0, place-small (a .n) (l .seen) (omega arith) (omega arith))
+    omega (arith, l .inv .0, own-near (a .n) (l .seen) (omega arith) (omega arith))
 
 loop-again : tie.Need-loop-again Inv-loop μ-loop
 loop-again c =

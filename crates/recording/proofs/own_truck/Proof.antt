@@ -7,12 +7,12 @@ use borrow.Author.Tests.{eq-eqb, ne-eqb}
 use lib.Dec.{eqb}
 use Rattle.basics.specs.Lists.{first}
 use Rattle.basics.proofs.Laws.{first-none, first-step, first-found}
-use Rattle.recording.proofs.Searches.{ownHere, place-small, bit-read}
+use Rattle.recording.proofs.Searches.{ownPacked, own-near, bit-read}
 use Rattle.recording.proofs.own_truck.Statement.{statement}
 use Rattle.recording.proofs.own_truck.Tie as tie
 
 abbrev Inv-loop : tie.InvT-loop
-Inv-loop s at n i₀ p₀ i p = (p ≡ at + i * (n + 1)) × (i ≤ n) × (first (ownHere s at n) i ≡ i)
+Inv-loop s at n i₀ p₀ i p = (p ≡ at + i * (n + 1)) × (i ≤ n) × (first (ownPacked s at n) i ≡ i)
 
 abbrev μ-loop : tie.MeasureT-loop
 μ-loop s at n i₀ p₀ i p = n - i
@@ -20,11 +20,11 @@ abbrev μ-loop : tie.MeasureT-loop
 loop-holds : tie.Need-loop-holds Inv-loop μ-loop
 loop-holds c =
     let a = c .before .args in
-    (omega arith, omega arith, first-none (ownHere (a .s .now) (a .at) (a .n)))
+    (omega arith, omega arith, first-none (ownPacked (a .s .now) (a .at) (a .n)))
 
 -- what the bit read says of the round's bit
 read : (c : tie.After-read-at Inv-loop μ-loop)
-    → eqb (c .read-at .result .value) 1 ≡ ownHere (c .before .before .before .before .args .s .now) (c .before .before .before .before .args .at) (c .before .before .before .before .args .n) (c .before .before .loop .i)
+    → eqb (c .read-at .result .value) 1 ≡ ownPacked (c .before .before .before .before .args .s .now) (c .before .before .before .before .args .at) (c .before .before .before .before .args .n) (c .before .before .loop .i)
 read c =
     let a = c .before .before .before .before .args in
     let l = c .before .before .loop in
@@ -35,20 +35,20 @@ returns c =
     let a = c .before .before .before .before .before .args in
     let l = c .before .before .before .loop in
     sym
-    (first-found (ownHere (a .s .now) (a .at) (a .n)) (a .n) (l .i) (omega arith) (l .inv .2)
+    (first-found (ownPacked (a .s .now) (a .at) (a .n)) (a .n) (l .i) (omega arith) (l .inv .2)
     (sym (read (c .before)) ∙ eq-eqb (c .before .read-at .result .value) 1 (c .if1 .taken)))
 
 add-p-2 : tie.Need-add-p-2 Inv-loop μ-loop
 add-p-2 c =
     let a = c .before .before .before .before .before .args in
     let l = c .before .before .before .loop in
-    omega (arith, l .inv .0, place-small (a .n) (l .i) (omega arith) (omega arith))
+    omega (arith, l .inv .0, own-near (a .n) (l .i) (omega arith) (omega arith))
 
 loop-again : tie.Need-loop-again Inv-loop μ-loop
 loop-again c =
     let a = c .before .before .before .before .before .args in
     let l = c .before .before .before .loop in
-    (omega (arith, l .inv .0), omega arith, first-step (ownHere (a .s .now) (a .at) (a .n)) (l .i) (l .inv .2) (sym (read (c .before)) ∙ ne-eqb (c .before .read-at .result .value) 1 (c .if1 .left)))
+    (omega (arith, l .inv .0), omega arith, first-step (ownPacked (a .s .now) (a .at) (a .n)) (l .i) (l .inv .2) (sym (read (c .before)) ∙ ne-eqb (c .before .read-at .result .value) 1 (c .if1 .left)))
 
 returns-2 : tie.Need-returns-2 Inv-loop μ-loop
 returns-2 c =

@@ -14,10 +14,10 @@ use Rattle.refusals.specs.declared.Refusal.{Refusal}
 use Rattle.refusals.specs.declared.Refusal.the-variants.{TruckCount, Record, RoundsDone}
 use Rattle.refusals.specs.declared.Outcome.{Outcome}
 use Rattle.refusals.specs.declared.Outcome.the-variants.{Accepted, Refused}
-use Rattle.recording.specs.Packed.{trucksOf, roundsOf, openingsOf, roundAt}
 use Rattle.refusals.specs.Outcomes.{refuse}
-use Rattle.recording.specs.Checks.{checkOf, badTrucks, roundCheck}
 use Rattle.refusals.proofs.Outcomes.{refuse-false}
+use Rattle.recording.specs.Packed.{trucksOf, roundsOf, openingsOf, roundAt}
+use Rattle.recording.specs.Checks.{checkOf, badTrucks, roundCheck}
 use Rattle.recording.proofs.Accepted.{in-trucks, bytes-good}
 use Rattle.protocol.specs.declared.Fleet.{Fleet}
 use Rattle.protocol.specs.declared.Answer.{Answer}

@@ -10,10 +10,10 @@ use Rattle.refusals.specs.Numbers.{numberOf}
 use Rattle.refusals.specs.declared.Refusal.the-variants.{ShortBuffer}
 use Rattle.refusals.specs.declared.Outcome.{Outcome}
 use Rattle.refusals.specs.declared.Outcome.the-variants.{Accepted, Refused}
+use Rattle.refusals.specs.Outcomes.{refuse, andThen}
 use Rattle.roads.specs.declared.Opening.{Opening}
 use Rattle.roads.specs.declared.Opening.the-variants as opening
 use Rattle.roads.specs.Opening.{openingOf}
-use Rattle.refusals.specs.Outcomes.{refuse, andThen}
 use Rattle.plain.specs.declared.ReadOutcome.{ReadOutcome}
 use Rattle.plain.specs.declared.ReadOutcome.the-variants as read
 use Rattle.plain.specs.declared.WriteOutcome.{WriteOutcome}

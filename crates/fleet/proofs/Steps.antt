@@ -13,8 +13,8 @@ use Rattle.refusals.specs.declared.Refusal.the-variants.{Record, RoundsDone}
 use Rattle.refusals.specs.declared.Outcome.{Outcome}
 use Rattle.refusals.specs.declared.Outcome.the-variants.{Accepted}
 use Rattle.refusals.specs.Outcomes.{refuse}
-use Rattle.recording.specs.Checks.{badTrucks, roundCheck}
 use Rattle.refusals.proofs.Outcomes.{refuse-false, refuse-rest}
+use Rattle.recording.specs.Checks.{badTrucks, roundCheck}
 use Rattle.recording.proofs.Accepted.{trucks-in}
 use Rattle.recording.proofs.Rounds.{round-good}
 use Rattle.protocol.specs.declared.Fleet.{Fleet}

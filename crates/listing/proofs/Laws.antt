@@ -14,12 +14,12 @@ use Rattle.protocol.specs.declared.Truck.{Truck}
 use Rattle.protocol.specs.Rules.{truck}
 use Rattle.listing.specs.Text.{text, decimalIn, decimal, stateText, truckLine, truckLines, listingOf, refusalText}
 use Rattle.refusals.specs.declared.Refusal.the-variants.{ShortBuffer}
-use Rattle.listing.specs.declared.Listed.{Listed}
-use Rattle.listing.specs.declared.Listed.the-variants.{Text, Refused}
-use Rattle.listing.specs.Listed.{Left, left, textIn, listedFor, listed, refusalListed}
 use Rattle.refusals.specs.declared.Refusal.{Refusal}
 use Rattle.refusals.specs.declared.Outcome.{Outcome}
 use Rattle.refusals.specs.declared.Outcome.the-variants as outcome
+use Rattle.listing.specs.declared.Listed.{Listed}
+use Rattle.listing.specs.declared.Listed.the-variants.{Text, Refused}
+use Rattle.listing.specs.Listed.{Left, left, textIn, listedFor, listed, refusalListed}
 use Rattle.recording.specs.Packed.{trucksOf, roundsOf, openingsOf, roundAt}
 use Rattle.recording.specs.Checks.{checkOf}
 use Rattle.recording.proofs.Accepted.{bytes-good}

@@ -11,9 +11,9 @@ use Rattle.refusals.specs.declared.Refusal.{Refusal}
 use Rattle.refusals.specs.declared.Refusal.the-variants.{ShortBuffer}
 use Rattle.refusals.specs.declared.Outcome.{Outcome}
 use Rattle.refusals.specs.declared.Outcome.the-variants.{Accepted, Refused}
+use Rattle.refusals.specs.Outcomes.{refuse, andThen}
 use Rattle.basics.specs.Lists.{filled}
 use Rattle.recording.specs.Packed.{trucksOf, roundsOf, openingAt, wordAt, bytesFor, pack, packed}
-use Rattle.refusals.specs.Outcomes.{refuse, andThen}
 use Rattle.recording.specs.Checks.{checkOf, plainCheck}
 use Rattle.basics.proofs.Laws.{or-left, or-right}
 use Rattle.recording.proofs.Accepted.{bytes-good}

@@ -11,9 +11,9 @@ use lib.ListN.{length, getD}
 use Rattle.refusals.specs.declared.Refusal.the-variants.{TruckCount, RoundCount, OwnLoss, Record, PlainRound}
 use Rattle.refusals.specs.declared.Outcome.{Outcome}
 use Rattle.refusals.specs.declared.Outcome.the-variants.{Accepted, Refused}
+use Rattle.refusals.specs.Outcomes.{refuse}
 use Rattle.basics.specs.Lists.{someBelow}
 use Rattle.basics.proofs.Laws.{or-left}
-use Rattle.refusals.specs.Outcomes.{refuse}
 use Rattle.recording.specs.Checks.{badTrucks, badRounds, badOpenings, badWords, ownLoss, highBit, roundsCheck, plainCheck}
 
 -- ---- 8 and 6

@@ -12,12 +12,12 @@ use Rattle.refusals.specs.declared.Refusal.the-variants.{ShortBuffer}
 use Rattle.refusals.specs.declared.Outcome.{Outcome}
 use Rattle.refusals.specs.declared.Outcome.the-variants.{Accepted, Refused}
 use Rattle.refusals.specs.Numbers.{outcomeNumber}
+use Rattle.refusals.specs.Outcomes.{refuse}
+use Rattle.refusals.proofs.Outcomes.{refuse-on, then-first, then-both}
 use Rattle.basics.specs.Lists.{filled}
 use Rattle.basics.proofs.Laws.{length-tab}
 use Rattle.recording.specs.Packed.{trucksOf, roundsOf, openingAt, openingsOf, wordAt, wordsOf, bytesFor, packBit, packed}
-use Rattle.refusals.specs.Outcomes.{refuse}
 use Rattle.recording.specs.Checks.{checkOf, plainCheck}
-use Rattle.refusals.proofs.Outcomes.{refuse-on, then-first, then-both}
 use Rattle.recording.proofs.Accepted.{plain-good, bytes-good}
 use Rattle.recording.proofs.Packing.{length-pack}
 use Rattle.recording.proofs.RoundTrip.{read-back, write-back}

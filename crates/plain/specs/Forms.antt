@@ -8,9 +8,9 @@ use Rattle.refusals.specs.declared.Refusal.the-variants.{ShortBuffer}
 use Rattle.refusals.specs.declared.Outcome.{Outcome}
 use Rattle.refusals.specs.declared.Outcome.the-variants.{Accepted, Refused}
 use Rattle.refusals.specs.Numbers.{numberOf}
+use Rattle.refusals.specs.Outcomes.{refuse, andThen}
 use Rattle.basics.specs.Lists.{filled}
 use Rattle.recording.specs.Packed.{trucksOf, roundsOf, openingAt, wordAt, roundWords, bytesFor, packed}
-use Rattle.refusals.specs.Outcomes.{refuse, andThen}
 use Rattle.recording.specs.Checks.{checkOf, plainCheck}
 use Rattle.plain.specs.declared.ReadOutcome.{ReadOutcome}
 use Rattle.plain.specs.declared.ReadOutcome.the-variants.{Plain, Refused as NotRead}

@@ -16,10 +16,10 @@ use Rattle.refusals.specs.declared.Refusal.the-variants.{TruckCount, Record, Ro
 use Rattle.refusals.specs.declared.Outcome.{Outcome}
 use Rattle.refusals.specs.declared.Outcome.the-variants.{Accepted, Refused}
 use Rattle.refusals.specs.Numbers.{accepted}
-use Rattle.recording.specs.Packed.{trucksOf, roundsOf, openingsOf, wordsOf, roundAt, packed, joined}
 use Rattle.refusals.specs.Outcomes.{refuse}
-use Rattle.recording.specs.Checks.{badTrucks, badOpenings, checkOf, roundCheck}
 use Rattle.refusals.proofs.Outcomes.{refuse-false, refuse-rest}
+use Rattle.recording.specs.Packed.{trucksOf, roundsOf, openingsOf, wordsOf, roundAt, packed, joined}
+use Rattle.recording.specs.Checks.{badTrucks, badOpenings, checkOf, roundCheck}
 use Rattle.recording.proofs.Accepted.{GoodOpenings, trucks-in, openings-in}
 use Rattle.recording.proofs.RoundTrip.{read-back}
 use Rattle.recording.proofs.Rounds.{joined-accepted, round-back}

@@ -17,9 +17,9 @@ use Rattle.refusals.specs.declared.Refusal.{Refusal}
 use Rattle.refusals.specs.declared.Refusal.the-variants.{Record, ShortBuffer}
 use Rattle.refusals.specs.declared.Outcome.{Outcome}
 use Rattle.refusals.specs.declared.Outcome.the-variants.{Accepted, Refused}
+use Rattle.refusals.specs.Outcomes.{refuse}
 use Rattle.refusals.proofs.Outcomes.{refuse-false, refuse-rest}
 use Rattle.recording.proofs.Accepted.{trucks-in}
-use Rattle.refusals.specs.Outcomes.{refuse}
 use Rattle.recording.specs.Checks.{badTrucks}
 use Rattle.protocol.specs.declared.Heard.{Heard}
 use Rattle.protocol.specs.declared.State.{State}

@@ -58,11 +58,6 @@ word-there s n w at v e h p r =
     ∙ ap₂ (λ (q k : ℕ). rowAt (bitAt s) q k) p (min-eq-left h)
     ∙ ap (λ (k : ℕ). rowAt (bitAt s) (16 + 4 * k + w * k) k) e
 
--- round k begins where a recording of k rounds ends
-pub round-there : (s : List ℕ) (n k w at v : ℕ) → n ≡ trucksOf s → n ≤ 32 → at ≡ bitsFor n k + w * n → v ≡ rowAt (bitAt s) at (min n 32) → v ≡ wordAt s (k * (3 + n) + w)
-unfolding bitsFor
-round-there s n k w at v e h p r = word-there s n (k * (3 + n) + w) at v e h (p ∙ omega arith) r
-
 -- ---- rounds one after the other
 pub length-joined : (m : ℕ) (rs : List (List ℕ)) → ((k : ℕ) → k < length rs → length (getD rs k []) ≡ m) → length (joined rs) ≡ length rs * m
 unfolding joined

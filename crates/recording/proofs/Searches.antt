@@ -15,13 +15,13 @@ use Rattle.refusals.specs.declared.Refusal.{Refusal}
 use Rattle.refusals.specs.declared.Refusal.the-variants.{ShortRecording, TruckCount, RoundCount, RecordingLength, EndBit, OwnLoss}
 use Rattle.refusals.specs.declared.Outcome.{Outcome}
 use Rattle.refusals.specs.declared.Outcome.the-variants.{Accepted, Refused}
+use Rattle.refusals.specs.Outcomes.{refuse, andThen}
 use Rattle.basics.specs.Bits.{bit, digit}
 use Rattle.basics.specs.Lists.{first, someBelow}
 use Rattle.basics.proofs.Laws.{someBelow-none, none-someBelow, some-first, some-more, none-row, first-row, first-all}
 use Rattle.basics.proofs.Bits.{bit-or}
 use Rattle.bitreader.proofs.Digits.{bitAt-lt, numAt-digit, rowAt-digit, numAt-one, bit-in-byte}
 use Rattle.recording.specs.Packed.{bitAt, numAt, rowAt, trucksOf, roundsOf, wordAt, bitsFor, bytesFor}
-use Rattle.refusals.specs.Outcomes.{refuse, andThen}
 use Rattle.recording.specs.Checks.{tooShort, badTrucks, badRounds, badLength, endBit, ownBit, firstOwn, ownLoss, frameCheck, ownCheck, checkOf}
 use Rattle.recording.proofs.Accepted.{GoodFrame, frame-good, trucks-in}
 use Rattle.recording.proofs.RoundTrip.{own-at}
@@ -84,7 +84,7 @@ abbrev pub ownPacked : List ℕ → ℕ → ℕ → ℕ → Bool
 ownPacked s at n i = eqb (bitAt s (at + i * (n + 1))) 1
 
 -- that place in round r
-pub own-packed : (s : List ℕ) (n r at : ℕ) → n ≡ trucksOf s → at ≡ 16 + 7 * n + r * (3 * n + n * n) → (i : ℕ) → i < n → ownPacked s at n i ≡ ownBit (wordAt s) n (r * n + i)
+own-packed : (s : List ℕ) (n r at : ℕ) → n ≡ trucksOf s → at ≡ 16 + 7 * n + r * (3 * n + n * n) → (i : ℕ) → i < n → ownPacked s at n i ≡ ownBit (wordAt s) n (r * n + i)
 unfolding wordAt
 own-packed s n r at e p i h =
     let w : ℕ = r * (3 + n) + (3 + i) in

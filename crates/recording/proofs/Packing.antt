@@ -12,7 +12,7 @@ use lib.Seq.{ext-getD}
 use Rattle.basics.specs.Bits.{digit}
 use Rattle.basics.specs.Lists.{tab}
 use Rattle.basics.proofs.Laws.{length-tab, getD-tab, tab-ext}
-use Rattle.recording.specs.Packed.{bitAt, numAt, bitsFor, bytesFor, pack, packBit, openingBit, roundBit}
+use Rattle.recording.specs.Packed.{bitAt, numAt, headerBits, openingPlace, wordPlace, roundPlace, bitsFor, bytesFor, pack, packBit, openingBit, roundBit}
 use Rattle.bitreader.proofs.Digits.{digit-lt, numAt-digit, numAt-ext, byte-is}
 
 pub length-pack : (f : ℕ → ℕ) (m : ℕ) → length (pack f m) ≡ m
@@ -43,7 +43,7 @@ pack-bitAt s m e h =
     getD-tab g m q 0 o ∙ byte-is s q (h q o))
 
 -- ---- sizes
-pub bits-flat : (n R : ℕ) → bitsFor n R ≡ 16 + 4 * n + R * (3 + n) * n
+pub bits-flat : (n R : ℕ) → bitsFor n R ≡ roundPlace n R
 unfolding bitsFor
 bits-flat n R = omega arith
 
@@ -52,7 +52,7 @@ unfolding bytesFor
 bytes-enough n R = omega arith
 
 -- the last bit of word w stands before the end
-pub word-ends : (n R w i : ℕ) → w < R * (3 + n) → i < n → 16 + 4 * n + w * n + i < bitsFor n R
+pub word-ends : (n R w i : ℕ) → w < R * (3 + n) → i < n → wordPlace n w + i < bitsFor n R
 word-ends n R w i h l =
     let m : w * n + i < R * (3 + n) * n = digits-lt h l in
     omega (arith, bits-flat n R)
@@ -63,37 +63,37 @@ module _ (n R : ℕ) (openings words : List ℕ) where
   unfolding packBit
   bit-trucks p h = rw (lt-ltb p 6 h)
 
-  pub bit-rounds : (p : ℕ) → 6 ≤ p → p < 16 → packBit n R openings words p ≡ digit R (15 - p)
+  pub bit-rounds : (p : ℕ) → 6 ≤ p → p < headerBits → packBit n R openings words p ≡ digit R (15 - p)
   unfolding packBit
-  bit-rounds p l h = rw (le-ltb p 6 l, lt-ltb p 16 h)
+  bit-rounds p l h = rw (le-ltb p 6 l, lt-ltb p headerBits h)
 
-  pub bit-openings : (p : ℕ) → 16 ≤ p → p < 16 + 4 * n → packBit n R openings words p ≡ openingBit openings (p - 16)
+  pub bit-openings : (p : ℕ) → headerBits ≤ p → p < openingPlace n → packBit n R openings words p ≡ openingBit openings (p - headerBits)
   unfolding packBit
   bit-openings p l h =
-      rw (le-ltb p 6 (let o : 6 ≤ p = omega arith in o), le-ltb p 16 l, lt-ltb p (16 + 4 * n) h)
+      rw (le-ltb p 6 (let o : 6 ≤ p = omega arith in o), le-ltb p headerBits l, lt-ltb p (openingPlace n) h)
 
-  pub bit-words : (p : ℕ) → 16 + 4 * n ≤ p → p < bitsFor n R → packBit n R openings words p ≡ roundBit n words (p - (16 + 4 * n))
+  pub bit-words : (p : ℕ) → openingPlace n ≤ p → p < bitsFor n R → packBit n R openings words p ≡ roundBit n words (p - openingPlace n)
   unfolding packBit
   bit-words p l h =
-      rw (le-ltb p 6 (let o : 6 ≤ p = omega arith in o), le-ltb p 16 (let o : 16 ≤ p = omega arith in o), le-ltb p (16 + 4 * n) l, lt-ltb p (bitsFor n R) h)
+      rw (le-ltb p 6 (let o : 6 ≤ p = omega arith in o), le-ltb p headerBits (let o : headerBits ≤ p = omega arith in o), le-ltb p (openingPlace n) l, lt-ltb p (bitsFor n R) h)
 
   pub bit-end : (p : ℕ) → bitsFor n R ≤ p → packBit n R openings words p ≡ 0
   unfolding packBit
   bit-end p h =
-      let l : 16 + 4 * n ≤ p = omega (arith, bits-flat n R) in
-      rw (le-ltb p 6 (let o : 6 ≤ p = omega arith in o), le-ltb p 16 (let o : 16 ≤ p = omega arith in o), le-ltb p (16 + 4 * n) l, le-ltb p (bitsFor n R) h)
+      let l : openingPlace n ≤ p = omega (arith, bits-flat n R) in
+      rw (le-ltb p 6 (let o : 6 ≤ p = omega arith in o), le-ltb p headerBits (let o : headerBits ≤ p = omega arith in o), le-ltb p (openingPlace n) l, le-ltb p (bitsFor n R) h)
 
   -- bit i of opening j, and of word w
-  pub bit-opening : (j i : ℕ) → j < n → i < 4 → packBit n R openings words (16 + 4 * j + i) ≡ digit (getD openings j 0) (4 - suc i)
+  pub bit-opening : (j i : ℕ) → j < n → i < 4 → packBit n R openings words (openingPlace j + i) ≡ digit (getD openings j 0) (4 - suc i)
   unfolding openingBit
   bit-opening j i h l =
-      bit-openings (16 + 4 * j + i) (omega arith) (omega arith) ∙ ap₂ (λ (a b : ℕ). digit (getD openings a 0) b) (omega arith) (omega arith)
+      bit-openings (openingPlace j + i) (omega arith) (omega arith) ∙ ap₂ (λ (a b : ℕ). digit (getD openings a 0) b) (omega arith) (omega arith)
 
-  pub bit-word : (w i : ℕ) → w < R * (3 + n) → i < n → packBit n R openings words (16 + 4 * n + w * n + i) ≡ digit (getD words w 0) i
+  pub bit-word : (w i : ℕ) → w < R * (3 + n) → i < n → packBit n R openings words (wordPlace n w + i) ≡ digit (getD words w 0) i
   unfolding roundBit
   bit-word w i h l =
-      let p : ℕ = 16 + 4 * n + w * n + i in
-      let q : p - (16 + 4 * n) ≡ w * n + i = omega arith in
+      let p : ℕ = wordPlace n w + i in
+      let q : p - openingPlace n ≡ w * n + i = omega arith in
       bit-words p (omega arith) (word-ends n R w i h l)
       ∙ ap (λ (a : ℕ). digit (getD words (a / n) 0) (a % n)) q
       ∙ ap₂ (λ (a b : ℕ). digit (getD words a 0) b) (digits-div w l) (digits-mod w l)
@@ -105,12 +105,12 @@ module _ (n R : ℕ) (openings words : List ℕ) where
   pub packBit-lt : (p : ℕ) → packBit n R openings words p < 2
   unfolding packBit openingBit roundBit
   packBit-lt p =
-      let o : ℕ = p - 16 in
-      let q : ℕ = p - (16 + 4 * n) in
+      let o : ℕ = p - headerBits in
+      let q : ℕ = p - openingPlace n in
       let w : ℕ = cond (ltb p (bitsFor n R)) (roundBit n words q) 0 in
-      let v : ℕ = cond (ltb p (16 + 4 * n)) (openingBit openings o) w in
-      let u : ℕ = cond (ltb p 16) (digit R (15 - p)) v in
+      let v : ℕ = cond (ltb p (openingPlace n)) (openingBit openings o) w in
+      let u : ℕ = cond (ltb p headerBits) (digit R (15 - p)) v in
       let dw : w < 2 = cond-lt (ltb p (bitsFor n R)) (roundBit n words q) 0 (digit-lt (getD words (q / n) 0) (q % n)) (lit< tt) in
-      let dv : v < 2 = cond-lt (ltb p (16 + 4 * n)) (openingBit openings o) w (digit-lt (getD openings (o / 4) 0) (3 - o % 4)) dw in
-      let du : u < 2 = cond-lt (ltb p 16) (digit R (15 - p)) v (digit-lt R (15 - p)) dv in
+      let dv : v < 2 = cond-lt (ltb p (openingPlace n)) (openingBit openings o) w (digit-lt (getD openings (o / 4) 0) (3 - o % 4)) dw in
+      let du : u < 2 = cond-lt (ltb p headerBits) (digit R (15 - p)) v (digit-lt R (15 - p)) dv in
       cond-lt (ltb p 6) (digit n (5 - p)) u (digit-lt n (5 - p)) du

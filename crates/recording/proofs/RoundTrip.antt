@@ -12,7 +12,7 @@ use Rattle.refusals.specs.declared.Outcome.the-variants.{Accepted}
 use Rattle.basics.specs.Bits.{digit, bit}
 use Rattle.basics.specs.Lists.{tab}
 use Rattle.basics.proofs.Laws.{length-tab, getD-tab, tab-ext, tab-getD}
-use Rattle.recording.specs.Packed.{bitAt, numAt, rowAt, trucksOf, roundsOf, openingAt, openingsOf, wordAt, wordsOf, bitsFor, bytesFor, packBit, packed, openingBit, roundBit}
+use Rattle.recording.specs.Packed.{bitAt, numAt, rowAt, trucksOf, roundsOf, headerBits, openingPlace, openingAt, openingsOf, wordPlace, wordAt, wordsOf, bitsFor, bytesFor, packBit, packed, openingBit, roundBit}
 use Rattle.recording.specs.Checks.{ownBit, checkOf, plainCheck}
 use Rattle.bitreader.proofs.Digits.{bitAt-lt, numAt-is, numAt-lt, numAt-digit, rowAt-is, rowAt-lt, rowAt-digit}
 use Rattle.recording.proofs.Accepted.{GoodOpenings, GoodRounds, GoodPlain, GoodFrame, GoodBytes, plain-good, good-plain, bytes-good, good-bytes, rounds-good}
@@ -69,10 +69,10 @@ module _ (n R : ℕ) (openings words : List ℕ) (good : GoodPlain n R openings 
   pub opening-back : (i : ℕ) → i < n → openingAt (packed n R openings words) i ≡ getD openings i 0
   unfolding openingAt written
   opening-back i h =
-      numAt-is (bitAt written) (bitAt-lt written) (16 + 4 * i) 4 (getD openings i 0)
+      numAt-is (bitAt written) (bitAt-lt written) (openingPlace i) 4 (getD openings i 0)
       (omega (arith, good .openings-good .opening i h))
       (λ j l.
-      bit-back (16 + 4 * i + j) (fits (16 + 4 * i + j) (omega (arith, bits-flat n R)))
+      bit-back (openingPlace i + j) (fits (openingPlace i + j) (omega (arith, bits-flat n R)))
       ∙ bit-opening n R openings words i j h l)
 
   pub openings-back : openingsOf (packed n R openings words) ≡ openings
@@ -85,9 +85,9 @@ module _ (n R : ℕ) (openings words : List ℕ) (good : GoodPlain n R openings 
   pub word-back : (w : ℕ) → w < R * (3 + n) → wordAt (packed n R openings words) w ≡ getD words w 0
   unfolding wordAt written
   word-back w h =
-      ap (λ (k : ℕ). rowAt (bitAt written) (16 + 4 * k + w * k) k) trucks-back
-      ∙ rowAt-is (bitAt written) (bitAt-lt written) (16 + 4 * n + w * n) n (getD words w 0) (good .rounds-good .word w h)
-      (λ i l. bit-back (16 + 4 * n + w * n + i) (fits (16 + 4 * n + w * n + i) (word-ends n R w i h l)) ∙ bit-word n R openings words w i h l)
+      ap (λ (k : ℕ). rowAt (bitAt written) (wordPlace k w) k) trucks-back
+      ∙ rowAt-is (bitAt written) (bitAt-lt written) (wordPlace n w) n (getD words w 0) (good .rounds-good .word w h)
+      (λ i l. bit-back (wordPlace n w + i) (fits (wordPlace n w + i) (word-ends n R w i h l)) ∙ bit-word n R openings words w i h l)
 
   pub words-back : wordsOf (packed n R openings words) ≡ words
   unfolding wordsOf written
@@ -141,7 +141,7 @@ openings-read s =
       count = length-tab (openingAt s) (trucksOf s);
       opening = λ i h.
           rw (getD-tab (openingAt s) (trucksOf s) i 0 h)
-          (let l : numAt (bitAt s) (16 + 4 * i) 4 < 16 = numAt-lt (bitAt s) (bitAt-lt s) (16 + 4 * i) 4 in omega arith);
+          (let l : numAt (bitAt s) (openingPlace i) 4 < 16 = numAt-lt (bitAt s) (bitAt-lt s) (openingPlace i) 4 in omega arith);
     }
 
 module _ (s : List ℕ) where
@@ -153,7 +153,7 @@ module _ (s : List ℕ) where
 
   pub word-lt : (w : ℕ) → wordAt s w < 2 ^ trucksOf s
   unfolding wordAt
-  word-lt w = rowAt-lt (bitAt s) (bitAt-lt s) (16 + 4 * trucksOf s + w * trucksOf s) (trucksOf s)
+  word-lt w = rowAt-lt (bitAt s) (bitAt-lt s) (wordPlace (trucksOf s) w) (trucksOf s)
 
   pub word-read : (w : ℕ) → w < roundsOf s * (3 + trucksOf s) → getD (wordsOf s) w 0 ≡ wordAt s w
   unfolding wordsOf
@@ -183,33 +183,33 @@ module _ (s : List ℕ) where
   unfolding trucksOf
   digit-trucks p h = numAt-digit (bitAt s) (bitAt-lt s) 0 6 (5 - p) (omega arith) ∙ ap (bitAt s) (omega arith)
 
-  digit-rounds : (p : ℕ) → 6 ≤ p → p < 16 → digit (roundsOf s) (15 - p) ≡ bitAt s p
+  digit-rounds : (p : ℕ) → 6 ≤ p → p < headerBits → digit (roundsOf s) (15 - p) ≡ bitAt s p
   unfolding roundsOf
   digit-rounds p l h = numAt-digit (bitAt s) (bitAt-lt s) 6 10 (15 - p) (omega arith) ∙ ap (bitAt s) (omega arith)
 
-  digit-openings : (p : ℕ) → 16 ≤ p → p < 16 + 4 * trucksOf s → openingBit (openingsOf s) (p - 16) ≡ bitAt s p
+  digit-openings : (p : ℕ) → headerBits ≤ p → p < openingPlace (trucksOf s) → openingBit (openingsOf s) (p - headerBits) ≡ bitAt s p
   unfolding openingBit openingsOf openingAt
   digit-openings p l h =
-      let o : ℕ = (p - 16) / 4 in
-      ap (λ (a : ℕ). digit a (3 - (p - 16) % 4)) (getD-tab (openingAt s) (trucksOf s) o 0 (omega arith))
-      ∙ numAt-digit (bitAt s) (bitAt-lt s) (16 + 4 * o) 4 (3 - (p - 16) % 4) (omega arith)
+      let o : ℕ = (p - headerBits) / 4 in
+      ap (λ (a : ℕ). digit a (3 - (p - headerBits) % 4)) (getD-tab (openingAt s) (trucksOf s) o 0 (omega arith))
+      ∙ numAt-digit (bitAt s) (bitAt-lt s) (openingPlace o) 4 (3 - (p - headerBits) % 4) (omega arith)
       ∙ ap (bitAt s) (omega arith)
 
-  digit-words : 0 < trucksOf s → (p : ℕ) → 16 + 4 * trucksOf s ≤ p → p < bitsFor (trucksOf s) (roundsOf s)
-      → roundBit (trucksOf s) (wordsOf s) (p - (16 + 4 * trucksOf s)) ≡ bitAt s p
+  digit-words : 0 < trucksOf s → (p : ℕ) → openingPlace (trucksOf s) ≤ p → p < bitsFor (trucksOf s) (roundsOf s)
+      → roundBit (trucksOf s) (wordsOf s) (p - openingPlace (trucksOf s)) ≡ bitAt s p
   unfolding roundBit wordAt n R
   digit-words z p l h =
-      let q : ℕ = p - (16 + 4 * n) in
+      let q : ℕ = p - openingPlace n in
       let e : q < R * (3 + n) * n = omega (arith, bits-flat n R) in
       let d : q / n * n + q % n ≡ q = div-add-mod' q n in
       ap (λ (a : ℕ). digit a (q % n)) (word-read (q / n) (div-lt-iff-lt-mul z .1 e))
-      ∙ rowAt-digit (bitAt s) (bitAt-lt s) (16 + 4 * n + q / n * n) n (q % n) (mod-lt q z)
+      ∙ rowAt-digit (bitAt s) (bitAt-lt s) (wordPlace n (q / n)) n (q % n) (mod-lt q z)
       ∙ ap (bitAt s) (omega arith)
 
   bit-same : GoodFrame s → (p : ℕ) → p < 8 * bytesFor (trucksOf s) (roundsOf s)
       → packBit (trucksOf s) (roundsOf s) (openingsOf s) (wordsOf s) p ≡ bitAt s p
   unfolding n R
-  bit-same b p h = go (decLt p 6) (decLt p 16) (decLt p (16 + 4 * n)) (decLt p (bitsFor n R))
+  bit-same b p h = go (decLt p 6) (decLt p headerBits) (decLt p (openingPlace n)) (decLt p (bitsFor n R))
     where
       os : List ℕ
       os = openingsOf s
@@ -217,7 +217,7 @@ module _ (s : List ℕ) where
       ws : List ℕ
       ws = wordsOf s
 
-      go : Dec (p < 6) → Dec (p < 16) → Dec (p < 16 + 4 * n) → Dec (p < bitsFor n R) → packBit n R os ws p ≡ bitAt s p
+      go : Dec (p < 6) → Dec (p < headerBits) → Dec (p < openingPlace n) → Dec (p < bitsFor n R) → packBit n R os ws p ≡ bitAt s p
       go (yes a) d₂ d₃ d₄ = bit-trucks n R os ws p a ∙ digit-trucks p a
       go (no a) (yes c) d₃ d₄ = bit-rounds n R os ws p (omega arith) c ∙ digit-rounds p (omega arith) c
       go (no a) (no c) (yes d) d₄ = bit-openings n R os ws p (omega arith) d ∙ digit-openings p (omega arith) d

@@ -11,7 +11,7 @@ use lib.Seq.{ext-getD, getD-append-add}
 use Rattle.refusals.specs.declared.Outcome.the-variants.{Accepted}
 use Rattle.basics.specs.Bits.{bit}
 use Rattle.basics.proofs.Laws.{length-tab, getD-tab}
-use Rattle.recording.specs.Packed.{bitAt, rowAt, trucksOf, roundsOf, wordAt, wordsOf, roundAt, bitsFor, bytesFor, packed, joined}
+use Rattle.recording.specs.Packed.{bitAt, rowAt, trucksOf, roundsOf, wordPlace, wordAt, wordsOf, roundAt, bitsFor, bytesFor, packed, joined}
 use Rattle.recording.specs.Checks.{ownBit, badOpenings, roundCheck, plainCheck}
 use Rattle.recording.proofs.Accepted.{GoodRounds, GoodPlain, good-plain, rounds-good, openings-in}
 use Rattle.recording.proofs.RoundTrip.{own-at, own-split, word-read, trucks-back, rounds-back, words-back}
@@ -51,12 +51,12 @@ module _ (s : List ℕ) where
 
 -- ---- words by their places
 -- what is read at the place of word w is word w
-pub word-there : (s : List ℕ) (n w at v : ℕ) → n ≡ trucksOf s → n ≤ 32 → at ≡ 16 + 4 * n + w * n → v ≡ rowAt (bitAt s) at (min n 32) → v ≡ wordAt s w
+pub word-there : (s : List ℕ) (n w at v : ℕ) → n ≡ trucksOf s → n ≤ 32 → at ≡ wordPlace n w → v ≡ rowAt (bitAt s) at (min n 32) → v ≡ wordAt s w
 unfolding wordAt
 word-there s n w at v e h p r =
     r
     ∙ ap₂ (λ (q k : ℕ). rowAt (bitAt s) q k) p (min-eq-left h)
-    ∙ ap (λ (k : ℕ). rowAt (bitAt s) (16 + 4 * k + w * k) k) e
+    ∙ ap (λ (k : ℕ). rowAt (bitAt s) (wordPlace k w) k) e
 
 -- ---- rounds one after the other
 pub length-joined : (m : ℕ) (rs : List (List ℕ)) → ((k : ℕ) → k < length rs → length (getD rs k []) ≡ m) → length (joined rs) ≡ length rs * m

@@ -21,7 +21,7 @@ use Rattle.basics.specs.Lists.{first, someBelow}
 use Rattle.basics.proofs.Laws.{someBelow-none, none-someBelow, some-first, some-more, none-row, first-row, first-all}
 use Rattle.basics.proofs.Bits.{bit-or}
 use Rattle.bitreader.proofs.Digits.{bitAt-lt, numAt-digit, rowAt-digit, numAt-one, bit-in-byte}
-use Rattle.recording.specs.Packed.{bitAt, numAt, rowAt, trucksOf, roundsOf, wordAt, bitsFor, bytesFor}
+use Rattle.recording.specs.Packed.{bitAt, numAt, rowAt, trucksOf, roundsOf, wordPlace, roundPlace, wordAt, bitsFor, bytesFor}
 use Rattle.recording.specs.Checks.{tooShort, badTrucks, badRounds, badLength, endBit, ownBit, firstOwn, ownLoss, frameCheck, ownCheck, checkOf}
 use Rattle.recording.proofs.Accepted.{GoodFrame, frame-good, trucks-in}
 use Rattle.recording.proofs.RoundTrip.{own-at}
@@ -84,18 +84,18 @@ abbrev pub ownPacked : List ℕ → ℕ → ℕ → ℕ → Bool
 ownPacked s at n i = eqb (bitAt s (at + i * (n + 1))) 1
 
 -- that place in round r
-own-packed : (s : List ℕ) (n r at : ℕ) → n ≡ trucksOf s → at ≡ 16 + 7 * n + r * (3 * n + n * n) → (i : ℕ) → i < n → ownPacked s at n i ≡ ownBit (wordAt s) n (r * n + i)
+own-packed : (s : List ℕ) (n r at : ℕ) → n ≡ trucksOf s → at ≡ roundPlace n r + 3 * n → (i : ℕ) → i < n → ownPacked s at n i ≡ ownBit (wordAt s) n (r * n + i)
 unfolding wordAt
 own-packed s n r at e p i h =
     let w : ℕ = r * (3 + n) + (3 + i) in
     sym
     (own-at (wordAt s) n r i h
-    ∙ ap (λ (m : ℕ). bit (rowAt (bitAt s) (16 + 4 * m + w * m) m) i) (sym e)
-    ∙ ap (λ (b : ℕ). eqb b 1) (rowAt-digit (bitAt s) (bitAt-lt s) (16 + 4 * n + w * n) n i h)
+    ∙ ap (λ (m : ℕ). bit (rowAt (bitAt s) (wordPlace m w) m) i) (sym e)
+    ∙ ap (λ (b : ℕ). eqb b 1) (rowAt-digit (bitAt s) (bitAt-lt s) (wordPlace n w) n i h)
     ∙ ap (λ (q : ℕ). eqb (bitAt s q) 1) (omega arith))
 
 -- of rounds of which those before round r have no own bit set: what a look at round r says
-module _ (s : List ℕ) (n r at : ℕ) (counted : n ≡ trucksOf s) (placed : at ≡ 16 + 7 * n + r * (3 * n + n * n)) (none : someBelow (ownBit (wordAt s) n) (r * n) ≡ false) where
+module _ (s : List ℕ) (n r at : ℕ) (counted : n ≡ trucksOf s) (placed : at ≡ roundPlace n r + 3 * n) (none : someBelow (ownBit (wordAt s) n) (r * n) ≡ false) where
   here : (i : ℕ) → i < n → ownPacked s at n i ≡ ownBit (wordAt s) n (r * n + i)
   here = own-packed s n r at counted placed
 

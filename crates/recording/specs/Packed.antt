@@ -16,9 +16,17 @@ trucksOf s = numAt (bitAt s) 0 6
 unfoldable pub roundsOf : List ℕ → ℕ
 roundsOf s = numAt (bitAt s) 6 10
 
+-- the header: 6 bits of truck count, 10 bits of round count
+abbrev pub headerBits : ℕ
+headerBits = 16
+
+-- the place of opening i; after n openings, that of the first word
+abbrev pub openingPlace : ℕ → ℕ
+openingPlace i = headerBits + 4 * i
+
 -- the opening of truck i: 4 bits
 unfoldable pub openingAt : List ℕ → ℕ → ℕ
-openingAt s i = numAt (bitAt s) (16 + 4 * i) 4
+openingAt s i = numAt (bitAt s) (openingPlace i) 4
 
 -- n openings, truck 0 first
 unfoldable pub openingsOf : List ℕ → List ℕ
@@ -28,9 +36,17 @@ openingsOf s = tab (openingAt s) (trucksOf s)
 abbrev pub roundWords : ℕ → ℕ
 roundWords n = 3 + n
 
--- word w of the rounds, which follow the openings as one run of words of n bits
+-- the rounds of n trucks follow their openings as one run of words of n bits: the place of word w
+abbrev pub wordPlace : ℕ → ℕ → ℕ
+wordPlace n w = openingPlace n + w * n
+
+-- and of round k, rounds counted from 0 here
+abbrev pub roundPlace : ℕ → ℕ → ℕ
+roundPlace n k = wordPlace n (k * roundWords n)
+
+-- word w of the rounds
 unfoldable pub wordAt : List ℕ → ℕ → ℕ
-wordAt s w = rowAt (bitAt s) (16 + 4 * trucksOf s + w * trucksOf s) (trucksOf s)
+wordAt s w = rowAt (bitAt s) (wordPlace (trucksOf s) w) (trucksOf s)
 
 -- all rounds in plain form
 unfoldable pub wordsOf : List ℕ → List ℕ
@@ -42,7 +58,7 @@ roundAt s k = tab (λ w. wordAt s (k * roundWords (trucksOf s) + w)) (roundWords
 
 -- total bits
 unfoldable pub bitsFor : ℕ → ℕ → ℕ
-bitsFor n R = 16 + 4 * n + R * (3 * n + n * n)
+bitsFor n R = headerBits + 4 * n + R * (3 * n + n * n)
 
 -- and the bytes that hold them
 unfoldable pub bytesFor : ℕ → ℕ → ℕ
@@ -64,9 +80,9 @@ openingBit openings q = digit (getD openings (q / 4) 0) (3 - q % 4)
 unfoldable pub packBit : ℕ → ℕ → List ℕ → List ℕ → ℕ → ℕ
 packBit n R openings words p =
     cond (ltb p 6) (digit n (5 - p))
-    (cond (ltb p 16) (digit R (15 - p))
-    (cond (ltb p (16 + 4 * n)) (openingBit openings (p - 16))
-    (cond (ltb p (bitsFor n R)) (roundBit n words (p - (16 + 4 * n)))
+    (cond (ltb p headerBits) (digit R (15 - p))
+    (cond (ltb p (openingPlace n)) (openingBit openings (p - headerBits))
+    (cond (ltb p (bitsFor n R)) (roundBit n words (p - openingPlace n))
     0)))
 
 -- the packed form of n, R, openings and words

@@ -4,10 +4,13 @@ ghost use Prim.Native.Nat.{_+_, _*_, _-_, _<_, _≤_, _^_};
 ghost use lib.Dec.{eqb};
 ghost use lib.ListN.{length};
 ghost use Rattle.basics.specs.Lists.{first, someBelow};
-ghost use Rattle.recording.specs.Packed.{bitAt, trucksOf, roundsOf, openingAt, bitsFor, bytesFor, wordAt};
+ghost use Rattle.recording.specs.Packed.{bitAt, trucksOf, roundsOf, openingPlace, openingAt, wordPlace, wordAt, bitsFor, bytesFor};
 ghost use Rattle.recording.specs.Checks.{badTrucks, firstOwn, frameCheck, checkOf};
 use refusals::Outcome;
 use refusals::Refusal;
+
+// The header: 6 bits of truck count, 10 bits of round count.
+pub const HEADER_BITS: usize = 16;
 
 // The header's truck count.
 pub fn truck_count(s: &[u8]) -> u8
@@ -25,11 +28,25 @@ pub fn round_count(s: &[u8]) -> u16
     t.value as u16
 }
 
+// The place of opening i; after n openings, that of the first word.
+fn opening_place(i: u8) -> usize
+    ensures { λ r. ⌜ r ≡ openingPlace i ⌝ }
+{
+    HEADER_BITS + 4 * (i as usize)
+}
+
+// The place of word w of the rounds of so many trucks.
+pub fn word_place(trucks: u8, w: u16) -> usize
+    ensures { λ r. ⌜ r ≡ wordPlace trucks w ⌝ }
+{
+    opening_place(trucks) + w as usize * (trucks as usize)
+}
+
 // The opening of a truck.
 pub fn opening(s: &[u8], i: u8) -> u8
     ensures { λ r. ⌜ r ≡ openingAt (now (s .entry)) i ⌝ }
 {
-    let t = bitreader::read_at(s, 16 + 4 * (i as usize), 4);
+    let t = bitreader::read_at(s, opening_place(i), 4);
     t.value as u8
 }
 
@@ -38,7 +55,7 @@ pub fn bits_for(trucks: u8, rounds: u16) -> usize
     ensures { λ r. ⌜ r ≡ bitsFor trucks rounds ⌝ }
 {
     let n = trucks as usize;
-    16 + 4 * n + rounds as usize * (3 * n + n * n)
+    HEADER_BITS + 4 * n + rounds as usize * (3 * n + n * n)
 }
 
 pub fn bytes_for(trucks: u8, rounds: u16) -> usize
@@ -132,12 +149,13 @@ struct OwnPlace {
 
 // The first own loss bit that is 1 in so many rounds from the first one on; where none is, truck 0 of the round after them.
 // Only in the round that has it is the truck searched for.
-fn own_place(s: &[u8], n: usize, rounds: usize) -> OwnPlace
-    requires { ⌜ (n ≡ trucksOf (now s)) × (0 < n) × (n ≤ 32) × (rounds ≤ 400) × (bitsFor n rounds ≤ 8 * length (now s)) ⌝ }
-    ensures { λ r. ⌜ (r .round * n + r .truck ≡ firstOwn (wordAt (now (s .entry))) n rounds) × (r .truck < n) ⌝ }
+fn own_place(s: &[u8], trucks: u8, rounds: usize) -> OwnPlace
+    requires { ⌜ (trucks ≡ trucksOf (now s)) × (0 < trucks) × (trucks ≤ 32) × (rounds ≤ 400) × (bitsFor trucks rounds ≤ 8 * length (now s)) ⌝ }
+    ensures { λ r. ⌜ (r .round * trucks + r .truck ≡ firstOwn (wordAt (now (s .entry))) trucks rounds) × (r .truck < trucks) ⌝ }
 {
+    let n = trucks as usize;
     let size = 3 * n + n * n;
-    let mut at = 16 + 7 * n;
+    let mut at = word_place(trucks, 3);
     let mut r = 0;
     while r < rounds {
         if own_any(s, at, n) {
@@ -164,7 +182,7 @@ pub fn check(s: &[u8]) -> Outcome
         Outcome::Refused(r) => Outcome::Refused(r),
         Outcome::Accepted => {
             let rounds = round_count(s) as usize;
-            let own = own_place(s, truck_count(s) as usize, rounds);
+            let own = own_place(s, truck_count(s), rounds);
             if own.round < rounds {
                 return Outcome::Refused(Refusal::OwnLoss);
             }

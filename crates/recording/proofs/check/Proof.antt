@@ -14,7 +14,6 @@ check-spec =
     (λ c κs. search needs)
     (λ c. search needs)
     (λ c κs. search needs)
-    (λ c. search needs)
     (λ c κs. search (trucks-some, trucks-fit, rounds-fit, bits-fit))
     (λ c. search check-6)
     (λ c. search check-refused)

@@ -8,7 +8,7 @@ use Rattle.basics.specs.Lists.{filled}
 use Rattle.basics.proofs.Laws.{getD-filled, filled-again, filled-ext}
 use Rattle.bitreader.specs.Bits.{mirrored}
 use Rattle.bitreader.proofs.Digits.{bitAt-lt, numAt-lt, mirrored-num, rowAt-low}
-use Rattle.recording.specs.Packed.{bitAt, numAt, rowAt, trucksOf, wordAt}
+use Rattle.recording.specs.Packed.{bitAt, numAt, rowAt, trucksOf, wordPlace, wordAt}
 use Rattle.recording.proofs.Rounds.{word-there}
 use Rattle.plain.specs.Steps.{swapped, gatheredWord, turnedWord}
 
@@ -30,7 +30,7 @@ module _ (s : List ℕ) (n : ℕ) (counted : n ≡ trucksOf s) (few : n ≤ 32) 
   -- one word
   turned-word : (w : ℕ) → turnedWord n (gatheredWord s n w) ≡ wordAt s w
   turned-word w =
-      let p : ℕ = 16 + 4 * n + w * n in
+      let p : ℕ = wordPlace n w in
       ap (λ (x : ℕ). mirrored 32 x % 2 ^ n) (swapped-twice (numAt (bitAt s) p 32) (numAt-lt (bitAt s) (bitAt-lt s) p 32))
       ∙ ap (λ (x : ℕ). x % 2 ^ n) (mirrored-num (bitAt s) (bitAt-lt s) p 32)
       ∙ rowAt-low (bitAt s) (bitAt-lt s) p n 32 few

@@ -4,7 +4,7 @@ use mathlib.Core.Path.{_≡_}
 use mathlib.Core.List.{List}
 use lib.ListN.{set}
 use Rattle.basics.specs.Lists.{filled}
-use Rattle.recording.specs.Packed.{bitAt, numAt, packBit}
+use Rattle.recording.specs.Packed.{bitAt, numAt, wordPlace, packBit}
 use Rattle.bitreader.specs.Bits.{mirrored}
 
 -- the four bytes of a number of 32 bits in reverse
@@ -13,7 +13,7 @@ swapped x = x % 256 * 16777216 + x / 256 % 256 * 65536 + x / 65536 % 256 * 256 +
 
 -- word w of the rounds of n trucks as it is gathered: the 32 bits from its place on, their bytes in reverse
 abbrev pub gatheredWord : List ℕ → ℕ → ℕ → ℕ
-gatheredWord s n w = swapped (numAt (bitAt s) (16 + 4 * n + w * n) 32)
+gatheredWord s n w = swapped (numAt (bitAt s) (wordPlace n w) 32)
 
 -- the word of plain form, of n bits, that was gathered so
 abbrev pub turnedWord : ℕ → ℕ → ℕ

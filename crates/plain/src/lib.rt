@@ -7,7 +7,7 @@ ghost use lib.ListN.{length, getD};
 ghost use Rattle.refusals.specs.declared.Outcome.the-variants.{Accepted};
 ghost use Rattle.basics.specs.Bits.{bit};
 ghost use Rattle.basics.specs.Lists.{someBelow, filled};
-ghost use Rattle.recording.specs.Packed.{trucksOf, openingAt, wordAt, bytesFor, packBit};
+ghost use Rattle.recording.specs.Packed.{trucksOf, openingPlace, openingAt, wordAt, bytesFor, packBit};
 ghost use Rattle.recording.specs.Checks.{highBit, badOpenings, badWords, ownLoss, roundsCheck, roundCheck, plainCheck};
 ghost use Rattle.plain.specs.Forms.{afterRead, readPlain, afterWrite, writePlain};
 ghost use Rattle.plain.specs.Steps.{swapped, gatheredWord, turnedWord, over, byteOf, packedByte, added, BitsPut};
@@ -163,11 +163,12 @@ fn swap_bytes(x: u32) -> u32
 }
 
 // The words as they are packed, each with the bits that follow it, and with its bytes in reverse.
-fn gather_words(s: &[u8], words: &mut [u32], n: usize, count: usize)
-    requires { ⌜ (n ≤ 32) × ((count ≤ 16908030) × (count ≤ length (now words))) ⌝ }
-    ensures { λ r. ⌜ now (words .exit) ≡ filled (gatheredWord (now (s .entry)) n) count (now (words .entry)) ⌝ }
+fn gather_words(s: &[u8], words: &mut [u32], trucks: u8, count: usize)
+    requires { ⌜ (trucks ≤ 32) × ((count ≤ 16908030) × (count ≤ length (now words))) ⌝ }
+    ensures { λ r. ⌜ now (words .exit) ≡ filled (gatheredWord (now (s .entry)) trucks) count (now (words .entry)) ⌝ }
 {
-    let mut at = 16 + 4 * n;
+    let n = trucks as usize;
+    let mut at = recording::word_place(trucks, 0);
     let mut w = 0;
     while w < count {
         let t = bitreader::read_at(s, at, 32);
@@ -198,12 +199,12 @@ fn turn_words(words: &mut [u32], n: usize, count: usize)
 
 // In two passes, since a loop that does nothing else turns four words round at once. To turn a word round is to reverse its bytes, and the bits within each.
 // The bytes are reversed when a word is gathered, by one instruction; for turning they are reversed back and again, which the compiler leaves out.
-fn fill_words(s: &[u8], words: &mut [u32], n: usize, count: usize)
-    requires { ⌜ (n ≡ trucksOf (now s)) × ((n ≤ 32) × ((count ≤ 16908030) × (count ≤ length (now words)))) ⌝ }
+fn fill_words(s: &[u8], words: &mut [u32], trucks: u8, count: usize)
+    requires { ⌜ (trucks ≡ trucksOf (now s)) × ((trucks ≤ 32) × ((count ≤ 16908030) × (count ≤ length (now words)))) ⌝ }
     ensures { λ r. ⌜ now (words .exit) ≡ filled (wordAt (now (s .entry))) count (now (words .entry)) ⌝ }
 {
-    gather_words(s, words, n, count);
-    turn_words(words, n, count);
+    gather_words(s, words, trucks, count);
+    turn_words(words, trucks as usize, count);
 }
 
 // Reading to plain form: refusals 1 to 6, then 9.
@@ -222,7 +223,7 @@ pub fn read(s: &[u8], openings: &mut [u8], words: &mut [u32]) -> ReadOutcome
                 return ReadOutcome::Refused(Refusal::ShortBuffer);
             }
             fill_openings(s, openings, trucks);
-            fill_words(s, words, n, count);
+            fill_words(s, words, trucks, count);
             ReadOutcome::Plain { trucks, rounds }
         }
     }
@@ -282,13 +283,13 @@ fn put(buf: &mut [u8], p: Pending, v: u32, k: usize) -> Pending
 
 // Puts out the header and the openings: the bits of the packed form before the words, whatever these are.
 fn put_front(buf: &mut [u8], trucks: u8, rounds: u16, openings: &[u8]) -> Pending
-    requires { ⌜ (trucks ≤ 32) × ((rounds ≤ 400) × ((badOpenings trucks (now openings) ≡ false) × (16 + 4 * trucks ≤ 8 * length (now buf)))) ⌝ }
-    ensures { λ r. ⌜ ((words : List ℕ) → BitsPut (packBit trucks rounds (now (openings .entry)) words) (16 + 4 * trucks)
+    requires { ⌜ (trucks ≤ 32) × ((rounds ≤ 400) × ((badOpenings trucks (now openings) ≡ false) × (openingPlace trucks ≤ 8 * length (now buf)))) ⌝ }
+    ensures { λ r. ⌜ ((words : List ℕ) → BitsPut (packBit trucks rounds (now (openings .entry)) words) (openingPlace trucks)
         (r .at) (r .have) (r .acc) (now (buf .entry)) (now (buf .exit))) ⌝ }
 {
     let mut p = Pending {
         acc: trucks as u64 * 1024 + rounds as u64,
-        have: 16,
+        have: recording::HEADER_BITS,
         at: 0,
     };
     let mut j = 0;

@@ -8,7 +8,7 @@ use lib.ListN.{length, getD}
 use Rattle.basics.specs.Lists.{filled}
 use Rattle.basics.proofs.Laws.{length-filled}
 use Rattle.bitreader.specs.Bits.{mirrored}
-use Rattle.recording.specs.Packed.{numAt, packBit, bitsFor, bytesFor}
+use Rattle.recording.specs.Packed.{numAt, openingPlace, wordPlace, packBit, bitsFor, bytesFor}
 use Rattle.recording.proofs.Accepted.{GoodPlain, plain-good, in-openings}
 use Rattle.recording.proofs.Packing.{packBit-lt, bits-flat, bytes-enough}
 use Rattle.plain.specs.Steps.{over, byteOf, packedByte, BitsPut}
@@ -19,7 +19,7 @@ use Rattle.plain.proofs.put_all.Tie as tie
 
 abbrev Inv-loop : tie.InvT-loop
 Inv-loop buf₀ trucks rounds openings words n p₀ w₀ buf p w =
-    (w ≤ length words) × BitsPut (packBit trucks rounds openings words) (16 + 4 * trucks + w * trucks) (p .at) (p .have) (p .acc) buf₀ buf
+    (w ≤ length words) × BitsPut (packBit trucks rounds openings words) (wordPlace trucks w) (p .at) (p .have) (p .acc) buf₀ buf
 
 abbrev μ-loop : tie.MeasureT-loop
 μ-loop buf₀ trucks rounds openings words n p₀ w₀ buf p w = length words - w
@@ -37,7 +37,7 @@ good s = plain-good (s .args .trucks) (s .args .rounds) (s .args .openings .now)
 enough : (s : tie.Start Inv-loop μ-loop) → bitsFor (s .args .trucks) (s .args .rounds) ≤ 8 * length (s .args .buf .now)
 enough s = omega (arith, s .pre .1, bytes-enough (s .args .trucks) (s .args .rounds) .0)
 
-front-room : (s : tie.Start Inv-loop μ-loop) → 16 + 4 * s .args .trucks ≤ 8 * length (s .args .buf .now)
+front-room : (s : tie.Start Inv-loop μ-loop) → openingPlace (s .args .trucks) ≤ 8 * length (s .args .buf .now)
 front-room s = omega (arith, enough s, bits-flat (s .args .trucks) (s .args .rounds))
 
 put-front-requires : tie.Need-put-front-requires Inv-loop μ-loop
@@ -59,24 +59,24 @@ abbrev S-end : tie.After-put-bytes Inv-loop μ-loop → tie.Start Inv-loop μ-lo
 S-end c = S-loop (c .before .before .before .before)
 
 abbrev place : tie.Start Inv-loop μ-loop → ℕ → ℕ
-place s w = 16 + 4 * s .args .trucks + w * s .args .trucks
+place s w = wordPlace (s .args .trucks) w
 
 -- after header and openings
 front : (c : tie.After-put-front Inv-loop μ-loop)
-    → BitsPut (F (S-front c)) (16 + 4 * S-front c .args .trucks) (c .put-front .result .at) (c .put-front .result .have) (c .put-front .result .acc) (S-front c .args .buf .now) (c .put-front .last .0)
+    → BitsPut (F (S-front c)) (openingPlace (S-front c .args .trucks)) (c .put-front .result .at) (c .put-front .result .have) (c .put-front .result .acc) (S-front c .args .buf .now) (c .put-front .last .0)
 front c = c .put-front .ensures (S-front c .args .words .now)
 
 kept : (c : tie.After-put-front Inv-loop μ-loop) → length (c .put-front .last .0) ≡ length (S-front c .args .buf .now)
 kept c =
     let s = S-front c in
     let r = c .put-front in
-    bits-put-length (F s) (16 + 4 * s .args .trucks) (r .result .at) (r .result .have) (r .result .acc) (s .args .buf .now) (r .last .0) (front c) (front-room s)
+    bits-put-length (F s) (openingPlace (s .args .trucks)) (r .result .at) (r .result .have) (r .result .acc) (s .args .buf .now) (r .last .0) (front c) (front-room s)
 
 loop-holds : tie.Need-loop-holds Inv-loop μ-loop
 loop-holds c =
     let h = c .before .before in
     let s = S-front h in
-    let first = 16 + 4 * s .args .trucks in
+    let first = openingPlace (s .args .trucks) in
     let r = h .put-front in
     (omega arith, bits-put-at (F s) first (place s 0) (r .result .at) (r .result .have) (r .result .acc) (r .last .0) (r .last .0) (omega arith) (bits-put-anew (F s) first (r .result .at) (r .result .have) (r .result .acc) (s .args .buf .now) (r .last .0) (front h)))
 
@@ -125,7 +125,7 @@ all-put c =
     let l = c .before .loop in
     let r = h .put-front in
     let e : l .w ≡ R * (3 + n) = omega (arith, good s .rounds-good .count) in
-    bits-put-since (F s) (16 + 4 * n) (r .result .at) (r .result .have) (r .result .acc) (s .args .buf .now) (r .last .0) (front h) (bitsFor n R) (l .p .at) (l .p .have) (l .p .acc) (l .buf) (omega (arith, bits-flat n R))
+    bits-put-since (F s) (openingPlace n) (r .result .at) (r .result .have) (r .result .acc) (s .args .buf .now) (r .last .0) (front h) (bitsFor n R) (l .p .at) (l .p .have) (l .p .acc) (l .buf) (omega (arith, bits-flat n R))
     (bits-put-at (F s) (place s (l .w)) (bitsFor n R) (l .p .at) (l .p .have) (l .p .acc) (r .last .0) (l .buf) (ap (place s) e ∙ sym (bits-flat n R)) (l .inv .1))
 
 -- the bytes up to the last

@@ -20,7 +20,7 @@ use Rattle.basics.proofs.Laws.{or-left, or-right, odd-suc, first-unique, getD-f
 use Rattle.refusals.specs.declared.Outcome.the-variants.{Accepted}
 use Rattle.basics.proofs.Bits.{bit-and, bit-or}
 use Rattle.sets.proofs.Words.{bit-power, bit-zero, no-bits}
-use Rattle.recording.specs.Packed.{trucksOf, roundsOf, openingAt, openingsOf, roundAt}
+use Rattle.recording.specs.Packed.{trucksOf, roundsOf, openingAt, openingsOf, wordPlace, roundPlace, roundAt}
 use Rattle.recording.specs.Checks.{frameCheck}
 use Rattle.recording.proofs.Accepted.{frame-good}
 use Rattle.protocol.specs.declared.Heard.{Heard}
@@ -49,7 +49,7 @@ use Rattle.air.specs.Air.{Air}
 use Rattle.protocol.specs.declared.Grades.{Grades}
 use Rattle.fleet.proofs.Graded.{airAfter, grades-next, grades-idle}
 use Rattle.fleet.specs.Standing.{ReadsAs, next, holds, trucksAfter, stateOf, memoryOf, standing, truckBy, Stands, Proposes, Vetoes, noted, Fresh, Due, Halted}
-use Rattle.fleet.proofs.Reading.{placeOf, word-here, place-small, place-next}
+use Rattle.fleet.proofs.Reading.{word-here, place-small, place-next}
 use Rattle.fleet.proofs.Places.{read-bit, everyone, everyone-lt, everyone-in, everyone-out, turn-back}
 use Rattle.fleet.proofs.Stood.{runs-is, memory-back, proposal-stands, veto-stands, veto-ended, proposal-aired, veto-aired}
 
@@ -63,7 +63,7 @@ module _ (s : List ℕ) (good : frameCheck s ≡ Accepted) where
       let e = estimates-open twoRules (trucksOf s) (openingsOf s) (roundAt s) few (sound-two .takes) k j l in
       omega (arith, e .2, openings-read s .opening (e .0) (e .1))
 
-  read-as : (k at : ℕ) → at ≡ placeOf s k → ReadsAs s at (trucksOf s) (roundAt s k)
+  read-as : (k at : ℕ) → at ≡ roundPlace (trucksOf s) k → ReadsAs s at (trucksOf s) (roundAt s k)
   read-as k at e i j li l =
       read-bit s (at + i * trucksOf s) (trucksOf s) j few l
       ∙ ap (λ (x : ℕ). bit x j) (word-here s k i (at + i * trucksOf s) li (ap (λ (x : ℕ). x + i * trucksOf s) e))
@@ -73,8 +73,8 @@ module _ {s : List ℕ} {at n left k : ℕ} {by ends : List ℕ} {running decide
   pub due-few : n ≤ 32
   due-few = omega (arith, d .count, few s (d .good))
 
-  at-place : at ≡ placeOf s k
-  at-place = d .place ∙ ap (λ (m : ℕ). 16 + 4 * m + k * (3 + m) * m) (d .count)
+  at-place : at ≡ roundPlace (trucksOf s) k
+  at-place = d .place ∙ ap (λ (m : ℕ). roundPlace m k) (d .count)
 
   -- the run has come to its end
   pub halts : (eqb left 0 || eqb running 0 || not (eqb (bitAnd decided until) 0)) ≡ true → (g : Grades)
@@ -119,9 +119,9 @@ module _ {s : List ℕ} {at n left k : ℕ} {by ends : List ℕ} {running decide
       ),
     )
 
-    further : at + (3 + n) * n ≡ 16 + 4 * n + (k + 1) * (3 + n) * n
+    further : at + (3 + n) * n ≡ roundPlace n (k + 1)
     further =
-        ap₂ (λ (x m : ℕ). x + (3 + m) * m) at-place (d .count) ∙ place-next s k ∙ sym (ap (λ (m : ℕ). 16 + 4 * m + (k + 1) * (3 + m) * m) (d .count))
+        ap₂ (λ (x m : ℕ). x + (3 + m) * m) at-place (d .count) ∙ place-next s k ∙ sym (ap (λ (m : ℕ). roundPlace m (k + 1)) (d .count))
 
     -- the sets after the next round, as the code counts
     recount : (who : ℕ) {by′ : List ℕ} {running′ decided′ marked′ one′ several′ : ℕ} (ends′ : List ℕ) (left′ : ℕ) → ends′ ≡ filled (noted ends who (k + 1)) 32 ends → left′ ≡ left - 1
@@ -317,9 +317,9 @@ module _ (s : List ℕ) (good : frameCheck s ≡ Accepted) (n : ℕ) (count : n 
       opened-truck twoRules (trucksOf s) (openingsOf s) (roundAt s) j (omega (arith, frame-good s good .most)) ∙ ap opened (getD-tab (openingAt s) (trucksOf s) j 0 l)
 
   -- any number of rounds up to 400 may be asked for
-  pub first-due : {rounds : ℕ} (all until : ℕ) (by : List ℕ) → rounds ≤ 400 → all ≡ everyone n → Sorted by 32 all (λ p. openingAt s (31 - p)) × (length by ≡ 16)
-      → Due s (16 + 4 * n) n rounds 0 by (replicate 32 0) all 0 0 0 0 until
-  first-due {rounds} all until by most ea (sorted, long) =
+  pub first-due : {rounds : ℕ} (at all until : ℕ) (by : List ℕ) → at ≡ wordPlace n 0 → rounds ≤ 400 → all ≡ everyone n → Sorted by 32 all (λ p. openingAt s (31 - p)) × (length by ≡ 16)
+      → Due s at n rounds 0 by (replicate 32 0) all 0 0 0 0 until
+  first-due {rounds} at all until by ep most ea (sorted, long) =
       record {
         good = good;
         stands = record {
@@ -337,7 +337,7 @@ module _ (s : List ℕ) (good : frameCheck s ≡ Accepted) (n : ℕ) (count : n 
         };
         most = omega arith;
         count = count;
-        place = omega arith;
+        place = omega (arith, ep);
         fresh = λ j l h. absurd (true≢false (sym h ∙ ap (λ (x : ℕ). holds x j) (and-zero-l until) ∙ bit-zero (31 - j)));
       }
     where

@@ -17,7 +17,7 @@ use Rattle.sets.proofs.Words.{bit-high, bit-mod, bit-zero, same-bits}
 use Rattle.sets.proofs.Mirror.{mirror-bit, mirror-xor, mirror-power, mirror-zero}
 use Rattle.bitreader.specs.Bits.{bitAt, rowAt, mirrored}
 use Rattle.bitreader.proofs.Digits.{digit-zero, digit-suc, bitAt-lt, numAt-lt, one-shifted, numAt-digit, rowAt-digit, mirrored-lt}
-use Rattle.recording.specs.Packed.{openingAt}
+use Rattle.recording.specs.Packed.{openingPlace, openingAt}
 use Rattle.sets.specs.Sets.{Members}
 use Rattle.fleet.specs.Standing.{holds, wordFrom, noted}
 use Rattle.sets.proofs.Members.{replaced, replaced-all, replaced-none, replaced-more, within-removed}
@@ -93,7 +93,7 @@ everyone-is n m = ap (λ (x : ℕ). (x - 1) * 2 ^ (32 - n) % 2 ^ 64) (one-shifte
 
 pub opening-lt : (s : List ℕ) (i : ℕ) → openingAt s i < 16
 unfolding openingAt
-opening-lt s i = numAt-lt (bitAt s) (bitAt-lt s) (16 + 4 * i) 4
+opening-lt s i = numAt-lt (bitAt s) (bitAt-lt s) (openingPlace i) 4
 
 -- ---- the ends of those of a set are noted one by one
 pub record Noting (ends₀ : List ℕ) (who k : ℕ) (ends : List ℕ) (left : ℕ) : Type 0 where

@@ -6,29 +6,26 @@ use native.Mathlib.Nat.{add-mul, mul-le-mul}
 use native.Mathlib.Omega.{arith}
 use lib.ListN.{getD}
 use Rattle.bitreader.specs.Bits.{bitAt, rowAt}
-use Rattle.recording.specs.Packed.{trucksOf, wordAt, roundAt}
+use Rattle.recording.specs.Packed.{trucksOf, wordPlace, roundPlace, wordAt, roundAt}
 use Rattle.recording.proofs.Rounds.{word-round}
 
 pub product : (i n : ℕ) → i < 32 → n ≤ 32 → i * n ≤ 32 * 32
 product i n l m = mul-le-mul (let e : i ≤ 32 = omega arith in e) m
 
--- ---- the words of round k, which begins at a place
-abbrev pub placeOf : List ℕ → ℕ → ℕ
-placeOf s k = 16 + 4 * trucksOf s + k * (3 + trucksOf s) * trucksOf s
-
+-- ---- the words of round k
 module _ (s : List ℕ) (k : ℕ) where
   n : ℕ
   n = trucksOf s
 
-  pub word-here : (w at : ℕ) → w < 3 + trucksOf s → at ≡ placeOf s k + w * trucksOf s → rowAt (bitAt s) at (trucksOf s) ≡ getD (roundAt s k) w 0
+  pub word-here : (w at : ℕ) → w < 3 + trucksOf s → at ≡ roundPlace (trucksOf s) k + w * trucksOf s → rowAt (bitAt s) at (trucksOf s) ≡ getD (roundAt s k) w 0
   unfolding wordAt n
   word-here w at l e =
       ap (λ (p : ℕ). rowAt (bitAt s) p n)
-      (e ∙ let z : 16 + 4 * n + k * (3 + n) * n + w * n ≡ 16 + 4 * n + (k * (3 + n) + w) * n = omega (arith, add-mul (k * (3 + n)) w n) in z)
+      (e ∙ let z : roundPlace n k + w * n ≡ wordPlace n (k * (3 + n) + w) = omega (arith, add-mul (k * (3 + n)) w n) in z)
       ∙ sym (word-round s k w l)
 
   -- a place within the recording
-  pub place-small : trucksOf s ≤ 32 → k < 400 → placeOf s k < 450000
+  pub place-small : trucksOf s ≤ 32 → k < 400 → roundPlace (trucksOf s) k < 450000
   unfolding n
   place-small m l =
       let a : k * (3 + n) ≤ 400 * 35 = mul-le-mul (let z : k ≤ 400 = omega arith in z) (let z : 3 + n ≤ 35 = omega arith in z) in
@@ -36,7 +33,7 @@ module _ (s : List ℕ) (k : ℕ) where
       omega arith
 
   -- the place of the next round
-  pub place-next : placeOf s k + (3 + trucksOf s) * trucksOf s ≡ placeOf s (k + 1)
+  pub place-next : roundPlace (trucksOf s) k + (3 + trucksOf s) * trucksOf s ≡ roundPlace (trucksOf s) (k + 1)
   unfolding n
   place-next =
       let e : (k + 1) * (3 + n) ≡ k * (3 + n) + (3 + n) = omega (arith, add-mul k 1 (3 + n)) in

@@ -11,7 +11,7 @@ use Rattle.basics.specs.Lists.{first, filled}
 use Rattle.air.specs.Round.{activeBit}
 use Rattle.refusals.specs.declared.Outcome.the-variants.{Accepted}
 use Rattle.bitreader.specs.Bits.{bitAt, numAt}
-use Rattle.recording.specs.Packed.{trucksOf, openingAt, openingsOf, roundAt}
+use Rattle.recording.specs.Packed.{trucksOf, openingAt, openingsOf, roundPlace, roundAt}
 use Rattle.recording.specs.Checks.{frameCheck}
 use Rattle.protocol.specs.declared.Heard.{Heard}
 use Rattle.protocol.specs.declared.Heard.the-variants.{Nothing, One, Several}
@@ -136,7 +136,7 @@ pub record Due (s : List ℕ) (at n left k : ℕ) (by ends : List ℕ) (running 
   pub stands : Stands (trucksOf s) (k + left) k (openingAt s) (trucksAfter s k) by ends running decided marked one several
   pub most : k + left ≤ 400
   pub count : n ≡ trucksOf s
-  pub place : at ≡ 16 + 4 * n + k * (3 + n) * n
+  pub place : at ≡ roundPlace n k
   pub fresh : Fresh (trucksOf s) k ends decided until
 
 -- where the run came to its end: all rounds are done, nobody runs any more, or one of `until` decided, in the round done last

@@ -360,7 +360,7 @@ pub(crate) fn replay(s: &[u8], judging: bool) -> Course
     };
     let b = proposals(
         s,
-        16 + 4 * n,
+        recording::word_place(trucks, 0),
         n,
         rounds,
         0,

@@ -22,22 +22,23 @@ everyone-requires c κs = first-few (c .before .before .before .args .s .now) (c
 
 proposals-requires : tie.Need-proposals-requires
 proposals-requires c κs =
-    let z = c .before .before .before .before .before .before .before in
-    let n = c .before .before .before .before .before .truck-count in
-    let r = c .before .before .before .before .round-count in
-    let all = c .before .before .before .everyone in
-    let by = c .before .before .openers in
-    (first-due (z .args .s .now) (z .pre) (n .result) (n .ensures) (all .result) 0 (by .result) (omega (arith, r .ensures, first-few (z .args .s .now) (z .pre) (n .result) (n .ensures) .1)) (all .ensures) (by .ensures), (refl, grades-none (z .args .s .now) (z .args .judging)))
+    let z = c .before .before .before .before .before .before .before .before in
+    let n = c .before .before .before .before .before .before .truck-count in
+    let r = c .before .before .before .before .before .round-count in
+    let all = c .before .before .before .before .everyone in
+    let by = c .before .before .before .openers in
+    let at = c .before .before .word-place in
+    (first-due (z .args .s .now) (z .pre) (n .result) (n .ensures) (at .result) (all .result) 0 (by .result) (at .ensures) (omega (arith, r .ensures, first-few (z .args .s .now) (z .pre) (n .result) (n .ensures) .1)) (all .ensures) (by .ensures), (refl, grades-none (z .args .s .now) (z .args .judging)))
 
 fleet-of-requires : tie.Need-fleet-of-requires
 fleet-of-requires c κs =
     let b = c .before .before .before .proposals in
-    (ended (c .before .before .before .before .before .before .before .before .before .before .before .args .s .now) (c .before .before .before .before .before .before .before .before .round-count .result) (b .last .1 .1 .1 .1 .1 .0) (b .last .1 .1 .1 .1 .1 .1 .0) (b .result) (b .ensures .0), c .before .before .before .before .before .before .before .before .before .truck-count .ensures)
+    (ended (c .before .before .before .before .before .before .before .before .before .before .before .before .args .s .now) (c .before .before .before .before .before .before .before .before .before .round-count .result) (b .last .1 .1 .1 .1 .1 .0) (b .last .1 .1 .1 .1 .1 .1 .0) (b .result) (b .ensures .0), c .before .before .before .before .before .before .before .before .before .before .truck-count .ensures)
 
 returns : tie.Need-returns
 returns c =
-    let a = c .before .before .before .before .before .before .before .before .before .before .before .before .args in
-    let r = c .before .before .before .before .before .before .before .before .before .round-count in
+    let a = c .before .before .before .before .before .before .before .before .before .before .before .before .before .args in
+    let r = c .before .before .before .before .before .before .before .before .before .before .round-count in
     let b = c .before .before .before .before .proposals in (
       c .fleet-of .ensures ∙ ap (fleetAfter (a .s .now)) (r .ensures),
       b .ensures .1
@@ -54,8 +55,7 @@ replay-spec =
     (λ c. search needs)
     everyone-requires
     (λ c κs. search needs)
-    (λ c. search needs)
-    (λ c. search needs)
+    (λ c κs. search needs)
     proposals-requires
     fleet-of-requires
     returns)

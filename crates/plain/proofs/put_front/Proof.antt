@@ -27,7 +27,7 @@ loop-holds : tie.Need-loop-holds Inv-loop μ-loop
 loop-holds c =
     let s = c .before .before in
     let a = s .args in
-    (omega arith, λ words. put-first (packBit (a .trucks) (a .rounds) (a .openings .now) words) (packBit-lt (a .trucks) (a .rounds) (a .openings .now) words) headerBits (a .trucks * 1024 + a .rounds) (a .buf .now) (omega arith) (header-number (a .trucks) (a .rounds) (a .openings .now) words (s .pre .0) (s .pre .1 .0)))
+    (omega arith, λ words. bits-put-first (packBit (a .trucks) (a .rounds) (a .openings .now) words) (packBit-lt (a .trucks) (a .rounds) (a .openings .now) words) headerBits (a .trucks * 1024 + a .rounds) (a .buf .now) (omega arith) (header-number (a .trucks) (a .rounds) (a .openings .now) words (s .pre .0) (s .pre .1 .0)))
 
 cast-put : tie.Need-cast-put Inv-loop μ-loop
 cast-put c = omega (arith, c .shared-slice-known2 .given (c .before .before .before .loop .j))

@@ -7,7 +7,7 @@ use Rattle.recording.specs.Packed.{trucksOf, openingsOf, roundAt}
 use Rattle.protocol.specs.declared.Grading.{Grading}
 use Rattle.protocol.specs.declared.Grading.the-variants.{Graded}
 use Rattle.protocol.specs.Rules.{truck}
-use Rattle.protocol.specs.Runs.{trucksAt, airAt}
+use Rattle.protocol.specs.Runs.{trucksAt, radioAt}
 use Rattle.protocol.specs.Fleets.{graded}
 use Rattle.listing.specs.Text.{text, printed}
 use Rattle.roads.specs.Opening.{Road, numerator, denominator, openingOf, answerOf}
@@ -40,7 +40,7 @@ reply (grades s) = grading (graded s)
 reply (estimates k s) =
     let ts = trucksAt (trucksOf s) (openingsOf s) (roundAt s) k in
     numbers (tab (λ i. truck ts i .estimate) (trucksOf s))
-reply (senders k s) = numbers (who (airAt (trucksOf s) (openingsOf s) (roundAt s) k .sends) (trucksOf s))
+reply (senders k s) = numbers (who (radioAt (trucksOf s) (openingsOf s) (roundAt s) k .sends) (trucksOf s))
 reply (opens lengths metres seconds) = opening (answerOf (openingOf lengths metres seconds))
 reply (takes length metres seconds) =
     let r : Road = record { length = length; metres = metres; seconds = seconds } in

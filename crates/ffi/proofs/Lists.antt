@@ -15,8 +15,8 @@ use Rattle.refusals.specs.declared.Outcome.the-variants.{Accepted, Refused}
 use Rattle.recording.specs.Packed.{trucksOf, roundsOf, openingAt, openingsOf, roundAt}
 use Rattle.recording.specs.Checks.{badTrucks, checkOf}
 use Rattle.recording.proofs.Accepted.{trucks-in, openings-in, bytes-good}
-use Rattle.air.specs.Round.{activeBit}
-use Rattle.air.specs.Runs.{stateAt}
+use Rattle.radio.specs.Round.{activeBit}
+use Rattle.radio.specs.Runs.{stateAt}
 use Rattle.protocol.proofs.AnyRun.{throughout}
 use Rattle.protocol.specs.Cycles.{afterIn}
 use Rattle.protocol.specs.declared.Truck.{Truck}
@@ -28,8 +28,8 @@ use Rattle.protocol.specs.Fleets.{answer, blank as blankFleet, startCheck, star
 use Rattle.protocol.specs.Steps.{lastRecord, lastRecordIn}
 use Rattle.protocol.proofs.Opened.{length-opened, truck-unopened}
 use Rattle.protocol.proofs.Steps.{accepted-by, start-by}
-use Rattle.record.specs.Layout.{sizeFor, recordByte, packedRecord, packedWhole, unpacked}
-use Rattle.record.proofs.RoundTrip.{Tidy, record-tidy, whole-tidy, undamaged, taken-whole}
+use Rattle.recordbytes.specs.Layout.{sizeFor, recordByte, packedRecord, packedWhole, unpacked}
+use Rattle.recordbytes.proofs.RoundTrip.{Tidy, record-tidy, whole-tidy, undamaged, taken-whole}
 use Rattle.ffi.specs.Calls.{recordAs, storeCall, startCall, stepCall, runCall, bytesAfter}
 use Rattle.ffi.proofs.Records.{step-trucks, room-for, start-range, step-range, run-range}
 

@@ -25,8 +25,8 @@ use Rattle.protocol.specs.Rules.{truck}
 use Rattle.protocol.specs.Runs.{openedTrucks}
 use Rattle.protocol.specs.Fleets.{blank, startCheck, started, stepCheck, stepped, nextFleet, goodTruck, goodFleet, fleetAt, ran, goodFleetIn, stepCheckIn, steppedIn, nextFleetIn, ranIn, fleetIn}
 use Rattle.protocol.proofs.Steps.{accepted-by, start-by}
-use Rattle.record.proofs.RoundTrip.{undamaged, taken-whole}
-use Rattle.record.specs.Layout.{sizeFor, packCheck, packFor, packedRecord, packedWhole, unpacked}
+use Rattle.recordbytes.proofs.RoundTrip.{undamaged, taken-whole}
+use Rattle.recordbytes.specs.Layout.{sizeFor, packCheck, packFor, packedRecord, packedWhole, unpacked}
 use Rattle.ffi.specs.Calls.{RecordLeft, recordLeft, recordAs, storeCall, runCall, startCall, stepCall}
 use Rattle.ffi.proofs.Narrow.{many-trucks, narrowed}
 

@@ -27,7 +27,7 @@ use Rattle.protocol.specs.Fleets.{started, stepped, ran, graded}
 use Rattle.listing.specs.declared.Listed.{Listed}
 use Rattle.listing.specs.declared.Listed.the-variants as listing
 use Rattle.listing.specs.Listed.{listed}
-use Rattle.record.specs.Layout.{sizeFor, recordByte, unpacked}
+use Rattle.recordbytes.specs.Layout.{sizeFor, recordByte, unpacked}
 
 -- ---- the opening crusher
 

@@ -123,7 +123,7 @@ fn store(a: Answer, d: &mut [u8]) -> u32
     let f = a.fleet;
     match o {
         Outcome::Refused(r) => number(r),
-        Outcome::Accepted => outcome_number(record::pack_whole(f, d)),
+        Outcome::Accepted => outcome_number(recordbytes::pack_whole(f, d)),
     }
 }
 
@@ -186,7 +186,7 @@ pub extern "C" fn rajvokshul_start(trucks: u32, openings: &[u8], fleet: &mut [u8
 pub extern "C" fn rajvokshul_step(fleet: &mut [u8], words: &[u32]) -> u32
     ensures { λ r. ⌜ recordLeft r (now (fleet .exit)) ≡ stepCall (now (fleet .entry)) (now (words .entry)) ⌝ }
 {
-    let u = record::unpack(fleet);
+    let u = recordbytes::unpack(fleet);
     let whole = u.outcome;
     match whole {
         Outcome::Refused(r) => number(r),
@@ -198,7 +198,7 @@ pub extern "C" fn rajvokshul_step(fleet: &mut [u8], words: &[u32]) -> u32
                 Outcome::Refused(r) => number(r),
                 Outcome::Accepted => {
                     let g = a.fleet;
-                    outcome_number(record::pack(g, fleet))
+                    outcome_number(recordbytes::pack(g, fleet))
                 }
             }
         }

@@ -13,7 +13,7 @@ use Rattle.basics.specs.Bits.{bit}
 use Rattle.basics.specs.Lists.{who, first}
 use Rattle.basics.proofs.Laws.{and-left, and-right, first-le, first-before, first-at, first-all}
 use Rattle.basics.proofs.Bits.{bit-and, bit-xor, oneOf}
-use Rattle.air.specs.Air.{heard}
+use Rattle.radio.specs.Radio.{heard}
 use Rattle.sets.proofs.Words.{bit-zero, some-bit}
 use Rattle.protocol.proofs.Values.{value-of, of-value, least-keeps, one-value, all-one}
 use Rattle.protocol.specs.declared.Heard.{Heard}

@@ -10,47 +10,47 @@ use native.Mathlib.Nat.{add-zero}
 use native.Mathlib.Omega.{arith}
 use Rattle.basics.specs.Lists.{first}
 use Rattle.basics.proofs.Laws.{allBelow-all, first-le, first-kept, first-hit, first-on}
-use Rattle.air.specs.Round.{stopBit}
-use Rattle.air.specs.Air.{Air, implies, judged, complete, majorityComplete, zeroComplete, accurate, firstBreak}
+use Rattle.radio.specs.Round.{stopBit}
+use Rattle.radio.specs.Radio.{Radio, implies, judged, complete, majorityComplete, zeroComplete, accurate, firstBreak}
 use Rattle.recording.specs.Packed.{trucksOf, openingsOf, roundAt}
 use Rattle.protocol.specs.declared.Grades.{Grades}
-use Rattle.protocol.specs.Cycles.{airIn}
+use Rattle.protocol.specs.Cycles.{radioIn}
 use Rattle.protocol.specs.Rules.{truck, runs, twoRules}
-use Rattle.protocol.specs.Runs.{airAt, gradesFor}
-use Rattle.protocol.proofs.AnyRun.{air-suc, kept}
+use Rattle.protocol.specs.Runs.{radioAt, gradesFor}
+use Rattle.protocol.proofs.AnyRun.{radio-suc, kept}
 use Rattle.fleet.specs.Replays.{noGrades, gradesAfter}
 use Rattle.fleet.specs.Standing.{trucksAfter}
 use Rattle.fleet.specs.Grading.{carried, carriedBy}
-use Rattle.fleet.proofs.Stood.{nextAir}
+use Rattle.fleet.proofs.Stood.{nextRadio}
 
 -- round k + 1 of a recording on the radio
-abbrev pub airAfter : List ℕ → ℕ → Air
-airAfter s k = nextAir (trucksOf s) k (roundAt s k) (trucksAfter s k)
+abbrev pub radioAfter : List ℕ → ℕ → Radio
+radioAfter s k = nextRadio (trucksOf s) k (roundAt s k) (trucksAfter s k)
 
 -- ---- the first break
-module _ (class : Air → Bool) (airs : ℕ → Air) where
+module _ (class : Radio → Bool) (radios : ℕ → Radio) where
   breaks : ℕ → Bool
-  breaks e = not (class (airs (suc e)))
+  breaks e = not (class (radios (suc e)))
 
-  break-none : firstBreak class airs 0 ≡ 0
+  break-none : firstBreak class radios 0 ≡ 0
   unfolding firstBreak first
   break-none = refl
 
-  break-next : (k : ℕ) → firstBreak class airs (suc k) ≡ carried (firstBreak class airs k) (class (airs (suc k))) (suc k)
+  break-next : (k : ℕ) → firstBreak class radios (suc k) ≡ carried (firstBreak class radios k) (class (radios (suc k))) (suc k)
   unfolding firstBreak carried breaks
   break-next k = go (decLt (first breaks k) k)
     where
       go : Dec (first breaks k < k)
           → cond (ltb (first breaks (suc k)) (suc k)) (suc (first breaks (suc k))) 0
-          ≡ cond (eqb (cond (ltb (first breaks k) k) (suc (first breaks k)) 0) 0) (cond (class (airs (suc k))) 0 (suc k)) (cond (ltb (first breaks k) k) (suc (first breaks k)) 0)
+          ≡ cond (eqb (cond (ltb (first breaks k) k) (suc (first breaks k)) 0) 0) (cond (class (radios (suc k))) 0 (suc k)) (cond (ltb (first breaks k) k) (suc (first breaks k)) 0)
       go (yes l) =
           rw (first-kept breaks k l, lt-ltb (first breaks k) k l, lt-ltb (first breaks k) (suc k) (omega arith), ne-eqb (suc (first breaks k)) 0 (λ z. omega arith))
-      go (no l) = rw (le-ltb (first breaks k) k (omega arith)) (last (class (airs (suc k))) refl)
+      go (no l) = rw (le-ltb (first breaks k) k (omega arith)) (last (class (radios (suc k))) refl)
         where
           at : first breaks k ≡ k
           at = omega (arith, first-le breaks k)
 
-          last : (b : Bool) → class (airs (suc k)) ≡ b → cond (ltb (first breaks (suc k)) (suc k)) (suc (first breaks (suc k))) 0 ≡ cond b 0 (suc k)
+          last : (b : Bool) → class (radios (suc k)) ≡ b → cond (ltb (first breaks (suc k)) (suc k)) (suc (first breaks (suc k))) 0 ≡ cond b 0 (suc k)
           last true e = rw (first-on breaks k at (ap not e), le-ltb (suc k) (suc k) (omega arith))
           last false e = rw (first-hit breaks k at (ap not e), lt-ltb k (suc k) (omega arith))
 
@@ -64,38 +64,38 @@ carried-true g k = go (ℕ-discrete g 0)
     go (no e) = rw (ne-eqb g 0 e)
 
 module _ (s : List ℕ) where
-  abbrev airs : ℕ → Air
-  airs k = airAt (trucksOf s) (openingsOf s) (roundAt s) k
+  abbrev radios : ℕ → Radio
+  radios k = radioAt (trucksOf s) (openingsOf s) (roundAt s) k
 
   -- before round 1
   pub grades-none : (judging : Bool) → noGrades ≡ gradesAfter s judging 0
   unfolding gradesAfter gradesFor
-  grades-none true = rw (break-none complete airs, break-none majorityComplete airs, break-none zeroComplete airs, break-none accurate airs)
+  grades-none true = rw (break-none complete radios, break-none majorityComplete radios, break-none zeroComplete radios, break-none accurate radios)
   grades-none false = refl
 
-  pub grades-next : (judging : Bool) (k : ℕ) → gradesAfter s judging (suc k) ≡ cond judging (carriedBy (gradesAfter s judging k) (airAfter s k) (suc k)) (gradesAfter s judging k)
+  pub grades-next : (judging : Bool) (k : ℕ) → gradesAfter s judging (suc k) ≡ cond judging (carriedBy (gradesAfter s judging k) (radioAfter s k) (suc k)) (gradesAfter s judging k)
   unfolding gradesAfter gradesFor carriedBy
   grades-next true k =
-      rw (break-next complete airs k, break-next majorityComplete airs k, break-next zeroComplete airs k, break-next accurate airs k, air-suc twoRules (trucksOf s) (openingsOf s) (roundAt s) k)
+      rw (break-next complete radios k, break-next majorityComplete radios k, break-next zeroComplete radios k, break-next accurate radios k, radio-suc twoRules (trucksOf s) (openingsOf s) (roundAt s) k)
   grades-next false k = refl
 
 -- nobody runs: a round breaks nothing
-nobody-judged : (a : Air) → ((j : ℕ) → j < a .trucks → a .running j ≡ false) → (p : ℕ → Bool) → judged a p ≡ true
+nobody-judged : (a : Radio) → ((j : ℕ) → j < a .trucks → a .running j ≡ false) → (p : ℕ → Bool) → judged a p ≡ true
 unfolding judged
 nobody-judged a h p = allBelow-all (λ i. implies (a .running i) (p i)) (a .trucks) (λ j l. ap (λ (r : Bool). implies r (p j)) (h j l))
 
-idle-carried : (a : Air) → ((j : ℕ) → j < a .trucks → a .running j ≡ false) → (g : Grades) (k : ℕ) → carriedBy g a k ≡ g
+idle-carried : (a : Radio) → ((j : ℕ) → j < a .trucks → a .running j ≡ false) → (g : Grades) (k : ℕ) → carriedBy g a k ≡ g
 unfolding carriedBy complete majorityComplete zeroComplete accurate
 idle-carried a h g k =
     rw (nobody-judged a h _, nobody-judged a h _, nobody-judged a h _, nobody-judged a h _, carried-true (g .complete) k, carried-true (g .majority) k, carried-true (g .zero) k, carried-true (g .accurate) k)
 
 module _ (s : List ℕ) (k : ℕ) (none : (j : ℕ) → j < trucksOf s → runs (truck (trucksAfter s k) j) ≡ false) where
-  idle-air : (m j : ℕ) → j < trucksOf s → airAfter s (k + m) .running j ≡ false
-  unfolding airIn
-  idle-air m j l = ap (λ (r : Bool). r && not (stopBit (roundAt s (k + m)) j)) (ap runs (kept twoRules (trucksOf s) (openingsOf s) (roundAt s) j l k m (none j l)) ∙ none j l)
+  idle-radio : (m j : ℕ) → j < trucksOf s → radioAfter s (k + m) .running j ≡ false
+  unfolding radioIn
+  idle-radio m j l = ap (λ (r : Bool). r && not (stopBit (roundAt s (k + m)) j)) (ap runs (kept twoRules (trucksOf s) (openingsOf s) (roundAt s) j l k m (none j l)) ∙ none j l)
 
   pub grades-idle : (judging : Bool) (m : ℕ) → gradesAfter s judging (k + m) ≡ gradesAfter s judging k
-  unfolding airIn
+  unfolding radioIn
   grades-idle judging zero = ap (gradesAfter s judging) (add-zero k)
   grades-idle judging (suc m) =
       ap (gradesAfter s judging) (let e : k + suc m ≡ suc (k + m) = omega arith in e)
@@ -103,6 +103,6 @@ module _ (s : List ℕ) (k : ℕ) (none : (j : ℕ) → j < trucksOf s → runs 
       ∙ go judging
       ∙ grades-idle judging m
     where
-      go : (b : Bool) → cond b (carriedBy (gradesAfter s judging (k + m)) (airAfter s (k + m)) (suc (k + m))) (gradesAfter s judging (k + m)) ≡ gradesAfter s judging (k + m)
-      go true = idle-carried (airAfter s (k + m)) (idle-air m) (gradesAfter s judging (k + m)) (suc (k + m))
+      go : (b : Bool) → cond b (carriedBy (gradesAfter s judging (k + m)) (radioAfter s (k + m)) (suc (k + m))) (gradesAfter s judging (k + m)) ≡ gradesAfter s judging (k + m)
+      go true = idle-carried (radioAfter s (k + m)) (idle-radio m) (gradesAfter s judging (k + m)) (suc (k + m))
       go false = refl

@@ -13,7 +13,7 @@ use lib.Pow.{pow-lt}
 use lib.Dec.{eqb, ltb}
 use lib.ListN.{length, getD, set, replicate}
 use lib.Seq.{ext-getD}
-use Rattle.air.specs.Runs.{stateAt}
+use Rattle.radio.specs.Runs.{stateAt}
 use Rattle.basics.specs.Bits.{bit, odd}
 use Rattle.basics.specs.Lists.{filled, first}
 use Rattle.basics.proofs.Laws.{or-left, or-right, odd-suc, first-unique, getD-filled, getD-filled-past, length-filled, length-tab, getD-tab, filled-none, fill-step}
@@ -31,8 +31,8 @@ use Rattle.protocol.specs.Cycles.{afterIn}
 use Rattle.protocol.specs.Rules.{opened, truck, after, isOne, isSeveral, twoRules}
 use Rattle.protocol.specs.Runs.{openedTrucks, trucksAt, trucksIn}
 use Rattle.protocol.specs.Fleets.{blank, fleetIn}
-use Rattle.air.specs.Round.{activeBit}
-use Rattle.start.proofs.Records.{length-start}
+use Rattle.radio.specs.Round.{activeBit}
+use Rattle.fleetrecord.proofs.Records.{length-start}
 use Rattle.protocol.proofs.Opened.{length-opened, truck-unopened}
 use Rattle.protocol.proofs.OneRound.{sound-two}
 use Rattle.protocol.proofs.AnyRun.{at-suc, opened-truck, throughout, estimates-open, kept}
@@ -44,14 +44,14 @@ use Rattle.fleet.specs.Sets.{Sorted, wasHeard}
 use Rattle.recording.proofs.RoundTrip.{openings-read}
 use Rattle.fleet.specs.Rounds.{estimates}
 use Rattle.fleet.specs.Replays.{fleetAfter, gradesAfter}
-use Rattle.fleet.specs.Grading.{carriedBy, Aired}
-use Rattle.air.specs.Air.{Air}
+use Rattle.fleet.specs.Grading.{carriedBy, RadioSets}
+use Rattle.radio.specs.Radio.{Radio}
 use Rattle.protocol.specs.declared.Grades.{Grades}
-use Rattle.fleet.proofs.Graded.{airAfter, grades-next, grades-idle}
-use Rattle.fleet.specs.Standing.{ReadsAs, next, holds, trucksAfter, stateOf, memoryOf, standing, truckBy, Stands, Proposes, Vetoes, noted, Fresh, Due, Halted}
+use Rattle.fleet.proofs.Graded.{radioAfter, grades-next, grades-idle}
+use Rattle.fleet.specs.Standing.{ReadsAs, nextTrucks, holds, trucksAfter, stateOf, memoryOf, standing, truckBy, Stands, Proposes, Vetoes, noted, Fresh, Due, Halted}
 use Rattle.fleet.proofs.Reading.{word-here, place-small, place-next}
 use Rattle.fleet.proofs.Places.{read-bit, everyone, everyone-lt, everyone-in, everyone-out, turn-back}
-use Rattle.fleet.proofs.Stood.{runs-is, memory-back, proposal-stands, veto-stands, veto-ended, proposal-aired, veto-aired}
+use Rattle.fleet.proofs.Stood.{runs-is, memory-back, proposal-stands, veto-stands, veto-ended, proposal-radio, veto-radio}
 
 -- what the rounds of a recording have in common
 module _ (s : List ℕ) (good : frameCheck s ≡ Accepted) where
@@ -125,7 +125,7 @@ module _ {s : List ℕ} {at n left k : ℕ} {by ends : List ℕ} {running decide
 
     -- the sets after the next round, as the code counts
     recount : (who : ℕ) {by′ : List ℕ} {running′ decided′ marked′ one′ several′ : ℕ} (ends′ : List ℕ) (left′ : ℕ) → ends′ ≡ filled (noted ends who (k + 1)) 32 ends → left′ ≡ left - 1
-        → Stands (trucksOf s) (k + left) (suc k) (openingAt s) (next (trucksOf s) k (roundAt s k) (trucksAfter s k)) by′ (filled (noted ends who (suc k)) 32 ends) running′ decided′ marked′ one′ several′ → Fresh (trucksOf s) (suc k) (filled (noted ends who (suc k)) 32 ends) decided′ until
+        → Stands (trucksOf s) (k + left) (suc k) (openingAt s) (nextTrucks (trucksOf s) k (roundAt s k) (trucksAfter s k)) by′ (filled (noted ends who (suc k)) 32 ends) running′ decided′ marked′ one′ several′ → Fresh (trucksOf s) (suc k) (filled (noted ends who (suc k)) 32 ends) decided′ until
         → Due s (at + (3 + n) * n) n left′ (k + 1) by′ ends′ running′ decided′ marked′ one′ several′ until
     recount who {by′} {running′} {decided′} {marked′} {one′} {several′} ends′ left′ ee el st fr =
         let f : k + left ≡ k + 1 + left′ = omega (arith, due-more, el) in
@@ -171,22 +171,22 @@ module _ {s : List ℕ} {at n left k : ℕ} {by ends : List ℕ} {running decide
         new false false u e f = absurd (false≢true f)
 
     -- the grades with the round
-    graded-next : (judging : Bool) {going senders mark : ℕ} → Aired (airAfter s k) s (at + 3 * trucksOf s) (trucksOf s) going senders mark → (g g′ : Grades) → g ≡ gradesAfter s judging k
-        → ((a : Air) → Aired a s (at + 3 * n) n going senders mark → g′ ≡ cond judging (carriedBy g a (k + 1)) g) → g′ ≡ gradesAfter s judging (k + 1)
-    graded-next judging {going} {senders} {mark} aired g g′ eg h =
-        h (airAfter s k) (subst (λ (m : ℕ). Aired (airAfter s k) s (at + 3 * m) m going senders mark) (sym (d .count)) aired)
-        ∙ ap₂ (λ (x : Grades) (j : ℕ). cond judging (carriedBy x (airAfter s k) j) x) eg (add-one k)
+    graded-next : (judging : Bool) {going senders mark : ℕ} → RadioSets (radioAfter s k) s (at + 3 * trucksOf s) (trucksOf s) going senders mark → (g g′ : Grades) → g ≡ gradesAfter s judging k
+        → ((a : Radio) → RadioSets a s (at + 3 * n) n going senders mark → g′ ≡ cond judging (carriedBy g a (k + 1)) g) → g′ ≡ gradesAfter s judging (k + 1)
+    graded-next judging {going} {senders} {mark} radio-sets g g′ eg h =
+        h (radioAfter s k) (subst (λ (m : ℕ). RadioSets (radioAfter s k) s (at + 3 * m) m going senders mark) (sym (d .count)) radio-sets)
+        ∙ ap₂ (λ (x : Grades) (j : ℕ). cond judging (carriedBy x (radioAfter s k) j) x) eg (add-one k)
         ∙ sym (ap (gradesAfter s judging) (add-one k) ∙ grades-next s judging k)
 
     pub proposal-graded : odd k ≡ false → {by′ : List ℕ} {r : Proposed} → Proposes s at n left running by by′ r → (judging : Bool) (g g′ : Grades) → g ≡ gradesAfter s judging k
-        → ((a : Air) → Aired a s (at + 3 * n) n (r .going) (r .senders) (r .mark) → g′ ≡ cond judging (carriedBy g a (k + 1)) g) → g′ ≡ gradesAfter s judging (k + 1)
+        → ((a : Radio) → RadioSets a s (at + 3 * n) n (r .going) (r .senders) (r .mark) → g′ ≡ cond judging (carriedBy g a (k + 1)) g) → g′ ≡ gradesAfter s judging (k + 1)
     proposal-graded o {by′} {r} p judging =
-        graded-next judging (proposal-aired (d .stands) (few s (d .good)) (small s (d .good) k) s at (roundAt s k) (read-as s (d .good) k at at-place) (odd-suc k ∙ ap not o) left refl (subst (λ (m : ℕ). Proposes s at m left running by by′ r) (d .count) p))
+        graded-next judging (proposal-radio (d .stands) (few s (d .good)) (small s (d .good) k) s at (roundAt s k) (read-as s (d .good) k at at-place) (odd-suc k ∙ ap not o) left refl (subst (λ (m : ℕ). Proposes s at m left running by by′ r) (d .count) p))
 
     pub veto-graded : odd k ≡ true → {r : Vetoed} → Vetoes s at n running marked one several r → (judging : Bool) (g g′ : Grades) → g ≡ gradesAfter s judging k
-        → ((a : Air) → Aired a s (at + 3 * n) n (r .going) (r .senders) (r .mark) → g′ ≡ cond judging (carriedBy g a (k + 1)) g) → g′ ≡ gradesAfter s judging (k + 1)
+        → ((a : Radio) → RadioSets a s (at + 3 * n) n (r .going) (r .senders) (r .mark) → g′ ≡ cond judging (carriedBy g a (k + 1)) g) → g′ ≡ gradesAfter s judging (k + 1)
     veto-graded o {r} p judging =
-        graded-next judging (veto-aired (d .stands) (few s (d .good)) (small s (d .good) k) s at (roundAt s k) (read-as s (d .good) k at at-place) (odd-suc k ∙ ap not o) (subst (λ (m : ℕ). Vetoes s at m running marked one several r) (d .count) p))
+        graded-next judging (veto-radio (d .stands) (few s (d .good)) (small s (d .good) k) s at (roundAt s k) (read-as s (d .good) k at at-place) (odd-suc k ∙ ap not o) (subst (λ (m : ℕ). Vetoes s at m running marked one several r) (d .count) p))
 
     pub same-end : {by′ ends′ : List ℕ} {r : Sets} → Halted s (k + 1 + (left - 1)) by′ ends′ until r → Halted s (k + left) by′ ends′ until r
     same-end {by′} {ends′} {r} h = subst (λ (x : ℕ). Halted s x by′ ends′ until r) (let e : k + 1 + (left - 1) ≡ k + left = omega (arith, due-more) in e) h

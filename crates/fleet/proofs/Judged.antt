@@ -12,8 +12,8 @@ use lib.Dec.{eqb, leb, ltb}
 use Rattle.basics.specs.Bits.{bit}
 use Rattle.basics.specs.Lists.{allBelow, someBelow}
 use Rattle.basics.proofs.Laws.{allBelow-all, allBelow-at, none-someBelow, someBelow-none}
-use Rattle.air.specs.Air.{Air, implies, sent, hears, heardBy, heard, misses, missesAny, judged, complete, majorityComplete, zeroComplete, accurate}
-use Rattle.air.proofs.Laws.{hears-sends}
+use Rattle.radio.specs.Radio.{Radio, implies, sent, hears, heardBy, heard, misses, missesAny, judged, complete, majorityComplete, zeroComplete, accurate}
+use Rattle.radio.proofs.Laws.{hears-sends}
 use Rattle.bitreader.specs.Bits.{mirrored}
 use Rattle.basics.proofs.Bits.{bit-and, bit-or}
 use Rattle.sets.proofs.Words.{bit-without, bit-zero, same-bits, some-bit}
@@ -23,9 +23,9 @@ use Rattle.sets.specs.Sets.{Members, without}
 use Rattle.fleet.specs.Sets.{heardSet}
 use Rattle.fleet.specs.Listens.{rowFrom}
 use Rattle.fleet.specs.Standing.{holds}
-use Rattle.fleet.specs.Grading.{carried, heardAt, missesSome, carriedBy, Aired, askedOf}
+use Rattle.fleet.specs.Grading.{carried, heardAt, missesSome, carriedBy, RadioSets, askedOf}
 use Rattle.fleet.specs.declared.grading.Missed.{Missed}
-use Rattle.fleet.proofs.Airs.{count-members, some-members}
+use Rattle.fleet.proofs.Radios.{count-members, some-members}
 use Rattle.fleet.proofs.Places.{turn-back}
 use Rattle.fleet.proofs.Stood.{heard-silent}
 
@@ -34,7 +34,7 @@ abbrev missedAt : List ℕ → ℕ → ℕ → ℕ → ℕ → Bool
 missedAt s at n senders p = missesSome senders (heardAt s at n senders p)
 
 -- a truck misses a message where it hears fewer than send
-missed-by : (a : Air) (i set senders : ℕ) → Members set (a .trucks) (hears a i) → Members senders (a .trucks) (a .sends) → missesAny a i ≡ not (eqb set senders)
+missed-by : (a : Radio) (i set senders : ℕ) → Members set (a .trucks) (hears a i) → Members senders (a .trucks) (a .sends) → missesAny a i ≡ not (eqb set senders)
 unfolding missesAny misses
 missed-by a i set senders hearing sends = go (ℕ-discrete set senders)
   where
@@ -74,7 +74,7 @@ carried-asks first k x y h = go (eqb first 0) refl
     go true e = ap (λ (z : Bool). cond z 0 k) (h e)
     go false e = refl
 
-module _ {a : Air} {s : List ℕ} {at n going senders mark : ℕ} (d : Aired a s at n going senders mark) where
+module _ {a : Radio} {s : List ℕ} {at n going senders mark : ℕ} (d : RadioSets a s at n going senders mark) where
   heard-lt : (p : ℕ) → heardAt s at n senders p < 2 ^ 32
   unfolding heardSet
   heard-lt p =
@@ -335,7 +335,7 @@ module _ {a : Air} {s : List ℕ} {at n going senders mark : ℕ} (d : Aired a s
         top false = refl
 
 -- what the function returns
-pub judged-done : {a : Air} {s : List ℕ} {at n going senders mark : ℕ} → Aired a s at n going senders mark → (g : Grades) (m : Missed) (k u first last wanted x1 x2 x3 x4 c1 c2 c3 c4 : ℕ)
+pub judged-done : {a : Radio} {s : List ℕ} {at n going senders mark : ℕ} → RadioSets a s at n going senders mark → (g : Grades) (m : Missed) (k u first last wanted x1 x2 x3 x4 c1 c2 c3 c4 : ℕ)
     → u ≡ without going mark → first ≡ cond (eqb (g .complete) 0 || eqb (g .majority) 0 || eqb (g .zero) 0) u 0 → last ≡ cond (eqb (g .accurate) 0) (bitAnd going mark) 0
     → wanted ≡ cond (eqb senders 0) 0 (bitOr first last)
     → Members (m .some) 32 (λ p. bit wanted p && missedAt s at n senders p)

@@ -1,7 +1,7 @@
 pub mod Laws
 pub mod Packed
 pub mod ByCrusher
-pub mod Airs
+pub mod Radios
 pub mod Turns
 pub mod Sorting
 pub mod Steps

@@ -14,9 +14,9 @@ use lib.ListN.{length, getD}
 use Rattle.basics.specs.Bits.{bit, odd}
 use Rattle.basics.specs.Lists.{who, filled}
 use Rattle.basics.proofs.Laws.{getD-filled, length-filled, and-left, and-right}
-use Rattle.air.specs.Round.{stopBit, activeBit, markBit, lossBit}
-use Rattle.air.specs.Air.{Air, hears, heard, heardBy}
-use Rattle.air.proofs.Laws.{hears-itself, count-some}
+use Rattle.radio.specs.Round.{stopBit, activeBit, markBit, lossBit}
+use Rattle.radio.specs.Radio.{Radio, hears, heard, heardBy}
+use Rattle.radio.proofs.Laws.{hears-itself, count-some}
 use Rattle.basics.proofs.Bits.{bit-and, bit-or, bit-xor, oneOf}
 use Rattle.sets.proofs.Words.{bit-without, bit-zero, bit-power, no-bits}
 use Rattle.sets.proofs.Mirror.{mirror-twice, mirror-zero}
@@ -26,8 +26,8 @@ use Rattle.protocol.specs.declared.Heard.the-variants.{Nothing, One, Several}
 use Rattle.protocol.specs.declared.State.{State}
 use Rattle.protocol.specs.declared.State.the-variants.{Running, Stopped, Decided}
 use Rattle.protocol.specs.declared.Truck.{Truck}
-use Rattle.protocol.specs.Cycles.{airIn, valuesIn, afterIn, isRunning, turn}
-use Rattle.protocol.specs.Rules.{opened, truck, isOne, isSeveral, runs, vetoes, allSame, different, leastOr, stops, proposed, decides, vetoed, airOf, valuesHeard, plays, after}
+use Rattle.protocol.specs.Cycles.{radioIn, valuesIn, afterIn, isRunning, turn}
+use Rattle.protocol.specs.Rules.{opened, truck, isOne, isSeveral, runs, vetoes, allSame, different, leastOr, stops, proposed, decides, vetoed, radioOf, valuesHeard, plays, after}
 use Rattle.protocol.proofs.OneRound.{plays-proposal, plays-veto}
 use Rattle.fleet.specs.declared.hearing.Values.{Values}
 use Rattle.fleet.specs.declared.replay.Proposed.{Proposed}
@@ -36,11 +36,11 @@ use Rattle.sets.specs.Sets.{Members, without}
 use Rattle.fleet.specs.Sets.{Sorted, heardSet, valuesOf}
 use Rattle.fleet.specs.Rounds.{estimates}
 use Rattle.fleet.specs.Listens.{rowFrom, heardFrom, settled}
-use Rattle.fleet.specs.Standing.{ReadsAs, next, holds, wordFrom, stateOf, memoryOf, standing, Stands, goingOn, proposersOf, unreadOf, wantedOf, Proposes, mayOf, vetoersOf, Vetoes, noted}
-use Rattle.fleet.specs.Grading.{Aired}
+use Rattle.fleet.specs.Standing.{ReadsAs, nextTrucks, holds, wordFrom, stateOf, memoryOf, standing, Stands, goingOn, proposersOf, unreadOf, wantedOf, Proposes, mayOf, vetoersOf, Vetoes, noted}
+use Rattle.fleet.specs.Grading.{RadioSets}
 use Rattle.sets.proofs.Members.{member-below}
 use Rattle.fleet.proofs.ByCrusher.{values-right, values-silent}
-use Rattle.fleet.proofs.Airs.{who-members, some-members, hearers}
+use Rattle.fleet.proofs.Radios.{who-members, some-members, hearers}
 use Rattle.fleet.proofs.Packed.{plainRows, row-plain, heard-packed, values-packed}
 use Rattle.fleet.proofs.Places.{turn-back, plain-bit, placed, ones-below}
 
@@ -161,8 +161,8 @@ heard-others senders row p lt h =
     go j (no e) = ap (λ (b : Bool). bit senders j && b) (ne-eqb p j e) ∙ and-false (bit senders j)
 
 -- the next round on the radio
-abbrev pub nextAir : ℕ → ℕ → List ℕ → List Truck → Air
-nextAir n k w ts = airOf n (activeBit w) (suc k) w ts
+abbrev pub nextRadio : ℕ → ℕ → List ℕ → List Truck → Radio
+nextRadio n k w ts = radioOf n (activeBit w) (suc k) w ts
 
 module _ {n last k : ℕ} {opening : ℕ → ℕ} {ts : List Truck} {by ends : List ℕ} {running decided marked one several : ℕ} (st : Stands n last k opening ts by ends running decided marked one several)
     (few : n ≤ 32) (small : (j : ℕ) → j < n → estimates ts j < 16) where
@@ -183,7 +183,7 @@ module _ {n last k : ℕ} {opening : ℕ → ℕ} {ts : List Truck} {by ends : L
 
   -- the next round, at its place
   module _ (s : List ℕ) (at : ℕ) (w : List ℕ) (reads : ReadsAs s at n w) where
-    next-truck : (j : ℕ) → j < n → truck (next n k w ts) j ≡ turn (truck ts j .state) (stopBit w j) (stops (suc k) (truck ts j)) (plays (nextAir n k w ts) (suc k) w ts j) (truck ts j)
+    next-truck : (j : ℕ) → j < n → truck (nextTrucks n k w ts) j ≡ turn (truck ts j .state) (stopBit w j) (stops (suc k) (truck ts j)) (plays (nextRadio n k w ts) (suc k) w ts j) (truck ts j)
     unfolding afterIn
     next-truck j l = getD-filled _ n ts j (opened 0) l
 
@@ -218,16 +218,16 @@ module _ {n last k : ℕ} {opening : ℕ → ℕ} {ts : List Truck} {by ends : L
     ended-bit on j = bit-without running on (31 - j)
 
     -- what truck i hears of the senders
-    module _ (senders : ℕ) (lt : senders < 2 ^ 32) (sends : Members (mirrored 32 senders) n (nextAir n k w ts .sends)) (i : ℕ) (l : i < n) where
+    module _ (senders : ℕ) (lt : senders < 2 ^ 32) (sends : Members (mirrored 32 senders) n (nextRadio n k w ts .sends)) (i : ℕ) (l : i < n) where
       abbrev row : ℕ
       row = rowFrom s (at + 3 * n) n (31 - i)
 
       abbrev plainHeard : ℕ
       plainHeard = heardSet (mirrored 32 senders) (mirrored 32 row) i
 
-      heard-members : Members plainHeard n (hears (nextAir n k w ts) i)
-      unfolding airIn
-      heard-members = hearers (nextAir n k w ts) i (mirrored 32 senders) (mirrored 32 row) sends (λ j lj h. sym (plain-bit row j (omega (arith, few)) ∙ row-bit i j l lj))
+      heard-members : Members plainHeard n (hears (nextRadio n k w ts) i)
+      unfolding radioIn
+      heard-members = hearers (nextRadio n k w ts) i (mirrored 32 senders) (mirrored 32 row) sends (λ j lj h. sym (plain-bit row j (omega (arith, few)) ∙ row-bit i j l lj))
 
       heard-lt : plainHeard < 2 ^ 32
       heard-lt = omega (arith, heard-members .below, pow-mono few)
@@ -237,15 +237,15 @@ module _ {n last k : ℕ} {opening : ℕ → ℕ} {ts : List Truck} {by ends : L
           ap₂ (λ (x p : ℕ). heardSet x row p) (sym (mirror-twice 32 senders lt)) (let e : 31 - i ≡ 32 - suc i = omega (arith, few) in e)
           ∙ heard-packed 32 (mirrored 32 senders) row i (omega (arith, few))
 
-      heard-plain : Members (mirrored 32 (heardSet senders row (31 - i))) n (hears (nextAir n k w ts) i)
+      heard-plain : Members (mirrored 32 (heardSet senders row (31 - i))) n (hears (nextRadio n k w ts) i)
       heard-plain = rw (heard-turned, mirror-twice 32 plainHeard heard-lt) heard-members
 
-      values-heard : map (estimates ts) (who (bit plainHeard) n) ≡ valuesHeard (nextAir n k w ts) ts i
-      unfolding valuesIn heardBy airIn
+      values-heard : map (estimates ts) (who (bit plainHeard) n) ≡ valuesHeard (nextRadio n k w ts) ts i
+      unfolding valuesIn heardBy radioIn
       values-heard = sym (ap (map (estimates ts)) (who-members heard-members))
 
       values-are : valuesOf by (heardSet senders row (31 - i)) 16
-          ≡ record { heard = different (valuesHeard (nextAir n k w ts) ts i); least = leastOr 16 (valuesHeard (nextAir n k w ts) ts i) }
+          ≡ record { heard = different (valuesHeard (nextRadio n k w ts) ts i); least = leastOr 16 (valuesHeard (nextRadio n k w ts) ts i) }
       values-are =
           ap (λ (h : ℕ). valuesOf by h 16) heard-turned
           ∙ values-packed 32 by plainHeard 16 heard-lt
@@ -253,15 +253,15 @@ module _ {n last k : ℕ} {opening : ℕ → ℕ} {ts : List Truck} {by ends : L
           (λ j h. ones-below n j (member-below heard-members j h)) (λ j lj h. small j lj)
           ∙ ap (λ (vs : List ℕ). record { heard = different vs; least = leastOr 16 vs }) values-heard
 
-      any-heard : ltb 0 (heard (nextAir n k w ts) i) ≡ not (eqb (heardSet senders row (31 - i)) 0)
-      unfolding heard heardBy airIn
+      any-heard : ltb 0 (heard (nextRadio n k w ts) i) ≡ not (eqb (heardSet senders row (31 - i)) 0)
+      unfolding heard heardBy radioIn
       any-heard = some-members heard-members ∙ ap not (sym (ap (λ (x : ℕ). eqb x 0) heard-turned ∙ mirror-zero 32 plainHeard heard-lt))
 
     -- the round on the radio, by sets
-    aired : (senders : ℕ) → senders < 2 ^ 32 → Members (mirrored 32 senders) n (nextAir n k w ts .sends)
-        → Aired (nextAir n k w ts) s (at + 3 * n) n (goingOn s at running) senders (wordFrom s (at + 2 * n))
-    unfolding airIn
-    aired senders lt sends =
+    radio-sets : (senders : ℕ) → senders < 2 ^ 32 → Members (mirrored 32 senders) n (nextRadio n k w ts .sends)
+        → RadioSets (nextRadio n k w ts) s (at + 3 * n) n (goingOn s at running) senders (wordFrom s (at + 2 * n))
+    unfolding radioIn
+    radio-sets senders lt sends =
         record {
           few = few;
           fits = lt;
@@ -281,16 +281,16 @@ module _ {n last k : ℕ} {opening : ℕ → ℕ} {ts : List Truck} {by ends : L
       senders-lt : senders < 2 ^ 32
       senders-lt = omega (arith, and-le-l (goingOn s at running) (wordFrom s (at + n)), going-lt)
 
-      proposers-are : Members (mirrored 32 senders) n (nextAir n k w ts .sends)
-      unfolding airIn
+      proposers-are : Members (mirrored 32 senders) n (nextRadio n k w ts .sends)
+      unfolding radioIn
       proposers-are =
-          placed senders n (nextAir n k w ts .sends) few
+          placed senders n (nextRadio n k w ts .sends) few
           (λ j l. bit-and (goingOn s at running) (wordFrom s (at + n)) (31 - j) ∙ ap₂ _&&_ (going-bit j l) (active-bit j l)
           ∙ sym (ap₂ (λ (x y : Bool). (x && not (stopBit w j)) && y) (runs-is j l) (ap (λ (b : Bool). cond b (activeBit w j) (vetoes (truck ts j))) o)))
           (λ j h l. bit-and (goingOn s at running) (wordFrom s (at + n)) (31 - j) ∙ ap (λ (b : Bool). b && holds (wordFrom s (at + n)) j) (going-none j h l))
 
       abbrev values : ℕ → List ℕ
-      values j = valuesHeard (nextAir n k w ts) ts j
+      values j = valuesHeard (nextRadio n k w ts) ts j
 
       abbrev from : ℕ → Values
       from j = heardFrom s (at + 3 * n) n senders by (31 - j)
@@ -299,10 +299,10 @@ module _ {n last k : ℕ} {opening : ℕ → ℕ} {ts : List Truck} {by ends : L
       from-is j l = values-are senders senders-lt proposers-are j l
 
       next-proposed : (j : ℕ) → j < n
-          → truck (next n k w ts) j
+          → truck (nextTrucks n k w ts) j
           ≡ turn (truck ts j .state) (stopBit w j) (stops (suc k) (truck ts j))
           (proposed (markBit w j) (different (values j)) (leastOr (truck ts j .estimate) (values j)) (truck ts j)) (truck ts j)
-      unfolding airIn
+      unfolding radioIn
       next-proposed j l =
           next-truck j l
           ∙ ap (λ (u : Truck). turn (truck ts j .state) (stopBit w j) (stops (suc k) (truck ts j)) u (truck ts j))
@@ -310,7 +310,7 @@ module _ {n last k : ℕ} {opening : ℕ → ℕ} {ts : List Truck} {by ends : L
 
       -- one that goes on
       next-on : (j : ℕ) → j < n → (holds running j && not (stopBit w j)) ≡ true
-          → truck (next n k w ts) j
+          → truck (nextTrucks n k w ts) j
           ≡ proposed (markBit w j) (different (values j)) (leastOr (truck ts j .estimate) (values j)) (truck ts j)
       next-on j l g =
           next-proposed j l
@@ -318,7 +318,7 @@ module _ {n last k : ℕ} {opening : ℕ → ℕ} {ts : List Truck} {by ends : L
           (runs-is j l ∙ and-left (holds running j) (not (stopBit w j)) g) (not-true (stopBit w j) (and-right (holds running j) (not (stopBit w j)) g))
 
       -- one that doesn't
-      next-off : (j : ℕ) → j < n → (holds running j && not (stopBit w j)) ≡ false → truck (next n k w ts) j .estimate ≡ truck ts j .estimate
+      next-off : (j : ℕ) → j < n → (holds running j && not (stopBit w j)) ≡ false → truck (nextTrucks n k w ts) j .estimate ≡ truck ts j .estimate
       next-off j l g =
           ap (λ (u : Truck). u .estimate) (next-proposed j l)
           ∙ stays-put (suc k) (truck ts j .state) (stopBit w j) (proposed (markBit w j) (different (values j)) (leastOr (truck ts j .estimate) (values j)) (truck ts j)) (truck ts j)
@@ -407,7 +407,7 @@ module _ {n last k : ℕ} {opening : ℕ → ℕ} {ts : List Truck} {by ends : L
         none-changed false true m e f = absurd (true≢false f)
         none-changed false false m e f = refl
 
-        now-sorted : (c : ℕ) → c < 16 → (j : ℕ) → j < 32 → holds (getD by′ c 0) j ≡ (ltb j n && eqb (truck (next n k w ts) j .estimate) c)
+        now-sorted : (c : ℕ) → c < 16 → (j : ℕ) → j < 32 → holds (getD by′ c 0) j ≡ (ltb j n && eqb (truck (nextTrucks n k w ts) j .estimate) c)
         now-sorted c lc j l32 = settled-bit c j lc ∙ go (decLt j n)
           where
             changed : ℕ
@@ -415,35 +415,35 @@ module _ {n last k : ℕ} {opening : ℕ → ℕ} {ts : List Truck} {by ends : L
 
             go : Dec (j < n)
                 → ((holds (getD by c 0) j && not (holds (without (bitOr (r .one) (r .several)) (r .mark)) j)) || (holds (getD (p .taking) c 0) j && holds (without (bitOr (r .one) (r .several)) (r .mark)) j))
-                ≡ (ltb j n && eqb (truck (next n k w ts) j .estimate) c)
+                ≡ (ltb j n && eqb (truck (nextTrucks n k w ts) j .estimate) c)
             go (no h) =
                 keeps (holds (getD by c 0) j) (holds (getD (p .taking) c 0) j) (holds (without (bitOr (r .one) (r .several)) (r .mark)) j)
                 (changed-bit j ∙ none-changed (holds (r .one) j) (holds (r .several) j) (holds (r .mark) j)
                 (p .one .each (31 - j) (omega arith) ∙ ap (λ (b : Bool). b && isOne (from j .heard)) (wanted-none j (omega arith) l32))
                 (p .several .each (31 - j) (omega arith) ∙ ap (λ (b : Bool). b && isSeveral (from j .heard)) (wanted-none j (omega arith) l32)))
                 ∙ st .sorted c lc j l32 ∙ ap (λ (b : Bool). b && eqb (truck ts j .estimate) c) (le-ltb j n (omega arith))
-                ∙ sym (ap (λ (b : Bool). b && eqb (truck (next n k w ts) j .estimate) c) (le-ltb j n (omega arith)))
+                ∙ sym (ap (λ (b : Bool). b && eqb (truck (nextTrucks n k w ts) j .estimate) c) (le-ltb j n (omega arith)))
             go (yes l) =
                 kind (holds running j && not (stopBit w j)) refl (markBit w j) refl (different (values j)) refl
-                ∙ sym (ap (λ (b : Bool). b && eqb (truck (next n k w ts) j .estimate) c) (lt-ltb j n l))
+                ∙ sym (ap (λ (b : Bool). b && eqb (truck (nextTrucks n k w ts) j .estimate) c) (lt-ltb j n l))
               where
                 was : holds (getD by c 0) j ≡ eqb (truck ts j .estimate) c
                 was = st .sorted c lc j l32 ∙ ap (λ (b : Bool). b && eqb (truck ts j .estimate) c) (lt-ltb j n l)
 
-                same : holds (without (bitOr (r .one) (r .several)) (r .mark)) j ≡ false → truck (next n k w ts) j .estimate ≡ truck ts j .estimate
+                same : holds (without (bitOr (r .one) (r .several)) (r .mark)) j ≡ false → truck (nextTrucks n k w ts) j .estimate ≡ truck ts j .estimate
                     → ((holds (getD by c 0) j && not (holds (without (bitOr (r .one) (r .several)) (r .mark)) j)) || (holds (getD (p .taking) c 0) j && holds (without (bitOr (r .one) (r .several)) (r .mark)) j))
-                    ≡ eqb (truck (next n k w ts) j .estimate) c
+                    ≡ eqb (truck (nextTrucks n k w ts) j .estimate) c
                 same q e =
                     keeps (holds (getD by c 0) j) (holds (getD (p .taking) c 0) j) (holds (without (bitOr (r .one) (r .several)) (r .mark)) j) q ∙ was ∙ ap (λ (x : ℕ). eqb x c) (sym e)
 
                 new : (f : Heard → Bool) → f Nothing ≡ false → f (different (values j)) ≡ true → holds (without (bitOr (r .one) (r .several)) (r .mark)) j ≡ true
                     → (holds running j && not (stopBit w j)) ≡ true → markBit w j ≡ false
                     → ((holds (getD by c 0) j && not (holds (without (bitOr (r .one) (r .several)) (r .mark)) j)) || (holds (getD (p .taking) c 0) j && holds (without (bitOr (r .one) (r .several)) (r .mark)) j))
-                    ≡ eqb (truck (next n k w ts) j .estimate) c
+                    ≡ eqb (truck (nextTrucks n k w ts) j .estimate) c
                 new f z is q g m =
                     let u : holds unread j ≡ false = was-read j l (λ x. absurd (true≢false (sym x ∙ m))) in
                     let asked : holds wanted j ≡ true = and-left (holds wanted j) (f (from j .heard)) (listens f z j l ∙ ap₂ (λ (x y : Bool). (x && not y) && f (different (values j))) g u ∙ is) in
-                    let e : truck (next n k w ts) j .estimate ≡ leastOr 16 (values j) =
+                    let e : truck (nextTrucks n k w ts) j .estimate ≡ leastOr 16 (values j) =
                     ap (λ (t : Truck). t .estimate) (next-on j l g) ∙ ap (λ (b : Bool). cond b (truck ts j .estimate) (leastOr (truck ts j .estimate) (values j))) m
                     ∙ least-same (truck ts j .estimate) 16 (values j) (λ x. true≢false (sym is ∙ ap f x ∙ z)) in
                     takes (holds (getD by c 0) j) (holds (getD (p .taking) c 0) j) (holds (without (bitOr (r .one) (r .several)) (r .mark)) j) q
@@ -452,7 +452,7 @@ module _ {n last k : ℕ} {opening : ℕ → ℕ} {ts : List Truck} {by ends : L
 
                 kind : (g : Bool) → (holds running j && not (stopBit w j)) ≡ g → (m : Bool) → markBit w j ≡ m → (h : Heard) → different (values j) ≡ h
                     → ((holds (getD by c 0) j && not (holds (without (bitOr (r .one) (r .several)) (r .mark)) j)) || (holds (getD (p .taking) c 0) j && holds (without (bitOr (r .one) (r .several)) (r .mark)) j))
-                    ≡ eqb (truck (next n k w ts) j .estimate) c
+                    ≡ eqb (truck (nextTrucks n k w ts) j .estimate) c
                 kind false eg m em h eh =
                     same (changed-bit j ∙ none-changed (holds (r .one) j) (holds (r .several) j) (holds (r .mark) j)
                     (one-bit j l ∙ ap (λ (b : Bool). (b && not (holds unread j)) && isOne (different (values j))) eg) (several-bit j l ∙ ap (λ (b : Bool). (b && not (holds unread j)) && isSeveral (different (values j))) eg))
@@ -479,10 +479,10 @@ module _ {n last k : ℕ} {opening : ℕ → ℕ} {ts : List Truck} {by ends : L
                     heard-on : (f : Heard → Bool) → different (values j) ≡ Several → (((holds running j && not (stopBit w j)) && not (holds unread j)) && f (different (values j))) ≡ f Several
                     heard-on f e = ap₂ (λ (x y : Bool). (x && not y) && f (different (values j))) eg (was-read j l (λ x. absurd (true≢false (sym x ∙ em)))) ∙ ap f e
 
-        pub proposal-aired : Aired (nextAir n k w ts) s (at + 3 * n) n (r .going) (r .senders) (r .mark)
-        proposal-aired = rw (p .going, p .senders, p .mark) (aired senders senders-lt proposers-are)
+        pub proposal-radio : RadioSets (nextRadio n k w ts) s (at + 3 * n) n (r .going) (r .senders) (r .mark)
+        proposal-radio = rw (p .going, p .senders, p .mark) (radio-sets senders senders-lt proposers-are)
 
-        pub proposal-stands : Stands n last (suc k) opening (next n k w ts) by′ (filled (noted ends (without running (r .going)) (suc k)) 32 ends) (r .going) decided (r .mark) (r .one) (r .several)
+        pub proposal-stands : Stands n last (suc k) opening (nextTrucks n k w ts) by′ (filled (noted ends (without running (r .going)) (suc k)) 32 ends) (r .going) decided (r .mark) (r .one) (r .several)
         proposal-stands =
             record {
               crushers = ap length (p .took) ∙ length-filled (settled by (p .taking) (without (bitOr (r .one) (r .several)) (r .mark))) 16 by (omega (arith, st .crushers)) ∙ st .crushers;
@@ -492,8 +492,8 @@ module _ {n last k : ℕ} {opening : ℕ → ℕ} {ts : List Truck} {by ends : L
               apart = λ j l h. st .apart j l (and-left (holds running j) (not (stopBit w j)) (sym (going-is j l) ∙ h));
               each = λ j l.
                   proposal-one (opening j) (getD ends j 0) (suc k) (stopBit w j) (markBit w j) (different (values j)) (leastOr (truck ts j .estimate) (values j))
-                  (truck ts j) (holds running j) (holds decided j) (holds marked j) (st .each j l) (st .apart j l) (truck (next n k w ts) j) (next-proposed j l)
-                  ∙ standing-same (opening j) (truck (next n k w ts) j .estimate) (truck (next n k w ts) j .heard) (holds decided j) (sym (going-is j l)) (sym (mark-is j l))
+                  (truck ts j) (holds running j) (holds decided j) (holds marked j) (st .each j l) (st .apart j l) (truck (nextTrucks n k w ts) j) (next-proposed j l)
+                  ∙ standing-same (opening j) (truck (nextTrucks n k w ts) j .estimate) (truck (nextTrucks n k w ts) j .heard) (holds decided j) (sym (going-is j l)) (sym (mark-is j l))
                   (sym (getD-filled (noted ends (without running (r .going)) (suc k)) 32 ends j 0 (omega (arith, few))
                   ∙ ap (λ (b : Bool). cond b (suc k) (getD ends j 0)) (ended-bit (r .going) j ∙ ap (λ (b : Bool). holds running j && not b) (going-is j l))));
               heard = λ j l g h.
@@ -526,10 +526,10 @@ module _ {n last k : ℕ} {opening : ℕ → ℕ} {ts : List Truck} {by ends : L
           go true e = refl
           go false e = st .heard j l r (λ x. absurd (true≢false (sym x ∙ e))) .1
 
-      vetoers-are : Members (mirrored 32 vetoers) n (nextAir n k w ts .sends)
-      unfolding airIn
+      vetoers-are : Members (mirrored 32 vetoers) n (nextRadio n k w ts .sends)
+      unfolding radioIn
       vetoers-are =
-          placed vetoers n (nextAir n k w ts .sends) few
+          placed vetoers n (nextRadio n k w ts .sends) few
           (λ j l. bit-and (goingOn s at running) (bitOr marked several) (31 - j) ∙ ap₂ _&&_ (going-bit j l) (bit-or marked several (31 - j))
           ∙ go (holds running j) (not (stopBit w j)) (holds marked j || holds several j) (vetoes (truck ts j)) (vetoes-is j l)
           ∙ sym (ap₂ (λ (x y : Bool). (x && not (stopBit w j)) && y) (runs-is j l) (ap (λ (b : Bool). cond b (activeBit w j) (vetoes (truck ts j))) o)))
@@ -542,21 +542,21 @@ module _ {n last k : ℕ} {opening : ℕ → ℕ} {ts : List Truck} {by ends : L
 
       -- it hears a veto
       abbrev veto : ℕ → Bool
-      veto j = ltb 0 (heard (nextAir n k w ts) j)
+      veto j = ltb 0 (heard (nextRadio n k w ts) j)
 
-      sends-is : (j : ℕ) → j < n → nextAir n k w ts .sends j ≡ ((holds running j && not (stopBit w j)) && vetoes (truck ts j))
-      unfolding airIn
+      sends-is : (j : ℕ) → j < n → nextRadio n k w ts .sends j ≡ ((holds running j && not (stopBit w j)) && vetoes (truck ts j))
+      unfolding radioIn
       sends-is j l = ap₂ (λ (x y : Bool). (x && not (stopBit w j)) && y) (runs-is j l) (ap (λ (b : Bool). cond b (activeBit w j) (vetoes (truck ts j))) o)
 
-      own-veto : (j : ℕ) → j < n → nextAir n k w ts .sends j ≡ true → veto j ≡ true
-      unfolding heard heardBy airIn
-      own-veto j l h = lt-ltb 0 (length (who (hears (nextAir n k w ts) j) n)) (count-some (hears (nextAir n k w ts) j) n j l (hears-itself (nextAir n k w ts) j h))
+      own-veto : (j : ℕ) → j < n → nextRadio n k w ts .sends j ≡ true → veto j ≡ true
+      unfolding heard heardBy radioIn
+      own-veto j l h = lt-ltb 0 (length (who (hears (nextRadio n k w ts) j) n)) (count-some (hears (nextRadio n k w ts) j) n j l (hears-itself (nextRadio n k w ts) j h))
 
       next-vetoed : (j : ℕ) → j < n
-          → truck (next n k w ts) j
+          → truck (nextTrucks n k w ts) j
           ≡ turn (truck ts j .state) (stopBit w j) (stops (suc k) (truck ts j))
           (vetoed (suc k) (markBit w j) (veto j) (truck ts j)) (truck ts j)
-      unfolding airIn
+      unfolding radioIn
       next-vetoed j l =
           next-truck j l
           ∙ ap (λ (u : Truck). turn (truck ts j .state) (stopBit w j) (stops (suc k) (truck ts j)) u (truck ts j))
@@ -644,13 +644,13 @@ module _ {n last k : ℕ} {opening : ℕ → ℕ} {ts : List Truck} {by ends : L
             go false false x e = refl
 
         made-of : (j : ℕ) → j < n
-            → (truck (next n k w ts) j
-            ≡ standing (opening j) (truck (next n k w ts) j .estimate) (truck (next n k w ts) j .heard) ((holds running j && not (stopBit w j)) && not (holds (r .done) j))
+            → (truck (nextTrucks n k w ts) j
+            ≡ standing (opening j) (truck (nextTrucks n k w ts) j .estimate) (truck (nextTrucks n k w ts) j .heard) ((holds running j && not (stopBit w j)) && not (holds (r .done) j))
             (holds decided j || holds (r .done) j) false (cond (holds running j && not ((holds running j && not (stopBit w j)) && not (holds (r .done) j))) (suc k) (getD ends j 0)))
-            × ((truck (next n k w ts) j .heard ≡ Nothing) × (truck (next n k w ts) j .estimate ≡ truck ts j .estimate))
+            × ((truck (nextTrucks n k w ts) j .heard ≡ Nothing) × (truck (nextTrucks n k w ts) j .estimate ≡ truck ts j .estimate))
         made-of j l =
             veto-one (opening j) (getD ends j 0) (suc k) (stopBit w j) (markBit w j) (veto j) (truck ts j) (holds running j) (holds decided j) (holds marked j) (holds (r .done) j)
-            (st .each j l) (st .apart j l) (done-bit j l) (truck (next n k w ts) j) (next-vetoed j l)
+            (st .each j l) (st .apart j l) (done-bit j l) (truck (nextTrucks n k w ts) j) (next-vetoed j l)
 
         -- the round of those that decide
         pub veto-ended : (j : ℕ) → j < n → holds (r .done) j ≡ true → getD (filled (noted ends (without running (r .on)) (suc k)) 32 ends) j 0 ≡ suc k
@@ -661,10 +661,10 @@ module _ {n last k : ℕ} {opening : ℕ → ℕ} {ts : List Truck} {by ends : L
             (ended-bit (r .on) j ∙ ap₂ (λ (x y : Bool). x && not y) (and-left (holds running j) (not (stopBit w j)) g)
             (on-bit j l ∙ ap (λ (b : Bool). (holds running j && not (stopBit w j)) && not b) h ∙ and-false (holds running j && not (stopBit w j))))
 
-        pub veto-aired : Aired (nextAir n k w ts) s (at + 3 * n) n (r .going) (r .senders) (r .mark)
-        veto-aired = rw (p .going, p .senders, p .mark) (aired vetoers vetoers-lt vetoers-are)
+        pub veto-radio : RadioSets (nextRadio n k w ts) s (at + 3 * n) n (r .going) (r .senders) (r .mark)
+        veto-radio = rw (p .going, p .senders, p .mark) (radio-sets vetoers vetoers-lt vetoers-are)
 
-        pub veto-stands : Stands n last (suc k) opening (next n k w ts) by (filled (noted ends (without running (r .on)) (suc k)) 32 ends) (r .on) (bitOr decided (r .done)) 0 0 0
+        pub veto-stands : Stands n last (suc k) opening (nextTrucks n k w ts) by (filled (noted ends (without running (r .on)) (suc k)) 32 ends) (r .on) (bitOr decided (r .done)) 0 0 0
         veto-stands =
             record {
               crushers = st .crushers;
@@ -678,9 +678,9 @@ module _ {n last k : ℕ} {opening : ℕ → ℕ} {ts : List Truck} {by ends : L
                   (not-true (holds (r .done) j) (and-right (holds running j && not (stopBit w j)) (not (holds (r .done) j)) g));
               each = λ j l.
                   made-of j l .0
-                  ∙ ap (λ (b : Bool). standing (opening j) (truck (next n k w ts) j .estimate) (truck (next n k w ts) j .heard) ((holds running j && not (stopBit w j)) && not (holds (r .done) j)) b false
+                  ∙ ap (λ (b : Bool). standing (opening j) (truck (nextTrucks n k w ts) j .estimate) (truck (nextTrucks n k w ts) j .heard) ((holds running j && not (stopBit w j)) && not (holds (r .done) j)) b false
                   (cond (holds running j && not ((holds running j && not (stopBit w j)) && not (holds (r .done) j))) (suc k) (getD ends j 0))) (sym (bit-or decided (r .done) (31 - j)))
-                  ∙ standing-same (opening j) (truck (next n k w ts) j .estimate) (truck (next n k w ts) j .heard) (holds (bitOr decided (r .done)) j) (sym (on-bit j l)) (sym (bit-zero (31 - j)))
+                  ∙ standing-same (opening j) (truck (nextTrucks n k w ts) j .estimate) (truck (nextTrucks n k w ts) j .heard) (holds (bitOr decided (r .done)) j) (sym (on-bit j l)) (sym (bit-zero (31 - j)))
                   (sym (getD-filled (noted ends (without running (r .on)) (suc k)) 32 ends j 0 (omega (arith, few))
                   ∙ ap (λ (b : Bool). cond b (suc k) (getD ends j 0)) (ended-bit (r .on) j ∙ ap (λ (b : Bool). holds running j && not b) (on-bit j l))));
               heard = λ j l g h. let e = made-of j l .1 .0 in (ap isOne e ∙ sym (bit-zero (31 - j)), ap isSeveral e ∙ sym (bit-zero (31 - j)));
@@ -688,6 +688,6 @@ module _ {n last k : ℕ} {opening : ℕ → ℕ} {ts : List Truck} {by ends : L
             }
           where
             same-sorted : (c j : ℕ) → Dec (j < n)
-                → (ltb j n && eqb (truck ts j .estimate) c) ≡ (ltb j n && eqb (truck (next n k w ts) j .estimate) c)
+                → (ltb j n && eqb (truck ts j .estimate) c) ≡ (ltb j n && eqb (truck (nextTrucks n k w ts) j .estimate) c)
             same-sorted c j (yes l) = ap (λ (x : ℕ). ltb j n && eqb x c) (sym (made-of j l .1 .1))
             same-sorted c j (no h) = rw (le-ltb j n (omega arith))

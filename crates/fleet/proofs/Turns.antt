@@ -9,10 +9,10 @@ use lib.ListN.{getD}
 use Rattle.basics.specs.Bits.{odd}
 use Rattle.basics.specs.Lists.{filled}
 use Rattle.basics.proofs.Laws.{getD-filled, filled-ext}
-use Rattle.air.specs.Round.{stopBit, activeBit, markBit}
-use Rattle.air.specs.Air.{Air, hears, heardBy, heard}
-use Rattle.air.proofs.Laws.{hears-sends}
-use Rattle.protocol.specs.Cycles.{airIn, valuesIn, afterIn, turn}
+use Rattle.radio.specs.Round.{stopBit, activeBit, markBit}
+use Rattle.radio.specs.Radio.{Radio, hears, heardBy, heard}
+use Rattle.radio.proofs.Laws.{hears-sends}
+use Rattle.protocol.specs.Cycles.{radioIn, valuesIn, afterIn, turn}
 use Rattle.protocol.proofs.OneRound.{plays-proposal, plays-veto}
 use Rattle.protocol.specs.declared.State.{State}
 use Rattle.protocol.specs.declared.State.the-variants.{Running, Stopped, Decided}
@@ -26,10 +26,10 @@ use Rattle.truck.specs.Events.{happened, turned, updatedFirst}
 use Rattle.fleet.specs.declared.hearing.Values.{Values}
 use Rattle.sets.specs.Sets.{Members}
 use Rattle.fleet.specs.Sets.{heardSet, valuesOf, Sorted}
-use Rattle.fleet.specs.Rounds.{estimates, nextOnAir, eventOf, eventAt, noEvents}
+use Rattle.fleet.specs.Rounds.{estimates, stepRadio, eventOf, eventAt, noEvents}
 use Rattle.sets.proofs.Members.{member-below, member-has}
 use Rattle.fleet.proofs.ByCrusher.{values-right}
-use Rattle.fleet.proofs.Airs.{who-members, some-members, hearers}
+use Rattle.fleet.proofs.Radios.{who-members, some-members, hearers}
 
 -- an event that is a stop where b says so, and else what the truck plays
 event-turn : (k : ℕ) (s : State) (b : Bool) (t played : Truck) (e : Event) → happened k e t ≡ cond b (stops k t) played
@@ -49,50 +49,50 @@ module _ (f : Fleet) (w : List ℕ) where
   abbrev ts : List Truck
   ts = f .trucks
 
-  abbrev air : Air
-  air = nextOnAir f w
+  abbrev radio : Radio
+  radio = stepRadio f w
 
   -- what the round makes of truck i
   abbrev rule : ℕ → Truck
-  rule i = turn (truck ts i .state) (stopBit w i) (stops k (truck ts i)) (plays air k w ts i) (truck ts i)
+  rule i = turn (truck ts i .state) (stopBit w i) (stops k (truck ts i)) (plays radio k w ts i) (truck ts i)
 
   next-is : nextFleet f w ≡ record { n = n; done = k; trucks = filled rule n ts }
   unfolding nextFleetIn afterIn
   next-is = refl
 
   -- who sends, truck by truck
-  pub sends-is : (i : ℕ) (proposals : Bool) → odd k ≡ proposals → ((runs (truck ts i) && not (stopBit w i)) && cond proposals (activeBit w i) (vetoes (truck ts i))) ≡ air .sends i
-  unfolding airIn
+  pub sends-is : (i : ℕ) (proposals : Bool) → odd k ≡ proposals → ((runs (truck ts i) && not (stopBit w i)) && cond proposals (activeBit w i) (vetoes (truck ts i))) ≡ radio .sends i
+  unfolding radioIn
   sends-is i proposals o = rw o
 
-  module _ (senders : ℕ) (values : List ℕ) (sends : Members senders n (air .sends)) (sorted : odd k ≡ true → Sorted values n senders (estimates ts)) (small : (j : ℕ) → j < n → estimates ts j < 16) where
+  module _ (senders : ℕ) (values : List ℕ) (sends : Members senders n (radio .sends)) (sorted : odd k ≡ true → Sorted values n senders (estimates ts)) (small : (j : ℕ) → j < n → estimates ts j < 16) where
     module _ (i : ℕ) (l : i < n) where
       abbrev heardSenders : ℕ
       heardSenders = heardSet senders (getD w (3 + i) 0) i
 
-      heard-is : Members heardSenders n (hears air i)
-      unfolding airIn
-      heard-is = hearers air i senders (getD w (3 + i) 0) sends (λ j lj s. refl)
+      heard-is : Members heardSenders n (hears radio i)
+      unfolding radioIn
+      heard-is = hearers radio i senders (getD w (3 + i) 0) sends (λ j lj s. refl)
 
       values-are : odd k ≡ true → valuesOf values heardSenders (estimates ts i)
-          ≡ record { heard = different (valuesHeard air ts i); least = leastOr (estimates ts i) (valuesHeard air ts i) }
-      unfolding valuesIn heardBy airIn
+          ≡ record { heard = different (valuesHeard radio ts i); least = leastOr (estimates ts i) (valuesHeard radio ts i) }
+      unfolding valuesIn heardBy radioIn
       values-are o =
           values-right values n senders heardSenders (estimates ts i) (estimates ts) (sorted o) (heard-is .below)
-          (λ j h. sends .each j (member-below heard-is j h) ∙ hears-sends air i j (member-has heard-is j h)) (λ j lj s. small j lj)
+          (λ j h. sends .each j (member-below heard-is j h) ∙ hears-sends radio i j (member-has heard-is j h)) (λ j lj s. small j lj)
           ∙ ap (λ (js : List ℕ). record { heard = different (map (estimates ts) js); least = leastOr (estimates ts i) (map (estimates ts) js) }) (sym (who-members heard-is))
 
-      any-heard : ltb 0 (heard air i) ≡ not (eqb heardSenders 0)
-      unfolding heard heardBy airIn
+      any-heard : ltb 0 (heard radio i) ≡ not (eqb heardSenders 0)
+      unfolding heard heardBy radioIn
       any-heard = some-members heard-is
 
       -- the event that was worked out is what the rules make of the truck
       event-right : turned k (eventAt f w senders values i) (truck ts i) ≡ rule i
-      unfolding eventOf airIn
-      event-right = event-turn k (truck ts i .state) (stopBit w i) (truck ts i) (plays air k w ts i) (eventAt f w senders values i) (go (stopBit w i) (odd k) refl)
+      unfolding eventOf radioIn
+      event-right = event-turn k (truck ts i .state) (stopBit w i) (truck ts i) (plays radio k w ts i) (eventAt f w senders values i) (go (stopBit w i) (odd k) refl)
         where
           go : (b p : Bool) → odd k ≡ p
-              → happened k (eventOf p b (markBit w i) heardSenders values (estimates ts i)) (truck ts i) ≡ cond b (stops k (truck ts i)) (plays air k w ts i)
+              → happened k (eventOf p b (markBit w i) heardSenders values (estimates ts i)) (truck ts i) ≡ cond b (stops k (truck ts i)) (plays radio k w ts i)
           go true p o = refl
           go false true o =
               ap (λ (v : Values). proposed (markBit w i) (v .heard) (v .least) (truck ts i)) (values-are o)

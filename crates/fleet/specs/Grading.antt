@@ -7,7 +7,7 @@ use lib.Bits.{bitAnd, bitOr}
 use lib.Count.{ones}
 use lib.Dec.{eqb, leb}
 use Rattle.bitreader.specs.Bits.{mirrored}
-use Rattle.air.specs.Air.{Air, hears, complete, majorityComplete, zeroComplete, accurate}
+use Rattle.radio.specs.Radio.{Radio, hears, complete, majorityComplete, zeroComplete, accurate}
 use Rattle.protocol.specs.declared.Grades.{Grades}
 use Rattle.sets.specs.Sets.{Members, without}
 use Rattle.fleet.specs.Sets.{heardSet}
@@ -33,7 +33,7 @@ unfoldable pub carried : ℕ → Bool → ℕ → ℕ
 carried first ok k = cond (eqb first 0) (cond ok 0 k) first
 
 -- the grades with round k too
-unfoldable pub carriedBy : Grades → Air → ℕ → Grades
+unfoldable pub carriedBy : Grades → Radio → ℕ → Grades
 carriedBy g a k =
     record {
       complete = carried (g .complete) (complete a) k;
@@ -43,7 +43,7 @@ carriedBy g a k =
     }
 
 -- a round on the radio is what these sets say
-pub record Aired (a : Air) (s : List ℕ) (at n going senders mark : ℕ) : Type 0 where
+pub record RadioSets (a : Radio) (s : List ℕ) (at n going senders mark : ℕ) : Type 0 where
   pub few : a .trucks ≤ 32
   pub fits : senders < 2 ^ 32
   pub goes : going < 2 ^ 32

@@ -5,11 +5,11 @@ use mathlib.Core.List.{List}
 use lib.Dec.{eqb}
 use lib.ListN.{getD, replicate}
 use Rattle.basics.specs.Bits.{odd}
-use Rattle.air.specs.Round.{stopBit, activeBit, markBit}
-use Rattle.air.specs.Air.{Air}
+use Rattle.radio.specs.Round.{stopBit, activeBit, markBit}
+use Rattle.radio.specs.Radio.{Radio}
 use Rattle.protocol.specs.declared.Truck.{Truck}
 use Rattle.protocol.specs.declared.Fleet.{Fleet}
-use Rattle.protocol.specs.Rules.{truck, airOf}
+use Rattle.protocol.specs.Rules.{truck, radioOf}
 use Rattle.truck.specs.declared.Event.{Event}
 use Rattle.truck.specs.declared.Event.the-variants.{Stop, Proposals, Vetoes}
 use Rattle.fleet.specs.Sets.{heardSet, valuesOf}
@@ -18,8 +18,8 @@ abbrev pub estimates : List Truck → ℕ → ℕ
 estimates ts j = truck ts j .estimate
 
 -- the next round of a record, with the words w, on the radio
-abbrev pub nextOnAir : Fleet → List ℕ → Air
-nextOnAir f w = airOf (f .n) (activeBit w) (f .done + 1) w (f .trucks)
+abbrev pub stepRadio : Fleet → List ℕ → Radio
+stepRadio f w = radioOf (f .n) (activeBit w) (f .done + 1) w (f .trucks)
 
 -- what a round is to a truck, where values holds the senders of each crusher, `heard` is the set of those it hears, and e its estimate
 unfoldable pub eventOf : Bool → Bool → Bool → ℕ → List ℕ → ℕ → Event

@@ -8,7 +8,7 @@ use lib.Dec.{eqb, ltb}
 use lib.ListN.{length, getD}
 use Rattle.basics.specs.Bits.{bit}
 use Rattle.basics.specs.Lists.{first, filled}
-use Rattle.air.specs.Round.{activeBit}
+use Rattle.radio.specs.Round.{activeBit}
 use Rattle.refusals.specs.declared.Outcome.the-variants.{Accepted}
 use Rattle.bitreader.specs.Bits.{bitAt, numAt}
 use Rattle.recording.specs.Packed.{trucksOf, openingAt, openingsOf, roundPlace, roundAt}
@@ -75,8 +75,8 @@ abbrev pub ReadsAs : List ℕ → ℕ → ℕ → List ℕ → Type 0
 ReadsAs s at n w = (i j : ℕ) → i < 3 + n → j < n → holds (wordFrom s (at + i * n)) j ≡ bit (getD w i 0) j
 
 -- the trucks after round k + 1, which has the words w
-abbrev pub next : ℕ → ℕ → List ℕ → List Truck → List Truck
-next n k w ts = after n (activeBit w) (suc k) w ts
+abbrev pub nextTrucks : ℕ → ℕ → List ℕ → List Truck → List Truck
+nextTrucks n k w ts = after n (activeBit w) (suc k) w ts
 
 -- those that run after the stops of the round at a place
 abbrev pub goingOn : List ℕ → ℕ → ℕ → ℕ

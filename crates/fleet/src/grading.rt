@@ -9,9 +9,9 @@ ghost use lib.Bits.{bitOr};
 ghost use lib.Count.{ones};
 ghost use lib.Dec.{eqb, leb};
 ghost use Rattle.basics.specs.Bits.{bit};
-ghost use Rattle.air.specs.Air.{Air};
+ghost use Rattle.radio.specs.Radio.{Radio};
 ghost use Rattle.sets.specs.Sets.{Members};
-ghost use Rattle.fleet.specs.Grading.{heardAt, missesSome, missesAll, missesHalf, carried, carriedBy, Aired};
+ghost use Rattle.fleet.specs.Grading.{heardAt, missesSome, missesAll, missesHalf, carried, carriedBy, RadioSets};
 
 // Who missed a message, who of them heard none, and who of them no majority.
 pub struct Missed {
@@ -35,7 +35,7 @@ fn with_truck(m: Missed, own: u32, heard: u32, senders: u32, sent: u32) -> Misse
     }
     Missed {
         some,
-        all: sets::joined(m.all, own, heard == 0),
+        all: sets::union_where(m.all, own, heard == 0),
         half: m.half | own,
     }
 }
@@ -94,7 +94,7 @@ pub(crate) fn judged(
     mark: u32,
 ) -> Grades
     requires { ⌜ (n ≤ 32) × (at < 2 ^ 32) ⌝ }
-    ensures { λ r. ⌜ ((a : Air) → Aired a (now (s .entry)) at n going senders mark → r ≡ cond judging (carriedBy grades a k) grades) ⌝ }
+    ensures { λ r. ⌜ ((a : Radio) → RadioSets a (now (s .entry)) at n going senders mark → r ≡ cond judging (carriedBy grades a k) grades) ⌝ }
 {
     if !judging {
         return grades;

@@ -14,12 +14,12 @@ mod replay;
 mod round;
 
 // Starting a fleet.
-pub use start::start;
+pub use fleetrecord::start;
 
 fn check_step(f: Fleet, words: &[u32]) -> Outcome
     ensures { λ r. ⌜ r ≡ stepCheck f (now (words .entry)) ⌝ }
 {
-    if !start::good_fleet(f) {
+    if !fleetrecord::good_fleet(f) {
         return Outcome::Refused(Refusal::Record);
     }
     if f.done == 400 {
@@ -59,7 +59,7 @@ pub fn run(s: &[u8]) -> Answer
                 fleet,
             }
         }
-        Outcome::Refused(refusal) => start::refused(refusal),
+        Outcome::Refused(refusal) => fleetrecord::refused(refusal),
     }
 }
 

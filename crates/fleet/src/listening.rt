@@ -23,7 +23,7 @@ pub(crate) fn deciding(s: &[u8], at: usize, n: usize, senders: u32, wanted: u32)
     while left != 0 {
         let p = sets::lowest(left);
         let t = bitreader::read_at(s, at + (31 - p) * n, 32);
-        out = sets::joined(
+        out = sets::union_where(
             out,
             sets::only_lowest(left),
             sets::without(senders, t.value) == 0,
@@ -66,8 +66,8 @@ pub(crate) fn hear(
         let c = first_heard(by, heard);
         if c < 16 {
             let lone = sets::without(heard, by[c]) == 0;
-            one = sets::joined(one, own, lone);
-            several = sets::joined(several, own, !lone);
+            one = sets::union_where(one, own, lone);
+            several = sets::union_where(several, own, !lone);
             taking[c] = taking[c] | own;
         }
         left = sets::rest(left);

@@ -304,7 +304,7 @@ fn fleet_of(s: &[u8], n: u8, rounds: u16, b: Sets, by: &[u32; 16], ends: &[u16; 
     requires { ⌜ Halted (now s) rounds (now by) (now ends) 0 b × (n ≡ trucksOf (now s)) ⌝ }
     ensures { λ r. ⌜ r ≡ fleetAfter (now (s .entry)) rounds ⌝ }
 {
-    let mut f = start::blank();
+    let mut f = fleetrecord::blank();
     f.n = n;
     f.done = rounds;
     let mut i: u8 = 0;

@@ -15,7 +15,7 @@ ghost use Rattle.protocol.specs.Rules.{runs, vetoes};
 ghost use Rattle.protocol.specs.Fleets.{stepCheck, nextFleet};
 ghost use Rattle.sets.specs.Sets.{Members};
 ghost use Rattle.fleet.specs.Sets.{Sorted};
-ghost use Rattle.fleet.specs.Rounds.{estimates, nextOnAir, eventOf, eventAt, noEvents};
+ghost use Rattle.fleet.specs.Rounds.{estimates, stepRadio, eventOf, eventAt, noEvents};
 
 // Whether a truck sends: in a proposal round where it is active, in a veto round where it has a veto.
 fn sends(t: Truck, proposals: bool, stop: bool, active: bool) -> bool
@@ -28,7 +28,7 @@ fn sends(t: Truck, proposals: bool, stop: bool, active: bool) -> bool
 // The senders of the next round.
 fn senders_of(f: Fleet, words: &[u32]) -> u32
     requires { ⌜ (f .n ≤ 32) × (length (now words) ≡ 3 + f .n) ⌝ }
-    ensures { λ r. ⌜ Members r (f .n) (nextOnAir f (now (words .entry)) .sends) ⌝ }
+    ensures { λ r. ⌜ Members r (f .n) (stepRadio f (now (words .entry)) .sends) ⌝ }
 {
     let n = f.n as usize;
     let proposals = f.done % 2 == 0;
@@ -39,7 +39,7 @@ fn senders_of(f: Fleet, words: &[u32]) -> u32
     while i < n {
         let t = f.trucks[i];
         let joins = sends(t, proposals, sets::holds(stop, i), sets::holds(active, i));
-        senders = sets::joined(senders, sets::only(i), joins);
+        senders = sets::union_where(senders, sets::only(i), joins);
         i += 1;
     }
     senders

@@ -5,14 +5,14 @@ use mathlib.Core.List.{List}
 use mathlib.Core.Logic.{_⊎_, inl, inr, ⊎-elim}
 use Prim.Native.Nat.{ℕ, _<_}
 use Rattle.basics.specs.Bits.{odd}
-use Rattle.air.specs.Air.{Air, sent, heard, hears, majorityComplete, zeroComplete}
-use Rattle.air.proofs.Laws.{hears-sends, sent-some, sent-none, common, majority-hears, zero-silent}
+use Rattle.radio.specs.Radio.{Radio, sent, heard, hears, majorityComplete, zeroComplete}
+use Rattle.radio.proofs.Laws.{hears-sends, sent-some, sent-none, common, majority-hears, zero-silent}
 use Rattle.protocol.specs.declared.Truck.{Truck}
-use Rattle.protocol.specs.Cycles.{airIn}
+use Rattle.protocol.specs.Cycles.{radioIn}
 use Rattle.protocol.specs.Rules.{recorded, twoRules, truck, isSeveral, isOne, runs, vetoes, different, leastOr, proposed, valuesHeard, plays}
 use Rattle.protocol.specs.Claims.{isDecided}
 use Rattle.protocol.proofs.Values.{one-value, not-nothing}
-use Rattle.protocol.proofs.AnyRound.{UndecidedIn, SettledIn, air, next, running-runs, heard-value, value-heard, next-played, undecided-next, first-decisions}
+use Rattle.protocol.proofs.AnyRound.{UndecidedIn, SettledIn, radio, next, running-runs, heard-value, value-heard, next-played, undecided-next, first-decisions}
 use Rattle.protocol.proofs.Rules.{no-veto-parts}
 use Rattle.protocol.proofs.OneRound.{sound-two, veto-sends, plays-proposal, plays-veto, proposal-runs, veto-decides}
 
@@ -23,7 +23,7 @@ pub record Open (n : ℕ) (ts : List Truck) : Type 0 where
       → vetoes (truck ts i) ≡ false → vetoes (truck ts j) ≡ false → isOne (truck ts i .heard) ≡ true → truck ts j .estimate ≡ truck ts i .estimate
 
 -- truck i, which runs and will not veto after a proposal round
-record Quiet (a : Air) (ts ts′ : List Truck) (i : ℕ) : Type 0 where
+record Quiet (a : Radio) (ts ts′ : List Truck) (i : ℕ) : Type 0 where
   pub running : a .running i ≡ true
   pub unmarked : a .marked i ≡ false
   pub few : isSeveral (different (valuesHeard a ts i)) ≡ false
@@ -31,8 +31,8 @@ record Quiet (a : Air) (ts ts′ : List Truck) (i : ℕ) : Type 0 where
   pub took : truck ts′ i .estimate ≡ leastOr (truck ts i .estimate) (valuesHeard a ts i)
 
 module _ (n : ℕ) (active : ℕ → Bool) (k : ℕ) (w : List ℕ) (ts : List Truck) where
-  abbrev a : Air
-  a = air twoRules n active k w ts
+  abbrev a : Radio
+  a = radio twoRules n active k w ts
 
   abbrev ts′ : List Truck
   ts′ = next twoRules n active k w ts
@@ -59,7 +59,7 @@ module _ (n : ℕ) (active : ℕ → Bool) (k : ℕ) (w : List ℕ) (ts : List T
   -- two trucks that will not veto after a majority complete proposal round, one of which heard one value, took the same value
   open-alike : odd k ≡ true → majorityComplete a ≡ true → (i j : ℕ) → i < n → j < n → runs (truck ts′ i) ≡ true → runs (truck ts′ j) ≡ true
       → vetoes (truck ts′ i) ≡ false → vetoes (truck ts′ j) ≡ false → isOne (truck ts′ i .heard) ≡ true → truck ts′ j .estimate ≡ truck ts′ i .estimate
-  unfolding airIn
+  unfolding radioIn
   open-alike e mc i j li lj ri rj vi vj oi =
       let qi = quiet-next i e li ri vi in
       let qj = quiet-next j e lj rj vj in
@@ -91,7 +91,7 @@ module _ (n : ℕ) (active : ℕ → Bool) (k : ℕ) (w : List ℕ) (ts : List T
   -- a truck that decides in a zero complete veto round shares its estimate with all that run
   deciding : odd k ≡ false → zeroComplete a ≡ true → Open n ts → (i : ℕ) → i < n → a .running i ≡ true → isDecided (plays a k w ts i .state) ≡ true
       → (j : ℕ) → j < n → a .running j ≡ true → truck ts j .estimate ≡ truck ts i .estimate
-  unfolding airIn
+  unfolding radioIn
   deciding e zc o i li r d j lj rj =
       let ri = running-runs twoRules n active k w ts i r in
       let v = veto-decides n active k w ts i e ri d in

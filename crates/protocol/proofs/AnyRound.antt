@@ -7,12 +7,12 @@ use Prim.Native.Nat.{ℕ, _<_}
 use lib.ListN.{length, length-map}
 use Rattle.basics.specs.Lists.{who, someBelow}
 use Rattle.basics.proofs.Laws.{getD-filled, and-left, and-both, someBelow-at, someBelow-none}
-use Rattle.air.specs.Round.{stopBit, activeBit}
-use Rattle.air.specs.Air.{Air, sent, heard, heardBy, hears, calmRound}
-use Rattle.air.proofs.Laws.{hears-sends, sent-by, nobody-sends, silent-heard, silent-none, accurate-clear, calm-hears, calm-few, few-some, calm-accurate}
+use Rattle.radio.specs.Round.{stopBit, activeBit}
+use Rattle.radio.specs.Radio.{Radio, sent, heard, heardBy, hears, calmRound}
+use Rattle.radio.proofs.Laws.{hears-sends, sent-by, nobody-sends, silent-heard, silent-none, accurate-clear, calm-hears, calm-few, few-some, calm-accurate}
 use Rattle.protocol.specs.declared.State.{State}
 use Rattle.protocol.specs.declared.State.the-variants.{Running, Stopped, Decided}
-use Rattle.protocol.specs.Cycles.{isRunning, Kind, Rules, turn, truckIn, runsIn, valuesIn, airIn, playsIn, afterIn}
+use Rattle.protocol.specs.Cycles.{isRunning, Kind, Rules, turn, truckIn, runsIn, valuesIn, radioIn, playsIn, afterIn}
 use Rattle.protocol.specs.Rules.{leastOr}
 use Rattle.protocol.specs.Claims.{isDecided}
 use Rattle.protocol.proofs.Values.{value-of, of-value, least-any}
@@ -54,8 +54,8 @@ pub record SettledIn {T : Type 0} (K : Kind T) (n : ℕ) (ts : List T) : Type 0 
   pub decided : (i : ℕ) → i < n → isDecided (K .state (truckIn K ts i)) ≡ true → K .estimate (truckIn K ts i) ≡ crusher
 
 module _ {T : Type 0} {K : Kind T} (c : Rules K) (n : ℕ) (active : ℕ → Bool) (k : ℕ) (w : List ℕ) (ts : List T) where
-  abbrev pub air : Air
-  air = airIn c n active k w ts
+  abbrev pub radio : Radio
+  radio = radioIn c n active k w ts
 
   abbrev pub next : List T
   next = afterIn c n active k w ts
@@ -67,52 +67,52 @@ module _ {T : Type 0} {K : Kind T} (c : Rules K) (n : ℕ) (active : ℕ → Boo
   pub after-cases : (P : T → Type 0) (i : ℕ) → i < n
       → (runsIn K (truckIn K ts i) ≡ false → P (truckIn K ts i))
       → (runsIn K (truckIn K ts i) ≡ true → stopBit w i ≡ true → P (c .stops k (truckIn K ts i)))
-      → (runsIn K (truckIn K ts i) ≡ true → air .running i ≡ true → P (playsIn c air k w ts i)) → P (truckIn K next i)
-  unfolding afterIn airIn
+      → (runsIn K (truckIn K ts i) ≡ true → radio .running i ≡ true → P (playsIn c radio k w ts i)) → P (truckIn K next i)
+  unfolding afterIn radioIn
   after-cases P i l idle stop play =
       subst P (sym (getD-filled rule n ts i (K .opened 0) l))
-      (turn-cases P (K .state (old i)) (stopBit w i) (c .stops k (old i)) (playsIn c air k w ts i) (old i) idle stop
+      (turn-cases P (K .state (old i)) (stopBit w i) (c .stops k (old i)) (playsIn c radio k w ts i) (old i) idle stop
       (λ r s. play r (and-both (runsIn K (old i)) (not (stopBit w i)) r (ap not s))))
     where
       rule : ℕ → T
-      rule i = turn (K .state (old i)) (stopBit w i) (c .stops k (old i)) (playsIn c air k w ts i) (old i)
+      rule i = turn (K .state (old i)) (stopBit w i) (c .stops k (old i)) (playsIn c radio k w ts i) (old i)
 
   -- a truck that sends is running
-  pub sender-runs : (i : ℕ) → air .sends i ≡ true → air .running i ≡ true
-  unfolding airIn
+  pub sender-runs : (i : ℕ) → radio .sends i ≡ true → radio .running i ≡ true
+  unfolding radioIn
   sender-runs i h = and-left (runsIn K (old i) && not (stopBit w i)) (c .sends k (active i) (old i)) h
 
-  pub running-runs : (i : ℕ) → air .running i ≡ true → runsIn K (truckIn K ts i) ≡ true
-  unfolding airIn
+  pub running-runs : (i : ℕ) → radio .running i ≡ true → runsIn K (truckIn K ts i) ≡ true
+  unfolding radioIn
   running-runs i h = and-left (runsIn K (old i)) (not (stopBit w i)) h
 
   -- a running truck sends if the cycle says so
-  pub sends-rules : (i : ℕ) → air .running i ≡ true → air .sends i ≡ c .sends k (active i) (truckIn K ts i)
-  unfolding airIn
+  pub sends-rules : (i : ℕ) → radio .running i ≡ true → radio .sends i ≡ c .sends k (active i) (truckIn K ts i)
+  unfolding radioIn
   sends-rules i h = rw h
 
   -- a value that truck i hears is the estimate of a sender that it hears
-  pub heard-value : (i u : ℕ) → List·Memᴰ u (valuesIn K air ts i)
-      → (j : ℕ) × (j < n) × (hears air i j ≡ true) × (u ≡ K .estimate (truckIn K ts j))
-  unfolding valuesIn heardBy airIn
-  heard-value i u h = of-value (λ j. K .estimate (truckIn K ts j)) (hears air i) n u h
+  pub heard-value : (i u : ℕ) → List·Memᴰ u (valuesIn K radio ts i)
+      → (j : ℕ) × (j < n) × (hears radio i j ≡ true) × (u ≡ K .estimate (truckIn K ts j))
+  unfolding valuesIn heardBy radioIn
+  heard-value i u h = of-value (λ j. K .estimate (truckIn K ts j)) (hears radio i) n u h
 
-  pub value-heard : (i j : ℕ) → j < n → hears air i j ≡ true → List·Memᴰ (K .estimate (truckIn K ts j)) (valuesIn K air ts i)
-  unfolding valuesIn heardBy airIn
-  value-heard i j l h = value-of (λ j. K .estimate (truckIn K ts j)) (hears air i) n j l h
+  pub value-heard : (i j : ℕ) → j < n → hears radio i j ≡ true → List·Memᴰ (K .estimate (truckIn K ts j)) (valuesIn K radio ts i)
+  unfolding valuesIn heardBy radioIn
+  value-heard i j l h = value-of (λ j. K .estimate (truckIn K ts j)) (hears radio i) n j l h
 
   -- the values sent
   abbrev pub sentValues : List ℕ
-  sentValues = map (λ j. K .estimate (truckIn K ts j)) (who (air .sends) n)
+  sentValues = map (λ j. K .estimate (truckIn K ts j)) (who (radio .sends) n)
 
   -- as many values as messages
-  pub values-heard : (i : ℕ) → length (valuesIn K air ts i) ≡ heard air i
+  pub values-heard : (i : ℕ) → length (valuesIn K radio ts i) ≡ heard radio i
   unfolding valuesIn heard
   values-heard i = simp length-map
 
   -- what a truck plays, with its mark as on the radio
-  pub plays-is : (i : ℕ) → playsIn c air k w ts i ≡ c .plays k (activeBit w i) (air .marked i) (valuesIn K air ts i) (truckIn K ts i)
-  unfolding playsIn airIn
+  pub plays-is : (i : ℕ) → playsIn c radio k w ts i ≡ c .plays k (activeBit w i) (radio .marked i) (valuesIn K radio ts i) (truckIn K ts i)
+  unfolding playsIn radioIn
   plays-is i = refl
 
   -- a truck that doesn't run stays as it is
@@ -122,45 +122,45 @@ module _ {T : Type 0} {K : Kind T} (c : Rules K) (n : ℕ) (active : ℕ → Boo
 
   -- what holds of a truck's estimate and of all that was sent holds of its estimate after the round
   pub estimate-next : Takes c → (P : ℕ → Type 0) (i : ℕ) → i < n → P (K .estimate (truckIn K ts i))
-      → ((j : ℕ) → j < n → air .sends j ≡ true → P (K .estimate (truckIn K ts j))) → P (K .estimate (truckIn K next i))
+      → ((j : ℕ) → j < n → radio .sends j ≡ true → P (K .estimate (truckIn K ts j))) → P (K .estimate (truckIn K next i))
   estimate-next takes P i l own sent =
       after-cases (λ (t : T). P (K .estimate t)) i l (λ h. own) (λ h s. rw (takes .stops k (old i)) own)
-      (λ h r. rw (plays-is i) (go (takes .plays k (activeBit w i) (air .marked i) (valuesIn K air ts i) (old i))))
+      (λ h r. rw (plays-is i) (go (takes .plays k (activeBit w i) (radio .marked i) (valuesIn K radio ts i) (old i))))
     where
       new : ℕ
-      new = K .estimate (c .plays k (activeBit w i) (air .marked i) (valuesIn K air ts i) (old i))
+      new = K .estimate (c .plays k (activeBit w i) (radio .marked i) (valuesIn K radio ts i) (old i))
 
-      go : (new ≡ K .estimate (old i)) ⊎ List·Memᴰ new (valuesIn K air ts i) → P new
+      go : (new ≡ K .estimate (old i)) ⊎ List·Memᴰ new (valuesIn K radio ts i) → P new
       go (inl e) = subst P (sym e) own
-      go (inr m) = let r = heard-value i new m in subst P (sym (r .3)) (sent (r .0) (r .1) (hears-sends air i (r .0) (r .2)))
+      go (inr m) = let r = heard-value i new m in subst P (sym (r .3)) (sent (r .0) (r .1) (hears-sends radio i (r .0) (r .2)))
 
   module _ (stamps : Stamps c) where
     -- a truck that runs after the round played it
-    pub next-played : (i : ℕ) → i < n → runsIn K (truckIn K next i) ≡ true → (air .running i ≡ true) × (truckIn K next i ≡ playsIn c air k w ts i)
+    pub next-played : (i : ℕ) → i < n → runsIn K (truckIn K next i) ≡ true → (radio .running i ≡ true) × (truckIn K next i ≡ playsIn c radio k w ts i)
     next-played i l =
-        after-cases (λ (t : T). runsIn K t ≡ true → (air .running i ≡ true) × (t ≡ playsIn c air k w ts i)) i l
+        after-cases (λ (t : T). runsIn K t ≡ true → (radio .running i ≡ true) × (t ≡ playsIn c radio k w ts i)) i l
         (λ h r. absurd (true≢false (sym r ∙ h)))
         (λ h s r. absurd (false≢true (sym (ap isRunning (stamps .stops k (old i))) ∙ r)))
         (λ h r x. (r, refl))
 
     -- a truck that is decided after the round was decided before it, or played it
     pub next-decided : (i : ℕ) → i < n → isDecided (K .state (truckIn K next i)) ≡ true
-        → ((isDecided (K .state (truckIn K ts i)) ≡ true) × (truckIn K next i ≡ truckIn K ts i)) ⊎ ((air .running i ≡ true) × (truckIn K next i ≡ playsIn c air k w ts i))
+        → ((isDecided (K .state (truckIn K ts i)) ≡ true) × (truckIn K next i ≡ truckIn K ts i)) ⊎ ((radio .running i ≡ true) × (truckIn K next i ≡ playsIn c radio k w ts i))
     next-decided i l =
         after-cases (λ (t : T). isDecided (K .state t) ≡ true
-        → ((isDecided (K .state (old i)) ≡ true) × (t ≡ old i)) ⊎ ((air .running i ≡ true) × (t ≡ playsIn c air k w ts i))) i l
+        → ((isDecided (K .state (old i)) ≡ true) × (t ≡ old i)) ⊎ ((radio .running i ≡ true) × (t ≡ playsIn c radio k w ts i))) i l
         (λ h d. inl (d, refl))
         (λ h s d. absurd (false≢true (sym (ap isDecided (stamps .stops k (old i))) ∙ d)))
         (λ h r d. inr (r, refl))
 
     -- after a round in which no truck that plays decides, nobody has decided
-    pub undecided-next : UndecidedIn K n ts → ((i : ℕ) → i < n → air .running i ≡ true → isDecided (K .state (playsIn c air k w ts i)) ≡ false)
+    pub undecided-next : UndecidedIn K n ts → ((i : ℕ) → i < n → radio .running i ≡ true → isDecided (K .state (playsIn c radio k w ts i)) ≡ false)
         → UndecidedIn K n next
     undecided-next u none i l =
         after-cases (λ (t : T). isDecided (K .state t) ≡ false) i l (λ h. u i l) (λ h s. ap isDecided (stamps .stops k (old i))) (λ h r. none i l r)
 
     -- after a round in which each truck that plays decides, none runs
-    pub ended-next : ((i : ℕ) → i < n → air .running i ≡ true → runsIn K (playsIn c air k w ts i) ≡ false) → EndedIn K n next
+    pub ended-next : ((i : ℕ) → i < n → radio .running i ≡ true → runsIn K (playsIn c radio k w ts i) ≡ false) → EndedIn K n next
     ended-next ends i l =
         after-cases (λ (t : T). runsIn K t ≡ false) i l (λ h. h) (λ h s. ap isRunning (stamps .stops k (old i))) (λ h r. ends i l r)
 
@@ -181,9 +181,9 @@ module _ {T : Type 0} {K : Kind T} (c : Rules K) (n : ℕ) (active : ℕ → Boo
 
     -- the first decisions: in a round that leaves the estimates, and in which a truck that decides shares its own with all that run
     pub first-decisions : UndecidedIn K n ts
-        → ((i : ℕ) → K .estimate (playsIn c air k w ts i) ≡ K .estimate (truckIn K ts i))
-        → ((i : ℕ) → i < n → air .running i ≡ true → isDecided (K .state (playsIn c air k w ts i)) ≡ true
-        → (j : ℕ) → j < n → air .running j ≡ true → K .estimate (truckIn K ts j) ≡ K .estimate (truckIn K ts i))
+        → ((i : ℕ) → K .estimate (playsIn c radio k w ts i) ≡ K .estimate (truckIn K ts i))
+        → ((i : ℕ) → i < n → radio .running i ≡ true → isDecided (K .state (playsIn c radio k w ts i)) ≡ true
+        → (j : ℕ) → j < n → radio .running j ≡ true → K .estimate (truckIn K ts j) ≡ K .estimate (truckIn K ts i))
         → UndecidedIn K n next ⊎ SettledIn K n next
     first-decisions u keeps shares = go (someBelow decided n) refl
       where
@@ -192,7 +192,7 @@ module _ {T : Type 0} {K : Kind T} (c : Rules K) (n : ℕ) (active : ℕ → Boo
 
         -- what is known of a truck that played
         Played : ℕ → Type 0
-        Played i = (air .running i ≡ true) × (truckIn K next i ≡ playsIn c air k w ts i)
+        Played i = (radio .running i ≡ true) × (truckIn K next i ≡ playsIn c radio k w ts i)
 
         now : (i : ℕ) → i < n → decided i ≡ true → Played i
         now i l d = ⊎-elim (λ x. absurd (true≢false (sym (x .0) ∙ u i l))) (λ x. x) (next-decided i l d)
@@ -209,34 +209,34 @@ module _ {T : Type 0} {K : Kind T} (c : Rules K) (n : ℕ) (active : ℕ → Boo
 
   module _ (b : ℕ) where
     -- in a calm round for proposals a running truck has no mark, and hears every value that was sent, at least one
-    pub calm-all : calmRound b true air ≡ true → (i : ℕ) → i < n → air .running i ≡ true
-        → (air .marked i ≡ false) × (valuesIn K air ts i ≡ sentValues) × ((u : ℕ) × List·Memᴰ u sentValues)
-    unfolding airIn valuesIn
+    pub calm-all : calmRound b true radio ≡ true → (i : ℕ) → i < n → radio .running i ≡ true
+        → (radio .marked i ≡ false) × (valuesIn K radio ts i ≡ sentValues) × ((u : ℕ) × List·Memᴰ u sentValues)
+    unfolding radioIn valuesIn
     calm-all calm i l r =
-        let f = calm-few b air i l r calm in
-        let h = calm-hears b true air i l r calm f in
-        let j = sent-by air (few-some b air f) in (
+        let f = calm-few b radio i l r calm in
+        let h = calm-hears b true radio i l r calm f in
+        let j = sent-by radio (few-some b radio f) in (
           h .0,
           ap (map (λ j. K .estimate (truckIn K ts j))) (h .1),
-          (K .estimate (old (j .0)), value-of (λ j. K .estimate (truckIn K ts j)) (air .sends) n (j .0) (j .1) (j .2)),
+          (K .estimate (old (j .0)), value-of (λ j. K .estimate (truckIn K ts j)) (radio .sends) n (j .0) (j .1) (j .2)),
         )
 
     -- and the least of them is the least value sent, whatever its estimate was
-    pub calm-least : calmRound b true air ≡ true → (i e : ℕ) → i < n → air .running i ≡ true
-        → (air .marked i ≡ false) × (leastOr e (valuesIn K air ts i) ≡ leastOr 0 sentValues)
+    pub calm-least : calmRound b true radio ≡ true → (i e : ℕ) → i < n → radio .running i ≡ true
+        → (radio .marked i ≡ false) × (leastOr e (valuesIn K radio ts i) ≡ leastOr 0 sentValues)
     calm-least calm i e l r =
         let h = calm-all calm i l r in
         (h .0, ap (leastOr e) (h .1) ∙ least-any e 0 sentValues (h .2 .0) (h .2 .1))
 
     -- in a calm round in which no running truck would send, a running truck has no mark and hears nothing
-    pub calm-silent : (proposes : Bool) → calmRound b proposes air ≡ true
+    pub calm-silent : (proposes : Bool) → calmRound b proposes radio ≡ true
         → ((j : ℕ) → j < n → runsIn K (truckIn K ts j) ≡ true → c .sends k (active j) (truckIn K ts j) ≡ false)
-        → (i : ℕ) → i < n → air .running i ≡ true → (air .marked i ≡ false) × (heard air i ≡ 0)
-    unfolding airIn
+        → (i : ℕ) → i < n → radio .running i ≡ true → (radio .marked i ≡ false) × (heard radio i ≡ 0)
+    unfolding radioIn
     calm-silent proposes calm none i l r =
-        let silent : sent air ≡ 0 = nobody-sends air (λ j lj. quiet j lj (air .sends j) refl) in
-        (accurate-clear air i l r (calm-accurate b proposes air calm) (silent-none air i silent), silent-heard air i silent)
+        let silent : sent radio ≡ 0 = nobody-sends radio (λ j lj. quiet j lj (radio .sends j) refl) in
+        (accurate-clear radio i l r (calm-accurate b proposes radio calm) (silent-none radio i silent), silent-heard radio i silent)
       where
-        quiet : (j : ℕ) → j < n → (x : Bool) → air .sends j ≡ x → x ≡ false
+        quiet : (j : ℕ) → j < n → (x : Bool) → radio .sends j ≡ x → x ≡ false
         quiet j lj false g = refl
         quiet j lj true g = let rj = sender-runs j g in sym g ∙ sends-rules j rj ∙ none j lj (running-runs j rj)

@@ -6,10 +6,10 @@ use mathlib.Core.Logic.{_⊎_, inl, inr, ⊎-elim}
 use Prim.Native.Nat.{ℕ, zero, suc, _+_, _-_, _≤_, _<_}
 use native.Mathlib.Omega.{arith}
 use lib.ListN.{getD}
-use Rattle.air.specs.Round.{activeBit}
-use Rattle.air.specs.Runs.{stateAt}
-use Rattle.protocol.specs.Cycles.{Kind, Rules, truckIn, runsIn, airIn, afterIn}
-use Rattle.protocol.specs.Runs.{trucksIn, airsIn}
+use Rattle.radio.specs.Round.{activeBit}
+use Rattle.radio.specs.Runs.{stateAt}
+use Rattle.protocol.specs.Cycles.{Kind, Rules, truckIn, runsIn, radioIn, afterIn}
+use Rattle.protocol.specs.Runs.{trucksIn, radiosIn}
 use Rattle.protocol.proofs.Opened.{place-opened}
 use Rattle.protocol.proofs.AnyRound.{Stamps, Takes, EndedIn, UndecidedIn, SettledIn, next-idle, estimate-next, settled-next}
 
@@ -29,10 +29,10 @@ module _ {T : Type 0} {K : Kind T} (c : Rules K) (n : ℕ) (openings : List ℕ)
   unfolding trucksIn stateAt
   at-suc k = refl
 
-  pub air-suc : (k : ℕ) → airsIn c n openings rounds (suc k) ≡ airIn c n (activeBit (rounds k)) (suc k) (rounds k) (trucksIn c n openings rounds k)
-  unfolding airsIn
-  air-suc k =
-      ap (λ (j : ℕ). airIn c n (activeBit (rounds j)) (suc k) (rounds j) (trucksIn c n openings rounds j)) (let e : suc k - 1 ≡ k = omega arith in e)
+  pub radio-suc : (k : ℕ) → radiosIn c n openings rounds (suc k) ≡ radioIn c n (activeBit (rounds k)) (suc k) (rounds k) (trucksIn c n openings rounds k)
+  unfolding radiosIn
+  radio-suc k =
+      ap (λ (j : ℕ). radioIn c n (activeBit (rounds j)) (suc k) (rounds j) (trucksIn c n openings rounds j)) (let e : suc k - 1 ≡ k = omega arith in e)
 
   pub opened-truck : (i : ℕ) → i < 32 → truckIn K (trucksIn c n openings rounds 0) i ≡ K .opened (getD openings i 0)
   unfolding trucksIn stateAt

@@ -6,7 +6,7 @@ use mathlib.Core.Logic.{_⊎_, ⊎-elim}
 use Prim.Native.Nat.{ℕ, _+_, _≤_}
 use native.Mathlib.Omega.{arith}
 use lib.ListN.{length}
-use Rattle.air.proofs.Laws.{CalmRounds, calm-parts}
+use Rattle.radio.proofs.Laws.{CalmRounds, calm-parts}
 use Rattle.refusals.specs.declared.Outcome.the-variants.{Accepted}
 use Rattle.recording.specs.Packed.{trucksOf, roundsOf, openingsOf, roundAt}
 use Rattle.recording.specs.Checks.{checkOf}
@@ -14,7 +14,7 @@ use Rattle.recording.proofs.Accepted.{GoodOpenings, openings-in, bytes-good}
 use Rattle.recording.proofs.RoundTrip.{openings-read}
 use Rattle.protocol.specs.declared.Fleet.{Fleet}
 use Rattle.protocol.specs.Rules.{recorded, truck}
-use Rattle.protocol.specs.Runs.{openedTrucks, trucksIn, airsIn}
+use Rattle.protocol.specs.Runs.{openedTrucks, trucksIn, radiosIn}
 use Rattle.protocol.specs.Fleets.{Protocol, blank, startCheck, started, fleetIn, ranIn}
 use Rattle.protocol.specs.Steps.{taken, roundIn}
 use Rattle.protocol.specs.Claims.{Agreed, WorthMarks, calmIn, ClaimIn, StepsClaimIn, RunClaimIn, DemandIn}
@@ -42,7 +42,7 @@ pub record Facts (p : Protocol) : Type 0 where
       → UndecidedIn recorded n (trucksIn (p .rules) n openings rounds R) ⊎ SettledIn recorded n (trucksIn (p .rules) n openings rounds R)
   -- after its calm rounds no truck runs
   pub ends : (n : ℕ) (openings : List ℕ) (rounds : ℕ → List ℕ) (S b : ℕ) → 1 ≤ S
-      → CalmRounds (p .calmSpan) (p .proposes) (airsIn (p .rules) n openings rounds) S b
+      → CalmRounds (p .calmSpan) (p .proposes) (radiosIn (p .rules) n openings rounds) S b
       → EndedIn recorded n (trucksIn (p .rules) n openings rounds (S + p .calmSpan))
 
 module _ (p : Protocol) (facts : Facts p) where
@@ -54,7 +54,7 @@ module _ (p : Protocol) (facts : Facts p) where
       record {
         agreement = λ marks. agreed-by p (facts .sound .takes) n openings rounds R small (facts .agrees n openings rounds R small good marks);
         deciding = λ S b h i l.
-            (let c = calm-parts (p .calmSpan) (p .proposes) (airsIn (p .rules) n openings rounds) R S b h in
+            (let c = calm-parts (p .calmSpan) (p .proposes) (radiosIn (p .rules) n openings rounds) R S b h in
             let e = facts .ends n openings rounds S b (c .0) (c .2) in
             rw (ended-kept (p .rules) n openings rounds (S + p .calmSpan) R (c .1) e i l)
             (state-ended p (S + p .calmSpan) (truck (trucksIn (p .rules) n openings rounds (S + p .calmSpan)) i .state) (e i l)

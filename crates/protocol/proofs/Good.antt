@@ -9,8 +9,8 @@ use borrow.Author.Tests.{lt-ltb, le-leb, leb-true}
 use lib.Dec.{ltb, leb}
 use lib.ListN.{getD}
 use Rattle.basics.proofs.Laws.{and-left, and-right, and-both}
-use Rattle.air.specs.Round.{activeBit}
-use Rattle.air.specs.Air.{Air}
+use Rattle.radio.specs.Round.{activeBit}
+use Rattle.radio.specs.Radio.{Radio}
 use Rattle.recording.proofs.Accepted.{GoodOpenings}
 use Rattle.protocol.specs.declared.State.{State}
 use Rattle.protocol.specs.declared.State.the-variants.{Running, Stopped, Decided}
@@ -20,7 +20,7 @@ use Rattle.protocol.specs.Rules.{opened, recorded, truck, runs}
 use Rattle.protocol.specs.Runs.{trucksIn}
 use Rattle.protocol.specs.Fleets.{Protocol, isDone, goodStateIn, goodTruckIn}
 use Rattle.protocol.specs.Claims.{EndedBy}
-use Rattle.protocol.proofs.AnyRound.{Stamps, Takes, air, next, after-cases, plays-is, estimate-next}
+use Rattle.protocol.proofs.AnyRound.{Stamps, Takes, radio, next, after-cases, plays-is, estimate-next}
 use Rattle.protocol.proofs.AnyRun.{opened-truck, throughout}
 
 -- what refusal 7 asks of one truck, part by part
@@ -96,8 +96,8 @@ pub record Sound (p : Protocol) : Type 0 where
 
 module _ (p : Protocol) (sound : Sound p) (n : ℕ) (active : ℕ → Bool) (done : ℕ) (w : List ℕ) (ts : List Truck)
     (before : (i : ℕ) → i < n → Good p done (truck ts i)) where
-  abbrev a : Air
-  a = air (p .rules) n active (suc done) w ts
+  abbrev a : Radio
+  a = radio (p .rules) n active (suc done) w ts
 
   abbrev ts′ : List Truck
   ts′ = next (p .rules) n active (suc done) w ts

@@ -9,13 +9,13 @@ use lib.Dec.{ltb}
 use lib.ListN.{length}
 use borrow.Author.Tests.{ltb-false}
 use Rattle.basics.specs.Bits.{odd}
-use Rattle.air.specs.Air.{Air, heard}
-use Rattle.air.specs.Round.{activeBit}
+use Rattle.radio.specs.Radio.{Radio, heard}
+use Rattle.radio.specs.Round.{activeBit}
 use Rattle.protocol.specs.declared.State.the-variants.{Running, Decided}
 use Rattle.protocol.specs.declared.Truck.{Truck}
 use Rattle.protocol.specs.Cycles.{isRunning}
 use Rattle.protocol.specs.Claims.{isDecided}
-use Rattle.protocol.specs.Rules.{twoRules, truck, isOne, runs, vetoes, different, leastOr, stops, proposed, decides, vetoed, airOf, valuesHeard, plays}
+use Rattle.protocol.specs.Rules.{twoRules, truck, isOne, runs, vetoes, different, leastOr, stops, proposed, decides, vetoed, radioOf, valuesHeard, plays}
 use Rattle.protocol.specs.Fleets.{twoMemory, twoRound}
 use Rattle.protocol.proofs.AnyRound.{sends-rules, values-heard, plays-is}
 use Rattle.protocol.proofs.Good.{Sound}
@@ -54,34 +54,34 @@ sound-two =
     }
 
 module _ (n : ℕ) (active : ℕ → Bool) (k : ℕ) (w : List ℕ) (ts : List Truck) where
-  abbrev a : Air
-  a = airOf n active k w ts
+  abbrev a : Radio
+  a = radioOf n active k w ts
 
   -- in a veto round a running truck that would veto sends
-  pub veto-sends : (i : ℕ) → odd k ≡ false → airOf n active k w ts .running i ≡ true → airOf n active k w ts .sends i ≡ vetoes (truck ts i)
+  pub veto-sends : (i : ℕ) → odd k ≡ false → radioOf n active k w ts .running i ≡ true → radioOf n active k w ts .sends i ≡ vetoes (truck ts i)
   veto-sends i e h = sends-rules twoRules n active k w ts i h ∙ sends-veto k (active i) (truck ts i) e
 
   -- what the two kinds of round make of a truck that plays
   pub plays-proposal : (i : ℕ) → odd k ≡ true
-      → plays (airOf n active k w ts) k w ts i
-      ≡ proposed (airOf n active k w ts .marked i) (different (valuesHeard (airOf n active k w ts) ts i))
-      (leastOr (truck ts i .estimate) (valuesHeard (airOf n active k w ts) ts i)) (truck ts i)
+      → plays (radioOf n active k w ts) k w ts i
+      ≡ proposed (radioOf n active k w ts .marked i) (different (valuesHeard (radioOf n active k w ts) ts i))
+      (leastOr (truck ts i .estimate) (valuesHeard (radioOf n active k w ts) ts i)) (truck ts i)
   plays-proposal i e = plays-is twoRules n active k w ts i ∙ plays-odd k (activeBit w i) (a .marked i) (valuesHeard a ts i) (truck ts i) e
 
   pub plays-veto : (i : ℕ) → odd k ≡ false
-      → plays (airOf n active k w ts) k w ts i ≡ vetoed k (airOf n active k w ts .marked i) (ltb 0 (heard (airOf n active k w ts) i)) (truck ts i)
+      → plays (radioOf n active k w ts) k w ts i ≡ vetoed k (radioOf n active k w ts .marked i) (ltb 0 (heard (radioOf n active k w ts) i)) (truck ts i)
   plays-veto i e =
       plays-is twoRules n active k w ts i
       ∙ plays-even k (activeBit w i) (a .marked i) (valuesHeard a ts i) (truck ts i) e
       ∙ ap (λ (m : ℕ). vetoed k (a .marked i) (ltb 0 m) (truck ts i)) (values-heard twoRules n active k w ts i)
 
   -- a proposal round leaves a truck that plays it running
-  pub proposal-runs : (i : ℕ) → odd k ≡ true → runs (truck ts i) ≡ true → isDecided (plays (airOf n active k w ts) k w ts i .state) ≡ false
+  pub proposal-runs : (i : ℕ) → odd k ≡ true → runs (truck ts i) ≡ true → isDecided (plays (radioOf n active k w ts) k w ts i .state) ≡ false
   proposal-runs i e h = rw (plays-proposal i e) (ap isDecided (running-state (truck ts i .state) h))
 
   -- who decides in a veto round heard no veto, had no mark and had heard one value
-  pub veto-decides : (i : ℕ) → odd k ≡ false → runs (truck ts i) ≡ true → isDecided (plays (airOf n active k w ts) k w ts i .state) ≡ true
-      → (heard (airOf n active k w ts) i ≡ 0) × (airOf n active k w ts .marked i ≡ false) × (isOne (truck ts i .heard) ≡ true)
+  pub veto-decides : (i : ℕ) → odd k ≡ false → runs (truck ts i) ≡ true → isDecided (plays (radioOf n active k w ts) k w ts i .state) ≡ true
+      → (heard (radioOf n active k w ts) i ≡ 0) × (radioOf n active k w ts .marked i ≡ false) × (isOne (truck ts i .heard) ≡ true)
   veto-decides i e h d =
       let veto = ltb 0 (heard a i) in
       let g = decided-if k (decides (a .marked i) veto (truck ts i)) (truck ts i .state) h (rw (plays-veto i e) at d) in
@@ -89,12 +89,12 @@ module _ (n : ℕ) (active : ℕ → Bool) (k : ℕ) (w : List ℕ) (ts : List T
       (omega (arith, ltb-false 0 (heard a i) (p .0)), p .1, p .2)
 
   -- a truck that heard one value decides where it hears no veto and has no mark
-  pub veto-ends : (i : ℕ) → odd k ≡ false → heard (airOf n active k w ts) i ≡ 0 → airOf n active k w ts .marked i ≡ false → isOne (truck ts i .heard) ≡ true
-      → runs (plays (airOf n active k w ts) k w ts i) ≡ false
+  pub veto-ends : (i : ℕ) → odd k ≡ false → heard (radioOf n active k w ts) i ≡ 0 → radioOf n active k w ts .marked i ≡ false → isOne (truck ts i .heard) ≡ true
+      → runs (plays (radioOf n active k w ts) k w ts i) ≡ false
   veto-ends i e h m o =
       let d = decides-by (a .marked i) (ltb 0 (heard a i)) (truck ts i) (ap (ltb 0) h) m o in
       rw (plays-veto i e) (ap (λ (b : Bool). isRunning (cond b (Decided k) (truck ts i .state))) d)
 
   -- a truck with a mark keeps its estimate
-  pub marked-keeps : (i : ℕ) → odd k ≡ true → airOf n active k w ts .marked i ≡ true → plays (airOf n active k w ts) k w ts i .estimate ≡ truck ts i .estimate
+  pub marked-keeps : (i : ℕ) → odd k ≡ true → radioOf n active k w ts .marked i ≡ true → plays (radioOf n active k w ts) k w ts i .estimate ≡ truck ts i .estimate
   marked-keeps i e h = rw (plays-proposal i e) (rw h)

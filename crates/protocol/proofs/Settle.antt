@@ -4,12 +4,12 @@ use mathlib.Core.Bool.{Bool, true, false}
 use mathlib.Core.List.{List, List·Memᴰ}
 use Prim.Native.Nat.{ℕ, _<_}
 use Rattle.basics.specs.Bits.{odd}
-use Rattle.air.specs.Air.{Air, heard, calmRound}
+use Rattle.radio.specs.Radio.{Radio, heard, calmRound}
 use Rattle.protocol.specs.declared.Heard.the-variants.{One}
 use Rattle.protocol.specs.declared.Truck.{Truck}
 use Rattle.protocol.specs.Rules.{recorded, twoRules, truck, isSeveral, isOne, runs, vetoes, different, leastOr, proposed}
 use Rattle.protocol.proofs.Values.{of-value, all-one}
-use Rattle.protocol.proofs.AnyRound.{EndedIn, air, next, sender-runs, running-runs, next-played, ended-next, sentValues, calm-all, calm-least, calm-silent}
+use Rattle.protocol.proofs.AnyRound.{EndedIn, radio, next, sender-runs, running-runs, next-played, ended-next, sentValues, calm-all, calm-least, calm-silent}
 use Rattle.protocol.proofs.Rules.{sends-veto, no-veto-by}
 use Rattle.protocol.proofs.OneRound.{sound-two, plays-proposal, plays-veto, veto-ends}
 
@@ -23,8 +23,8 @@ abbrev pub Ready : ℕ → List Truck → Type 0
 Ready n ts = (i : ℕ) → i < n → runs (truck ts i) ≡ true → (vetoes (truck ts i) ≡ false) × (isOne (truck ts i .heard) ≡ true)
 
 module _ (n : ℕ) (active : ℕ → Bool) (k : ℕ) (w : List ℕ) (ts : List Truck) where
-  abbrev a : Air
-  a = air twoRules n active k w ts
+  abbrev a : Radio
+  a = radio twoRules n active k w ts
 
   abbrev ts′ : List Truck
   ts′ = next twoRules n active k w ts

@@ -10,8 +10,8 @@ use lib.Dec.{ltb, eqb}
 use lib.ListN.{length, getD, length-append, List·getD-append}
 use lib.Seq.{getD-append-seam}
 use Rattle.basics.proofs.Laws.{and-left, and-right, allBelow-all}
-use Rattle.air.specs.Round.{activeBit}
-use Rattle.air.specs.Runs.{stateAt}
+use Rattle.radio.specs.Round.{activeBit}
+use Rattle.radio.specs.Runs.{stateAt}
 use Rattle.refusals.specs.declared.Refusal.the-variants.{TruckCount, Record, RoundsDone}
 use Rattle.refusals.specs.declared.Outcome.{Outcome}
 use Rattle.refusals.specs.declared.Outcome.the-variants.{Accepted, Refused}

@@ -7,15 +7,15 @@ use Prim.Native.Nat.{ℕ, zero, suc, _+_, _≤_, _<_}
 use native.Mathlib.Omega.{arith}
 use Rattle.basics.specs.Bits.{odd}
 use Rattle.basics.proofs.Laws.{odd-suc}
-use Rattle.air.specs.Round.{activeBit}
-use Rattle.air.specs.Air.{calmRound}
-use Rattle.air.proofs.Laws.{majority-zero, CalmRounds}
+use Rattle.radio.specs.Round.{activeBit}
+use Rattle.radio.specs.Radio.{calmRound}
+use Rattle.radio.proofs.Laws.{majority-zero, CalmRounds}
 use Rattle.protocol.specs.declared.Truck.{Truck}
 use Rattle.protocol.specs.Rules.{recorded, twoRules, isOne, after}
-use Rattle.protocol.specs.Runs.{trucksAt, airAt}
+use Rattle.protocol.specs.Runs.{trucksAt, radioAt}
 use Rattle.protocol.specs.Claims.{isDecided, MajorityMarks, MixedMarks}
 use Rattle.protocol.proofs.AnyRound.{EndedIn, UndecidedIn, SettledIn}
-use Rattle.protocol.proofs.AnyRun.{at-suc, air-suc, opened-truck, ended-on, agrees-by}
+use Rattle.protocol.proofs.AnyRun.{at-suc, radio-suc, opened-truck, ended-on, agrees-by}
 use Rattle.protocol.proofs.OneRound.{sound-two}
 use Rattle.protocol.proofs.Agree.{Open, open-proposal, open-veto}
 use Rattle.protocol.proofs.Settle.{SameEstimate, Ready, calm-same, calm-ready, veto-same, calm-ended}
@@ -39,28 +39,28 @@ module _ (n : ℕ) (openings : List ℕ) (rounds : ℕ → List ℕ) where
         go : (k : ℕ) → k < R → Open n (at k) → (b : Bool) → odd (suc k) ≡ b
             → Open n (after n (activeBit (rounds k)) (suc k) (rounds k) (at k)) ⊎ SettledIn recorded n (after n (activeBit (rounds k)) (suc k) (rounds k) (at k))
         go k l o true e =
-            inl (open-proposal n (activeBit (rounds k)) (suc k) (rounds k) (at k) e (rw (air-suc twoRules n openings rounds) at (marks (suc k) (omega arith) (omega arith) .0 e)) o)
+            inl (open-proposal n (activeBit (rounds k)) (suc k) (rounds k) (at k) e (rw (radio-suc twoRules n openings rounds) at (marks (suc k) (omega arith) (omega arith) .0 e)) o)
         go k l o false e =
-            open-veto n (activeBit (rounds k)) (suc k) (rounds k) (at k) e (rw (air-suc twoRules n openings rounds) at (marks (suc k) (omega arith) (omega arith) .1 e)) o
+            open-veto n (activeBit (rounds k)) (suc k) (rounds k) (at k) e (rw (radio-suc twoRules n openings rounds) at (marks (suc k) (omega arith) (omega arith) .1 e)) o
 
     -- and so with majority complete marks in every round
     pub majority-agrees : (R : ℕ) → MajorityMarks n openings rounds R
         → UndecidedIn recorded n (trucksAt n openings rounds R) ⊎ SettledIn recorded n (trucksAt n openings rounds R)
     majority-agrees R marks =
-        mixed-agrees R (λ k l m. ((λ e. marks k l m), (λ e. majority-zero (airAt n openings rounds k) (marks k l m))))
+        mixed-agrees R (λ k l m. ((λ e. marks k l m), (λ e. majority-zero (radioAt n openings rounds k) (marks k l m))))
 
   -- the round after k rounds is calm with b
   abbrev CalmAt : ℕ → ℕ → Type 0
-  CalmAt b k = calmRound b (odd (suc k)) (airAt n openings rounds (suc k)) ≡ true
+  CalmAt b k = calmRound b (odd (suc k)) (radioAt n openings rounds (suc k)) ≡ true
 
   round-same : (b k : ℕ) → odd (suc k) ≡ true → CalmAt b k → SameEstimate n (at (suc k))
   round-same b k e c =
-      rw (at-suc twoRules n openings rounds k) (calm-same n (activeBit (rounds k)) (suc k) (rounds k) (at k) b e (rw (e, air-suc twoRules n openings rounds) at c))
+      rw (at-suc twoRules n openings rounds k) (calm-same n (activeBit (rounds k)) (suc k) (rounds k) (at k) b e (rw (e, radio-suc twoRules n openings rounds) at c))
 
   round-ready : (b k : ℕ) → odd (suc k) ≡ true → CalmAt b k → SameEstimate n (at k) → Ready n (at (suc k))
   round-ready b k e c s =
       rw (at-suc twoRules n openings rounds k)
-      (calm-ready n (activeBit (rounds k)) (suc k) (rounds k) (at k) b e (rw (e, air-suc twoRules n openings rounds) at c) s)
+      (calm-ready n (activeBit (rounds k)) (suc k) (rounds k) (at k) b e (rw (e, radio-suc twoRules n openings rounds) at c) s)
 
   round-kept : (k : ℕ) → odd (suc k) ≡ false → SameEstimate n (at k) → SameEstimate n (at (suc k))
   round-kept k e s = rw (at-suc twoRules n openings rounds k) (veto-same n (activeBit (rounds k)) (suc k) (rounds k) (at k) e s)
@@ -68,7 +68,7 @@ module _ (n : ℕ) (openings : List ℕ) (rounds : ℕ → List ℕ) where
   round-ended : (b k : ℕ) → odd (suc k) ≡ false → CalmAt b k → Ready n (at k) → EndedIn recorded n (at (suc k))
   round-ended b k e c y =
       rw (at-suc twoRules n openings rounds k)
-      (calm-ended n (activeBit (rounds k)) (suc k) (rounds k) (at k) b e (rw (e, air-suc twoRules n openings rounds) at c) y)
+      (calm-ended n (activeBit (rounds k)) (suc k) (rounds k) (at k) b e (rw (e, radio-suc twoRules n openings rounds) at c) y)
 
   -- four calm rounds that begin with one for proposals: the first gives all the same estimate, the third one value, the fourth decides
   four : (b k : ℕ) → odd (suc k) ≡ true → CalmAt b k → CalmAt b (suc (suc k)) → CalmAt b (suc (suc (suc k)))
@@ -83,7 +83,7 @@ module _ (n : ℕ) (openings : List ℕ) (rounds : ℕ → List ℕ) where
       flip j h = odd-suc j ∙ ap not h
 
   -- five calm rounds have such four among them, and who runs no more after them runs no more
-  pub calm-ends : (S b : ℕ) → 1 ≤ S → CalmRounds 4 odd (airAt n openings rounds) S b → EndedIn recorded n (at (S + 4))
+  pub calm-ends : (S b : ℕ) → 1 ≤ S → CalmRounds 4 odd (radioAt n openings rounds) S b → EndedIn recorded n (at (S + 4))
   calm-ends zero b l calm = absurd (omega arith)
   calm-ends (suc s) b l calm = go (odd (suc s)) refl
     where

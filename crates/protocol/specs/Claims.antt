@@ -1,4 +1,4 @@
--- What demand 3 says (document 01, 'Whole lists of steps'), for any protocol. Who runs, sends, hears, misses, stops and decides is `trucksIn` and `airsIn`:
+-- What demand 3 says (document 01, 'Whole lists of steps'), for any protocol. Who runs, sends, hears, misses, stops and decides is `trucksIn` and `radiosIn`:
 -- it follows from n, the openings and the words of the rounds.
 use mathlib.Core.Path.{_≡_}
 use mathlib.Core.Bool.{Bool, true, false}
@@ -7,7 +7,7 @@ use Prim.Native.Nat.{ℕ, _+_, _≤_, _<_}
 use lib.Dec.{eqb}
 use lib.ListN.{length, getD}
 use Rattle.basics.specs.Bits.{odd}
-use Rattle.air.specs.Air.{majorityComplete, zeroComplete, calmFor}
+use Rattle.radio.specs.Radio.{majorityComplete, zeroComplete, calmFor}
 use Rattle.refusals.specs.declared.Outcome.the-variants.{Accepted}
 use Rattle.refusals.specs.declared.Refusal.the-variants.{RoundsDone}
 use Rattle.refusals.specs.Outcomes.{refuse}
@@ -17,7 +17,7 @@ use Rattle.protocol.specs.declared.State.{State}
 use Rattle.protocol.specs.declared.State.the-variants.{Running, Stopped, Decided}
 use Rattle.protocol.specs.declared.Fleet.{Fleet}
 use Rattle.protocol.specs.Rules.{truck}
-use Rattle.protocol.specs.Runs.{airsIn, airAt}
+use Rattle.protocol.specs.Runs.{radiosIn, radioAt}
 use Rattle.protocol.specs.Fleets.{Protocol, twoRound, started, steppedIn, ranIn}
 use Rattle.protocol.specs.Steps.{lastRecordIn, taken, roundIn, recordingOf}
 
@@ -42,11 +42,11 @@ pub record Agreed (n : ℕ) (openings : List ℕ) (f : Fleet) : Type 0 where
 module _ (p : Protocol) where
   -- marks are worth what agreement asks in each of R rounds
   abbrev pub WorthMarks : ℕ → List ℕ → (ℕ → List ℕ) → ℕ → Type 0
-  WorthMarks n openings rounds R = (k : ℕ) → 1 ≤ k → k ≤ R → p .worth k (airsIn (p .rules) n openings rounds k) ≡ true
+  WorthMarks n openings rounds R = (k : ℕ) → 1 ≤ k → k ≤ R → p .worth k (radiosIn (p .rules) n openings rounds k) ≡ true
 
   -- the R rounds are calm from S with b
   unfoldable pub calmIn : ℕ → List ℕ → (ℕ → List ℕ) → ℕ → ℕ → ℕ → Bool
-  calmIn n openings rounds R S b = calmFor (p .calmSpan) (p .proposes) (airsIn (p .rules) n openings rounds) R S b
+  calmIn n openings rounds R S b = calmFor (p .calmSpan) (p .proposes) (radiosIn (p .rules) n openings rounds) R S b
 
   -- what demand 3 says of the record f that R rounds leave
   pub record ClaimIn (n : ℕ) (openings : List ℕ) (rounds : ℕ → List ℕ) (R : ℕ) (f : Fleet) : Type 0 where
@@ -79,10 +79,10 @@ Demand = DemandIn twoRound
 
 -- marks are majority complete in each of R rounds
 abbrev pub MajorityMarks : ℕ → List ℕ → (ℕ → List ℕ) → ℕ → Type 0
-MajorityMarks n openings rounds R = (k : ℕ) → 1 ≤ k → k ≤ R → majorityComplete (airAt n openings rounds k) ≡ true
+MajorityMarks n openings rounds R = (k : ℕ) → 1 ≤ k → k ≤ R → majorityComplete (radioAt n openings rounds k) ≡ true
 
 -- marks are majority complete in odd rounds and zero complete in even ones
 abbrev pub MixedMarks : ℕ → List ℕ → (ℕ → List ℕ) → ℕ → Type 0
 MixedMarks n openings rounds R =
     (k : ℕ) → 1 ≤ k → k ≤ R
-    → (odd k ≡ true → majorityComplete (airAt n openings rounds k) ≡ true) × (odd k ≡ false → zeroComplete (airAt n openings rounds k) ≡ true)
+    → (odd k ≡ true → majorityComplete (radioAt n openings rounds k) ≡ true) × (odd k ≡ false → zeroComplete (radioAt n openings rounds k) ≡ true)

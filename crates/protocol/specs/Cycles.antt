@@ -4,8 +4,8 @@ use mathlib.Core.Bool.{Bool, true, false, not, _&&_}
 use mathlib.Core.List.{List, map}
 use lib.ListN.{getD}
 use Rattle.basics.specs.Lists.{filled}
-use Rattle.air.specs.Round.{stopBit, activeBit, markBit, lossBit}
-use Rattle.air.specs.Air.{Air, heardBy}
+use Rattle.radio.specs.Round.{stopBit, activeBit, markBit, lossBit}
+use Rattle.radio.specs.Radio.{Radio, heardBy}
 use Rattle.protocol.specs.declared.State.{State}
 use Rattle.protocol.specs.declared.State.the-variants.{Running, Stopped, Decided}
 
@@ -47,13 +47,13 @@ module _ {T : Type 0} (K : Kind T) where
   runsIn t = isRunning (K .state t)
 
   -- the estimates of the senders that truck i hears
-  unfoldable pub valuesIn : Air → List T → ℕ → List ℕ
+  unfoldable pub valuesIn : Radio → List T → ℕ → List ℕ
   valuesIn a ts i = map (λ j. K .estimate (truckIn ts j)) (heardBy a i)
 
 module _ {T : Type 0} {K : Kind T} (c : Rules K) where
   -- round k, with the words w, of n trucks on the radio; `active` says who is active
-  unfoldable pub airIn : ℕ → (ℕ → Bool) → ℕ → List ℕ → List T → Air
-  airIn n active k w ts =
+  unfoldable pub radioIn : ℕ → (ℕ → Bool) → ℕ → List ℕ → List T → Radio
+  radioIn n active k w ts =
       record {
         trucks = n;
         running = λ i. runsIn K (truckIn K ts i) && not (stopBit w i);
@@ -63,11 +63,11 @@ module _ {T : Type 0} {K : Kind T} (c : Rules K) where
       }
 
   -- what round k makes of truck i, if it runs and doesn't stop
-  unfoldable pub playsIn : Air → ℕ → List ℕ → List T → ℕ → T
+  unfoldable pub playsIn : Radio → ℕ → List ℕ → List T → ℕ → T
   playsIn a k w ts i = c .plays k (activeBit w i) (markBit w i) (valuesIn K a ts i) (truckIn K ts i)
 
   -- the trucks after round k with the words w; places n and above stay as they are
   unfoldable pub afterIn : ℕ → (ℕ → Bool) → ℕ → List ℕ → List T → List T
   afterIn n active k w ts =
       filled (λ i. turn (K .state (truckIn K ts i)) (stopBit w i)
-      (c .stops k (truckIn K ts i)) (playsIn (airIn n active k w ts) k w ts i) (truckIn K ts i)) n ts
+      (c .stops k (truckIn K ts i)) (playsIn (radioIn n active k w ts) k w ts i) (truckIn K ts i)) n ts

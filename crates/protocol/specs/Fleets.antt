@@ -6,8 +6,8 @@ use mathlib.Core.List.{List, []}
 use lib.Dec.{eqb, leb, ltb}
 use Rattle.basics.specs.Lists.{allBelow}
 use Rattle.basics.specs.Bits.{odd}
-use Rattle.air.specs.Round.{activeBit}
-use Rattle.air.specs.Air.{Air, implies, majorityComplete}
+use Rattle.radio.specs.Round.{activeBit}
+use Rattle.radio.specs.Radio.{Radio, implies, majorityComplete}
 use Rattle.refusals.specs.declared.Refusal.the-variants.{TruckCount, Record, RoundsDone}
 use Rattle.refusals.specs.declared.Outcome.{Outcome}
 use Rattle.refusals.specs.declared.Outcome.the-variants.{Accepted, Refused}
@@ -27,7 +27,7 @@ use Rattle.protocol.specs.declared.Grading.the-variants.{Graded}
 use Rattle.protocol.specs.declared.Grading.the-variants as grading
 use Rattle.protocol.specs.Cycles.{Rules, afterIn}
 use Rattle.protocol.specs.Rules.{recorded, twoRules, truck, runs}
-use Rattle.protocol.specs.Runs.{openedTrucks, trucksIn, airsIn, gradesFor}
+use Rattle.protocol.specs.Runs.{openedTrucks, trucksIn, radiosIn, gradesFor}
 
 -- the record that a refused start or run holds: n 0, no rounds done, and in every place a running truck of opening and estimate 0 with empty memory
 unfoldable pub blank : Fleet
@@ -54,7 +54,7 @@ pub record Protocol : Type 0 where
   -- what refusal 7 asks of a truck's memory with some rounds done
   pub goodMemory : ℕ → Truck → Bool
   -- what the marks of round k must be worth for agreement
-  pub worth : ℕ → Air → Bool
+  pub worth : ℕ → Radio → Bool
   -- calm from S lasts from round S to round S + `calmSpan`
   pub calmSpan : ℕ
   -- the rounds for proposals, in which calm asks for senders
@@ -130,7 +130,7 @@ module _ (p : Protocol) where
 
   -- grading a recording
   unfoldable pub gradedIn : List ℕ → Grading
-  gradedIn s = gradingFor (checkOf s) (gradesFor (airsIn (p .rules) (trucksOf s) (openingsOf s) (roundAt s)) (roundsOf s))
+  gradedIn s = gradingFor (checkOf s) (gradesFor (radiosIn (p .rules) (trucksOf s) (openingsOf s) (roundAt s)) (roundsOf s))
 
 -- the same by document 01's protocol
 abbrev pub goodState : ℕ → State → Bool

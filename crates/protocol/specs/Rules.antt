@@ -6,12 +6,12 @@ use mathlib.Core.List.{List, [], _∷_}
 use lib.Dec.{eqb, ltb}
 use lib.ListN.{length}
 use Rattle.basics.specs.Bits.{odd}
-use Rattle.air.specs.Air.{Air}
+use Rattle.radio.specs.Radio.{Radio}
 use Rattle.protocol.specs.declared.Heard.{Heard}
 use Rattle.protocol.specs.declared.Heard.the-variants.{Nothing, One, Several}
 use Rattle.protocol.specs.declared.State.the-variants.{Running, Stopped, Decided}
 use Rattle.protocol.specs.declared.Truck.{Truck}
-use Rattle.protocol.specs.Cycles.{Kind, Rules, truckIn, runsIn, valuesIn, airIn, playsIn, afterIn}
+use Rattle.protocol.specs.Cycles.{Kind, Rules, truckIn, runsIn, valuesIn, radioIn, playsIn, afterIn}
 
 -- a truck of a fleet record before round 1, in any cycle: running, its estimate is its opening, its memory reads no mark and no value
 abbrev pub opened : ℕ → Truck
@@ -92,13 +92,13 @@ twoRules =
     }
 
 -- one round of it: on the radio, the values that a truck hears, what it makes of a truck that plays, and of all trucks
-abbrev pub airOf : ℕ → (ℕ → Bool) → ℕ → List ℕ → List Truck → Air
-airOf = airIn twoRules
+abbrev pub radioOf : ℕ → (ℕ → Bool) → ℕ → List ℕ → List Truck → Radio
+radioOf = radioIn twoRules
 
-abbrev pub valuesHeard : Air → List Truck → ℕ → List ℕ
+abbrev pub valuesHeard : Radio → List Truck → ℕ → List ℕ
 valuesHeard = valuesIn recorded
 
-abbrev pub plays : Air → ℕ → List ℕ → List Truck → ℕ → Truck
+abbrev pub plays : Radio → ℕ → List ℕ → List Truck → ℕ → Truck
 plays = playsIn twoRules
 
 abbrev pub after : ℕ → (ℕ → Bool) → ℕ → List ℕ → List Truck → List Truck

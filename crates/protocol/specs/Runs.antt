@@ -5,12 +5,12 @@ use mathlib.Core.List.{List}
 use lib.ListN.{getD}
 use Rattle.basics.specs.Lists.{tab}
 use Rattle.basics.specs.Bits.{odd}
-use Rattle.air.specs.Round.{activeBit}
-use Rattle.air.specs.Air.{Air, complete, majorityComplete, zeroComplete, accurate, calmFor, firstBreak}
-use Rattle.air.specs.Runs.{stateAt}
+use Rattle.radio.specs.Round.{activeBit}
+use Rattle.radio.specs.Radio.{Radio, complete, majorityComplete, zeroComplete, accurate, calmFor, firstBreak}
+use Rattle.radio.specs.Runs.{stateAt}
 use Rattle.protocol.specs.declared.Truck.{Truck}
 use Rattle.protocol.specs.declared.Grades.{Grades}
-use Rattle.protocol.specs.Cycles.{Kind, Rules, airIn, afterIn}
+use Rattle.protocol.specs.Cycles.{Kind, Rules, radioIn, afterIn}
 use Rattle.protocol.specs.Rules.{recorded, twoRules}
 
 -- the 32 places of a fleet that opens with these crushers; a place past the openings holds a truck of opening 0
@@ -23,19 +23,19 @@ module _ {T : Type 0} {K : Kind T} (c : Rules K) (n : ℕ) (openings : List ℕ)
   trucksIn k = stateAt (λ k w. afterIn c n (activeBit w) k w) (openedIn K openings) rounds k
 
   -- round k on the radio, counted from 1
-  unfoldable pub airsIn : ℕ → Air
-  airsIn k =
+  unfoldable pub radiosIn : ℕ → Radio
+  radiosIn k =
       let w = rounds (k - 1) in
-      airIn c n (activeBit w) k w (trucksIn (k - 1))
+      radioIn c n (activeBit w) k w (trucksIn (k - 1))
 
 -- a grading: for each of the four classes the first of R rounds that breaks it, or 0
-unfoldable pub gradesFor : (ℕ → Air) → ℕ → Grades
-gradesFor airs R =
+unfoldable pub gradesFor : (ℕ → Radio) → ℕ → Grades
+gradesFor radios R =
     record {
-      complete = firstBreak complete airs R;
-      majority = firstBreak majorityComplete airs R;
-      zero = firstBreak zeroComplete airs R;
-      accurate = firstBreak accurate airs R;
+      complete = firstBreak complete radios R;
+      majority = firstBreak majorityComplete radios R;
+      zero = firstBreak zeroComplete radios R;
+      accurate = firstBreak accurate radios R;
     }
 
 -- the 32 places of a fleet record before round 1; a place past the openings holds a running truck of opening and estimate 0 with empty memory
@@ -46,12 +46,12 @@ openedTrucks = openedIn recorded
 abbrev pub trucksAt : ℕ → List ℕ → (ℕ → List ℕ) → ℕ → List Truck
 trucksAt = trucksIn twoRules
 
-abbrev pub airAt : ℕ → List ℕ → (ℕ → List ℕ) → ℕ → Air
-airAt = airsIn twoRules
+abbrev pub radioAt : ℕ → List ℕ → (ℕ → List ℕ) → ℕ → Radio
+radioAt = radiosIn twoRules
 
 abbrev pub gradesOf : ℕ → List ℕ → (ℕ → List ℕ) → ℕ → Grades
-gradesOf n openings rounds = gradesFor (airAt n openings rounds)
+gradesOf n openings rounds = gradesFor (radioAt n openings rounds)
 
 -- the R rounds are calm from S with b: rounds S to S + 4
 unfoldable pub calm : ℕ → List ℕ → (ℕ → List ℕ) → ℕ → ℕ → ℕ → Bool
-calm n openings rounds R S b = calmFor 4 odd (airAt n openings rounds) R S b
+calm n openings rounds R S b = calmFor 4 odd (radioAt n openings rounds) R S b

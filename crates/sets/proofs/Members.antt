@@ -28,22 +28,22 @@ set-below set n below j h = go (decLt j n)
     go (no l) = absurd (true≢false (sym h ∙ bit-high set n j below (omega arith)))
 
 -- the lowest truck p is taken out of a set
-pub record Taken (left p left′ : ℕ) : Type 0 where
+pub record TakenOut (left p left′ : ℕ) : Type 0 where
   pub below : p < 32
   pub held : bit left p ≡ true
   pub rest : left′ ≡ bitXor left (2 ^ p)
   pub less : left′ < left
 
-pub taken : {left p left′ : ℕ} → (left ≡ 0 → ⊥) → (p ≡ trailingZeros 32 left) × ((left ≡ 0 → ⊥) → (p < 32) × (bit left p ≡ true)) → left′ ≡ restOf left → Taken left p left′
+pub taken-out : {left p left′ : ℕ} → (left ≡ 0 → ⊥) → (p ≡ trailingZeros 32 left) × ((left ≡ 0 → ⊥) → (p < 32) × (bit left p ≡ true)) → left′ ≡ restOf left → TakenOut left p left′
 unfolding restOf
-taken {left} {p} {left′} some (lowest, is) e =
+taken-out {left} {p} {left′} some (lowest, is) e =
     let r : left′ ≡ bitXor left (2 ^ p) = e ∙ ap₂ (λ (b : Bool) (i : ℕ). cond b 0 (bitXor left (2 ^ i))) (ne-eqb left 0 some) (sym lowest) in
     record { below = is some .0; held = is some .1; rest = r; less = rw r (removed-lt left p (is some .1)) }
 
 -- its set
-pub own-taken : {left p own : ℕ} → (left ≡ 0 → ⊥) → p ≡ trailingZeros 32 left → own ≡ lowestOnly left → own ≡ 2 ^ p
+pub own-out : {left p own : ℕ} → (left ≡ 0 → ⊥) → p ≡ trailingZeros 32 left → own ≡ lowestOnly left → own ≡ 2 ^ p
 unfolding lowestOnly
-own-taken {left} {p} some lowest e = e ∙ ap₂ (λ (b : Bool) (i : ℕ). cond b 0 (2 ^ i)) (ne-eqb left 0 some) (sym lowest)
+own-out {left} {p} some lowest e = e ∙ ap₂ (λ (b : Bool) (i : ℕ). cond b 0 (2 ^ i)) (ne-eqb left 0 some) (sym lowest)
 
 -- the set of one truck
 pub only-is : (i : ℕ) → i < 32 → 2 ^ i % 2 ^ 32 ≡ 2 ^ i

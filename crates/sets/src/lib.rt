@@ -52,7 +52,7 @@ pub fn holds(set: u32, i: usize) -> bool
 }
 
 // A set with those of another, where they join.
-pub fn joined(set: u32, other: u32, joins: bool) -> u32
+pub fn union_where(set: u32, other: u32, joins: bool) -> u32
     ensures { λ r. ⌜ r ≡ cond joins (bitOr set other) set ⌝ }
 {
     if joins { set | other } else { set }

@@ -11,9 +11,9 @@ use Rattle.basics.proofs.Laws.{and-left}
 use Rattle.sets.specs.Sets.{Members}
 use Rattle.fleet.specs.Sets.{heardSet}
 use Rattle.fleet.specs.Grading.{heardAt, missesSome, missesAll, missesHalf}
-use Rattle.sets.proofs.Members.{taken, own-taken, within-removed, seen, seen-none, seen-all, seen-joined}
+use Rattle.sets.proofs.Members.{taken-out, own-out, within-removed, seen, seen-none, seen-all, seen-joined}
 use Rattle.fleet.proofs.Reading.{product}
-use Rattle.fleet.proofs.Airs.{heard-by-own}
+use Rattle.fleet.proofs.Radios.{heard-by-own}
 use Rattle.fleet.proofs.grading.missing.Statement.{statement}
 use Rattle.fleet.proofs.grading.missing.Tie as tie
 
@@ -60,7 +60,7 @@ sub-read-at : tie.Need-sub-read-at Inv-loop μ-loop
 sub-read-at c = omega (arith, c .before .lowest .ensures .1 (c .before .before .loop-test .taken) .0)
 
 loop-less : tie.Need-loop-less Inv-loop μ-loop
-loop-less c = let i = c .before .before .before .before .before in taken (i .before .loop-test .taken) (i .lowest .ensures) (c .rest .ensures) .less
+loop-less c = let i = c .before .before .before .before .before in taken-out (i .before .loop-test .taken) (i .lowest .ensures) (c .rest .ensures) .less
 
 loop-again : tie.Need-loop-again Inv-loop μ-loop
 loop-again c =
@@ -73,8 +73,8 @@ loop-again c =
     let w = c .before .with-truck in
     let p = i .result in
     let some = c .before .before .before .before .before .before .loop-test .taken in
-    let t = taken some (i .ensures) (c .rest .ensures) in
-    let own : o .result ≡ 2 ^ p = own-taken some (i .ensures .0) (o .ensures) in
+    let t = taken-out some (i .ensures) (c .rest .ensures) in
+    let own : o .result ≡ 2 ^ p = own-out some (i .ensures .0) (o .ensures) in
     let is : h .result ≡ heardAt (a .s .now) (a .at) (a .n) (a .senders) p =
     heard-by-own (a .senders) (r .result .value) p (o .result) (h .result) (h .ensures) own ∙ ap (λ (x : ℕ). heardSet (a .senders) x p) (r .ensures .0) in
     let joins : (f : ℕ → Bool) (set set′ : ℕ) → set′ ≡ cond (f (h .result)) (bitOr set (o .result)) set

@@ -25,7 +25,7 @@ returns-3 : tie.Need-returns-3
 returns-3 c =
     let a = c .before .before .before .before .before .args in
     rw (ne-eqb (a .heard) (a .senders) (c .before .before .before .before .if1 .left), le-leb (2 * ones (a .heard)) (a .sent) (c .before .before .if2 .left))
-    (refl, (c .before .joined .ensures, refl))
+    (refl, (c .before .union-where .ensures, refl))
 
 pub with-truck-spec : {M : Type 1} → statement M
 with-truck-spec = tie.close (tie.spec returns mul-if2 returns-2 (λ c κs. search needs) returns-3)

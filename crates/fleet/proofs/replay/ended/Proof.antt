@@ -1,7 +1,7 @@
 -- `ended` meets its contract.
 use native.Mathlib.Omega.{arith}
 use borrow.Author.Needs.{needs}
-use Rattle.sets.proofs.Members.{taken}
+use Rattle.sets.proofs.Members.{taken-out}
 use Rattle.fleet.proofs.Places.{Noting, noting-starts, noting-more, noting-done}
 use Rattle.fleet.proofs.replay.ended.Statement.{statement}
 use Rattle.fleet.proofs.replay.ended.Tie as tie
@@ -19,14 +19,14 @@ sub-ends : tie.Need-sub-ends Inv-loop μ-loop
 sub-ends c = omega (arith, c .lowest .ensures .1 (c .before .loop-test .taken) .0)
 
 loop-less : tie.Need-loop-less Inv-loop μ-loop
-loop-less c = taken (c .before .before .loop-test .taken) (c .before .lowest .ensures) (c .rest .ensures) .less
+loop-less c = taken-out (c .before .before .loop-test .taken) (c .before .lowest .ensures) (c .rest .ensures) .less
 
 loop-again : tie.Need-loop-again Inv-loop μ-loop
 loop-again c =
     let z = c .before .before .before .before in
     let l = c .before .before .before .loop in
     let i = c .before .lowest in
-    let t = taken (c .before .before .loop-test .taken) (i .ensures) (c .rest .ensures) in
+    let t = taken-out (c .before .before .loop-test .taken) (i .ensures) (c .rest .ensures) in
     noting-more (z .args .ends .now) (z .args .who) (z .args .k) (z .pre) (l .inv) (i .result) (t .below) (t .held) (c .rest .result) (t .rest)
 
 returns : tie.Need-returns Inv-loop μ-loop

@@ -6,7 +6,7 @@ use native.Mathlib.Omega.{arith}
 use borrow.Author.Needs.{needs}
 use Rattle.recording.specs.Packed.{openingAt}
 use Rattle.fleet.proofs.Places.{opening-lt}
-use Rattle.sets.proofs.Members.{taken, only-is}
+use Rattle.sets.proofs.Members.{taken-out, only-is}
 use Rattle.fleet.proofs.Sorting.{Sorting, sorting-starts, sorting-more, sorting-done}
 use Rattle.fleet.proofs.replay.openers.Statement.{statement}
 use Rattle.fleet.proofs.replay.openers.Tie as tie
@@ -33,14 +33,14 @@ sub-opening : tie.Need-sub-opening Inv-loop μ-loop
 sub-opening c = omega (arith, c .lowest .ensures .1 (c .before .loop-test .taken) .0)
 
 loop-less : tie.Need-loop-less Inv-loop μ-loop
-loop-less c = taken (c .before .before .before .before .loop-test .taken) (c .before .before .before .lowest .ensures) (c .rest .ensures) .less
+loop-less c = taken-out (c .before .before .before .before .loop-test .taken) (c .before .before .before .lowest .ensures) (c .rest .ensures) .less
 
 loop-again : tie.Need-loop-again Inv-loop μ-loop
 loop-again c =
     let a = c .before .before .before .before .before .before .before .args in
     let l = c .before .before .before .before .before .loop in
     let i = c .before .before .before .lowest in
-    let t = taken (c .before .before .before .before .loop-test .taken) (i .ensures) (c .rest .ensures) in
+    let t = taken-out (c .before .before .before .before .loop-test .taken) (i .ensures) (c .rest .ensures) in
     rw (c .before .only .ensures ∙ only-is (i .result) (t .below), c .before .before .opening .ensures)
     (sorting-more 32 (a .all) (opens (a .s .now)) (l .inv) (i .result) (t .below) (t .held) (opening-lt (a .s .now) (31 - i .result)) (c .rest .result) (t .rest))
 

@@ -4,7 +4,7 @@ use Prim.Native.Nat.{_<_}
 use native.Mathlib.Omega.{arith}
 use borrow.Author.Needs.{needs}
 use Rattle.fleet.specs.Rounds.{estimates}
-use Rattle.sets.proofs.Members.{taken, only-is}
+use Rattle.sets.proofs.Members.{taken-out, only-is}
 use Rattle.fleet.proofs.Sorting.{Sorting, sorting-starts, sorting-below, sorting-more, sorting-done}
 use Rattle.fleet.proofs.round.by_crusher.Statement.{statement}
 use Rattle.fleet.proofs.round.by_crusher.Tie as tie
@@ -40,7 +40,7 @@ array-write-values : tie.Need-array-write-values Inv-loop μ-loop
 array-write-values c = small (c .before .before .before)
 
 loop-less : tie.Need-loop-less Inv-loop μ-loop
-loop-less c = let l = c .before .before .before .before in taken (l .before .loop-test .taken) (l .lowest .ensures) (c .rest .ensures) .less
+loop-less c = let l = c .before .before .before .before in taken-out (l .before .loop-test .taken) (l .lowest .ensures) (c .rest .ensures) .less
 
 loop-again : tie.Need-loop-again Inv-loop μ-loop
 loop-again c =
@@ -48,7 +48,7 @@ loop-again c =
     let s = l .before .before .before in
     let i = l .lowest in
     let o = l .before .before .loop in
-    let t = taken (l .before .loop-test .taken) (i .ensures) (c .rest .ensures) in
+    let t = taken-out (l .before .loop-test .taken) (i .ensures) (c .rest .ensures) in
     rw (c .before .only .ensures ∙ only-is (i .result) (t .below))
     (sorting-more (s .args .t1 .n) (s .args .senders) (estimates (s .args .t1 .trucks)) (o .inv) (i .result) (below l) (t .held) (small l) (c .rest .result) (t .rest))
 

@@ -9,7 +9,7 @@ use Rattle.basics.proofs.Laws.{filled-none, fill-step}
 use Rattle.fleet.specs.Rounds.{eventAt, noEvents}
 use Rattle.sets.proofs.Members.{only-is}
 use Rattle.fleet.proofs.Laws.{next-kind}
-use Rattle.fleet.proofs.Airs.{heard-by-own}
+use Rattle.fleet.proofs.Radios.{heard-by-own}
 use Rattle.fleet.proofs.round.events_of.Statement.{statement}
 use Rattle.fleet.proofs.round.events_of.Tie as tie
 

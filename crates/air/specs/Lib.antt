@@ -1,3 +1,0 @@
-pub mod Round
-pub mod Air
-pub mod Runs

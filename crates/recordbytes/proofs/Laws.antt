@@ -1,0 +1,224 @@
+-- Laws of a record as bytes: one for each place of the code that they serve.
+use mathlib.Core.Path.{_≡_, refl, ap, ap₂, sym, _∙_}
+use mathlib.Core.Bool.{Bool, true, false, cond, _&&_, _||_}
+use mathlib.Core.List.{List, [], _∷_}
+use Prim.Native.Nat.{ℕ, zero, suc, _+_, _*_, _-_, _/_, _%_, _≤_, _<_}
+use native.Mathlib.Nat.{add-zero}
+use native.Mathlib.Numerals.{towards-suc}
+use native.Mathlib.Omega.{arith}
+use lib.Dec.{eqb, ltb}
+use lib.ListN.{length, getD, set}
+use lib.Seq.{sets}
+use mir.Val.{boolByte}
+use borrow.Author.Tests.{lt-ltb, le-ltb, ltb-false, eq-eqb, ne-eqb}
+use Rattle.basics.specs.Lists.{filled, someBelow}
+use Rattle.basics.proofs.Laws.{filled-none, filled-more, filled-again, fill-length}
+use Rattle.refusals.specs.declared.Refusal.{Refusal}
+use Rattle.refusals.specs.declared.Refusal.the-variants.{Record, ShortBuffer}
+use Rattle.refusals.specs.declared.Outcome.{Outcome}
+use Rattle.refusals.specs.declared.Outcome.the-variants.{Accepted, Refused}
+use Rattle.refusals.specs.Outcomes.{refuse}
+use Rattle.refusals.proofs.Outcomes.{refuse-false, refuse-rest}
+use Rattle.recording.proofs.Accepted.{trucks-in}
+use Rattle.recording.specs.Checks.{badTrucks}
+use Rattle.protocol.specs.declared.Heard.{Heard}
+use Rattle.protocol.specs.declared.State.{State}
+use Rattle.protocol.specs.declared.Truck.{Truck}
+use Rattle.protocol.specs.declared.Fleet.{Fleet}
+use Rattle.protocol.specs.declared.Answer.{Answer}
+use Rattle.protocol.specs.Rules.{truck}
+use Rattle.protocol.specs.Runs.{openedTrucks}
+use Rattle.protocol.specs.Fleets.{blank}
+use Rattle.recordbytes.specs.Layout.{markByte, heardByte, stateByte, roundOf, truckBytes, recordByte, sizeFor, packCheck, packFor, heardOfByte, stateOfByte, pairOf, placeByte, placeRound, truckAt, damagedAt, damaged, recordOf, noRecord, unpacked}
+
+-- ---- the bytes of a truck
+
+pub truck-put : (d : List ℕ) (at : ℕ) (t : Truck) (h s r : ℕ) → h ≡ heardByte (t .heard) → s ≡ stateByte (t .state) → r ≡ roundOf (t .state)
+    → set (set (set (set (set (set (set d at (t .opening)) (at + 1) (t .estimate)) (at + 2) (boolByte (t .mark))) (at + 3) h) (at + 4) s) (at + 5) (r % 256)) (at + 6) (r / 256)
+    ≡ sets d at (truckBytes t)
+truck-put d at t h s r eh es er = simp (mark-byte (t .mark), eh, es, er, towards-suc)
+  where
+    mark-byte : (b : Bool) → boolByte b ≡ markByte b
+    mark-byte true = refl
+    mark-byte false = refl
+
+-- ---- a list that is filled from the front
+
+-- a run of stores that goes on with it
+pub fill-sets {ℓ} : {A : Type ℓ} (z : A) (g : ℕ → A) (d vs l : List A) (i : ℕ) → l ≡ filled g i d → i + length vs ≤ length d → ((j : ℕ) → j < length vs → getD vs j z ≡ g (i + j))
+    → sets l i vs ≡ filled g (i + length vs) d
+fill-sets z g d [] l i e h same = e ∙ ap (λ (k : ℕ). filled g k d) (sym (add-zero i))
+fill-sets z g d (v ∷ vs) l i e h same =
+    let first : v ≡ g i = same 0 (omega arith) ∙ ap g (add-zero i) in
+    fill-sets z g d vs (set l i v) (suc i)
+    (ap (λ (k : List _). set k i v) e ∙ filled-more g i d v (omega arith) first)
+    (omega arith)
+    (λ j l. same (suc j) (omega arith) ∙ ap g (omega arith))
+    ∙ ap (λ (k : ℕ). filled g k d) (let s : suc i + length vs ≡ i + suc (length vs) = omega arith in s)
+
+-- ---- the bytes of a record
+
+pub place-byte : (f : Fleet) (q : ℕ) → getD (truckBytes (truck (f .trucks) (q / 7))) (q % 7) 0 ≡ recordByte f (3 + q)
+unfolding recordByte
+place-byte f q =
+    let e : 3 + q - 3 ≡ q = omega arith in
+    rw (le-ltb (3 + q) 3 (omega arith), e)
+
+-- byte j of place i
+pub byte-of-place : (f : Fleet) (i j : ℕ) → j < 7 → getD (truckBytes (truck (f .trucks) i)) j 0 ≡ recordByte f (sizeFor i + j)
+byte-of-place f i j h =
+    let q : (7 * i + j) / 7 ≡ i = omega arith in
+    let r : (7 * i + j) % 7 ≡ j = omega arith in
+    let e : 3 + (7 * i + j) ≡ sizeFor i + j = omega arith in
+    sym (ap₂ (λ (a b : ℕ). getD (truckBytes (truck (f .trucks) a)) b 0) q r) ∙ place-byte f (7 * i + j) ∙ ap (recordByte f) e
+
+-- a record's head
+abbrev headBytes : Fleet → List ℕ
+headBytes f = f .n ∷ f .done % 256 ∷ f .done / 256 ∷ []
+
+-- the buffer d with it
+abbrev pub headed : Fleet → List ℕ → List ℕ
+headed f d = sets d 0 (headBytes f)
+
+-- a loop that puts the places: what the buffer l holds after i of them
+module _ (f : Fleet) (d : List ℕ) (room : sizeFor 32 ≤ length d) where
+  head-filled : headed f d ≡ filled (recordByte f) 3 d
+  unfolding recordByte
+  head-filled = fill-sets 0 (recordByte f) d (headBytes f) d 0 (sym (filled-none (recordByte f) d)) (omega arith) same
+    where
+      same : (j : ℕ) → j < 3 → getD (headBytes f) j 0 ≡ recordByte f (0 + j)
+      same zero h = refl
+      same (suc zero) h = refl
+      same (suc (suc zero)) h = refl
+      same (suc (suc (suc j))) h = absurd (omega arith)
+
+  over-head : (i : ℕ) → i ≤ 32 → filled (recordByte f) (sizeFor i) (headed f d) ≡ filled (recordByte f) (sizeFor i) d
+  over-head i h = rw head-filled (filled-again (recordByte f) (recordByte f) 3 (sizeFor i) d (omega arith))
+
+  pub put-holds : headed f d ≡ filled (recordByte f) (sizeFor 0) (headed f d)
+  put-holds = head-filled ∙ sym (over-head 0 (omega arith))
+
+  module _ (l : List ℕ) (i : ℕ) (few : i ≤ 32) (now : l ≡ filled (recordByte f) (sizeFor i) (headed f d)) where
+    pub put-now : l ≡ filled (recordByte f) (sizeFor i) d
+    put-now = now ∙ over-head i few
+
+    pub put-length : length l ≡ length d
+    put-length = fill-length (recordByte f) d l (sizeFor i) put-now (omega arith)
+
+    pub put-step : (k : List ℕ) → i < 32 → k ≡ sets l (sizeFor i) (truckBytes (truck (f .trucks) i)) → k ≡ filled (recordByte f) (sizeFor (i + 1)) (headed f d)
+    put-step k h e =
+        e
+        ∙ fill-sets 0 (recordByte f) d (truckBytes (truck (f .trucks) i)) l (sizeFor i) put-now (omega arith) (λ j h. byte-of-place f i j h)
+        ∙ ap (λ (k : ℕ). filled (recordByte f) k d) (let s : sizeFor i + 7 ≡ sizeFor (i + 1) = omega arith in s)
+        ∙ sym (over-head (i + 1) (omega arith))
+
+-- ---- what putting a record answers
+
+pub accepted-is : (n room : ℕ) → packCheck n room ≡ Accepted → (badTrucks n ≡ false) × (n ≤ 32) × (sizeFor 32 ≤ room)
+unfolding packCheck
+accepted-is n room h =
+    let later = refuse (ltb room (sizeFor 32)) ShortBuffer Accepted in
+    let t = refuse-false (badTrucks n) Record later h in
+    (t, trucks-in n t .1, ltb-false room (sizeFor 32) (refuse-false (ltb room (sizeFor 32)) ShortBuffer Accepted (refuse-rest (badTrucks n) Record later h)))
+
+module _ (n room : ℕ) where
+  pub pack-7 : (b : Bool) → b ≡ badTrucks n → b ≡ true → Refused Record ≡ packCheck n room
+  unfolding packCheck
+  pack-7 b e h = rw (sym e ∙ h)
+
+  module _ (b : Bool) (counted : b ≡ badTrucks n) (range : b ≡ false) where
+    pub pack-9 : room < sizeFor 32 → Refused ShortBuffer ≡ packCheck n room
+    unfolding packCheck
+    pack-9 h = rw (sym counted ∙ range, lt-ltb room (sizeFor 32) h)
+
+    pub pack-0 : sizeFor 32 ≤ room → Accepted ≡ packCheck n room
+    unfolding packCheck
+    pack-0 h = rw (sym counted ∙ range, le-ltb room (sizeFor 32) h)
+
+module _ (f : Fleet) (d : List ℕ) (o : Outcome) (checked : o ≡ packCheck (f .n) (length d)) where
+  module _ (r : Refusal) (kept : o ≡ Refused r) where
+    pub pack-refusal : Refused r ≡ packCheck (f .n) (length d)
+    pack-refusal = sym kept ∙ checked
+
+    pub pack-kept : (m : ℕ) → d ≡ packFor (packCheck (f .n) (length d)) m f d
+    pack-kept m = ap (λ (x : Outcome). packFor x m f d) pack-refusal
+
+  module _ (kept : o ≡ Accepted) where
+    pub pack-accepted : Accepted ≡ packCheck (f .n) (length d)
+    pack-accepted = sym kept ∙ checked
+
+    pub pack-put : (m : ℕ) (l : List ℕ) → l ≡ filled (recordByte f) (sizeFor m) d → l ≡ packFor (packCheck (f .n) (length d)) m f d
+    pack-put m l e = e ∙ ap (λ (x : Outcome). packFor x m f d) pack-accepted
+
+    pub pack-range : (m : ℕ) → (badTrucks (f .n) ≡ false → m ≤ 32) → m ≤ 32
+    pack-range m h = h (accepted-is (f .n) (length d) (sym pack-accepted) .0)
+
+    pub pack-room : sizeFor 32 ≤ length d
+    pack-room = accepted-is (f .n) (length d) (sym pack-accepted) .2
+
+-- ---- the truck of a place
+
+-- a byte that stands for one of three things
+module _ {A : Type 0} (b : ℕ) (x y z : A) where
+  pub byte-1 : b ≡ 1 → x ≡ cond (eqb b 1) x (cond (eqb b 2) y z)
+  byte-1 h = rw (eq-eqb b 1 h)
+
+  module _ (not-1 : b ≡ 1 → ⊥) where
+    pub byte-2 : b ≡ 2 → y ≡ cond (eqb b 1) x (cond (eqb b 2) y z)
+    byte-2 h = rw (ne-eqb b 1 not-1, eq-eqb b 2 h)
+
+    pub byte-0 : (b ≡ 2 → ⊥) → z ≡ cond (eqb b 1) x (cond (eqb b 2) y z)
+    byte-0 h = rw (ne-eqb b 1 not-1, ne-eqb b 2 h)
+
+pub truck-is : (d : List ℕ) (i a b m k s r : ℕ) (h : Heard) (t : State)
+    → k ≡ placeByte d i 3 → h ≡ heardOfByte k → s ≡ placeByte d i 4 → r ≡ placeRound d i → t ≡ stateOfByte s r
+    → a ≡ placeByte d i 0 → b ≡ placeByte d i 1 → m ≡ placeByte d i 2
+    → _≡_ {A = Truck} (record { opening = a; estimate = b; mark = eqb m 1; heard = h; state = t }) (truckAt d i)
+unfolding truckAt
+truck-is d i a b m k s r h t ek eh es er et ea eb em = cc
+
+pub damaged-is : (d : List ℕ) (i m h s r : ℕ) → m ≡ placeByte d i 2 → h ≡ placeByte d i 3 → s ≡ placeByte d i 4 → r ≡ placeRound d i
+    → (ltb 1 m || ltb 2 h || ltb 2 s || (eqb s 0 && ltb 0 r)) ≡ damagedAt d i
+unfolding damagedAt
+damaged-is d i m h s r em eh es er = cc
+
+-- ---- taking bytes for a record
+
+pub blank-trucks : blank .trucks ≡ openedTrucks []
+unfolding blank
+blank-trucks = refl
+
+module _ (d : List ℕ) where
+  pub record-is : (f : Fleet) (k : ℕ) → f .trucks ≡ filled (truckAt d) (getD d 0 0) (openedTrucks []) → k ≡ pairOf (getD d 1 0) (getD d 2 0)
+      → _≡_ {A = Fleet} (record { n = getD d 0 0; done = k; trucks = f .trucks }) (recordOf d)
+  unfolding recordOf
+  record-is f k p q = cc
+
+  refused-as : damaged d ≡ true → (a : Answer) → a ≡ noRecord → a ≡ unpacked d
+  unfolding unpacked
+  refused-as h a e = e ∙ rw h
+
+  pub unpack-short : (a : Answer) → a ≡ noRecord → length d < sizeFor 32 → a ≡ unpacked d
+  unfolding damaged
+  unpack-short a e h = refused-as (rw (lt-ltb (length d) (sizeFor 32) h)) a e
+
+  module _ (whole : sizeFor 32 ≤ length d) (b : Bool) (counted : b ≡ badTrucks (getD d 0 0)) where
+    pub unpack-count : (a : Answer) → a ≡ noRecord → b ≡ true → a ≡ unpacked d
+    unfolding damaged
+    unpack-count a e h = refused-as (rw (le-ltb (length d) (sizeFor 32) whole, sym counted ∙ h)) a e
+
+    module _ (range : b ≡ false) where
+      pub count-most : getD d 0 0 ≤ 32
+      count-most = trucks-in (getD d 0 0) (sym counted ∙ range) .1
+
+      module _ (x : Bool) (searched : x ≡ someBelow (damagedAt d) (getD d 0 0)) where
+        damaged-by : damaged d ≡ x
+        unfolding damaged
+        damaged-by = rw (le-ltb (length d) (sizeFor 32) whole, sym counted ∙ range, searched)
+
+        pub unpack-place : (a : Answer) → a ≡ noRecord → x ≡ true → a ≡ unpacked d
+        unpack-place a e h = refused-as (damaged-by ∙ h) a e
+
+        pub unpack-0 : (f : Fleet) → f ≡ recordOf d → x ≡ false → record { outcome = Accepted; fleet = f } ≡ unpacked d
+        unfolding unpacked
+        unpack-0 f e h = rw (damaged-by ∙ h, e)

@@ -5,7 +5,7 @@ use mathlib.Core.List.{List, [], _∷_, map, List·Memᴰ, List·Memᴰ·head, L
 use Prim.Native.Nat.{ℕ, zero, suc, _^_, _≤_, _<_}
 use native.Mathlib.Decide.{decLt}
 use native.Mathlib.Omega.{arith}
-use borrow.Author.Tests.{eq-eqb, ne-eqb, eqb-true, eqb-false, lt-ltb, not-true}
+use borrow.Author.Tests.{eq-eqb, ne-eqb, eqb-true, eqb-false, lt-ltb, not-true, not-false}
 use lib.Bits.{bitXor, and-le-l, xor-lt, bitAnd, and-zero-l}
 use lib.Dec.{eqb}
 use lib.ListN.{getD}
@@ -14,7 +14,7 @@ use Rattle.basics.specs.Lists.{who, first}
 use Rattle.basics.proofs.Laws.{and-left, and-right, first-le, first-before, first-at, first-all}
 use Rattle.basics.proofs.Bits.{bit-and, bit-xor, oneOf}
 use Rattle.radio.specs.Radio.{heard}
-use Rattle.sets.proofs.Words.{bit-zero, some-bit}
+use Rattle.sets.proofs.Words.{bit-zero, no-bits, some-bit}
 use Rattle.protocol.proofs.Values.{value-of, of-value, least-keeps, one-value, all-one}
 use Rattle.protocol.specs.declared.Heard.{Heard}
 use Rattle.protocol.specs.declared.Heard.the-variants.{Nothing, One, Several}
@@ -37,6 +37,29 @@ pub values-silent : (values : List ℕ) (heard e : ℕ) → heard ≡ 0 → valu
 values-silent values heard e z =
     values-none values heard e (first-all (wasHeard values heard) 16
     (λ c l. ap not (eq-eqb (sentHere values heard c) 0 (ap (λ (w : ℕ). bitAnd w (getD values c 0)) z ∙ and-zero-l (getD values c 0)))))
+
+-- a search of what some of the senders sent may begin with the least crusher that any of them sent
+pub first-from : (values : List ℕ) (senders heard low : ℕ) → heard < 2 ^ 32 → ((j : ℕ) → bit heard j ≡ true → bit senders j ≡ true)
+    → low ≡ first (wasHeard values senders) 16 → (low ≤ 16) × (first (wasHeard values heard) low ≡ low)
+first-from values senders heard low fits among e = (
+  omega (arith, e, first-le (wasHeard values senders) 16),
+  first-all (wasHeard values heard) low
+      (λ c l.
+      ap not (eq-eqb (sentHere values heard c) 0
+      (no-bits (sentHere values heard c) 32 (omega (arith, and-le-l heard (getD values c 0))) (λ j lj. bit-and heard (getD values c 0) j ∙ go c l j (bit heard j) refl)))),
+)
+  where
+    none : (c : ℕ) → c < low → sentHere values senders c ≡ 0
+    none c l = eqb-true (sentHere values senders c) 0 (not-false (eqb (sentHere values senders c) 0) (first-before (wasHeard values senders) 16 c (omega (arith, e))))
+
+    last : (x y : Bool) → x ≡ true → (x && y) ≡ false → y ≡ false
+    last true y e f = f
+    last false y e f = absurd (false≢true e)
+
+    go : (c : ℕ) → c < low → (j : ℕ) (b : Bool) → bit heard j ≡ b → (b && bit (getD values c 0) j) ≡ false
+    go c l j true h =
+        last (bit senders j) (bit (getD values c 0) j) (among j h) (sym (bit-and senders (getD values c 0) j) ∙ ap (λ (w : ℕ). bit w j) (none c l) ∙ bit-zero j)
+    go c l j false h = refl
 
 least-le : (e : ℕ) (vs : List ℕ) (u : ℕ) → List·Memᴰ u vs → leastOr e vs ≤ u
 unfolding leastOr

@@ -6,7 +6,7 @@ use Prim.Native.Nat.{ℕ, _*_, _-_, _^_, _≤_, _<_}
 use native.Mathlib.Decide.{decLt, ℕ-discrete}
 use native.Mathlib.Omega.{arith}
 use borrow.Author.Tests.{eq-eqb, ne-eqb, eqb-true, ltb-true, ltb-false, lt-leb}
-use lib.Bits.{bitAnd, bitOr, and-le-l, or-lt, xor-lt}
+use lib.Bits.{bitAnd, bitOr, and-le-l, xor-lt}
 use lib.Count.{ones}
 use lib.Dec.{eqb, leb, ltb}
 use Rattle.basics.specs.Bits.{bit}
@@ -20,12 +20,11 @@ use Rattle.sets.proofs.Words.{bit-without, bit-zero, same-bits, some-bit}
 use Rattle.sets.proofs.Mirror.{mirror-eq, mirror-zero, mirror-ones}
 use Rattle.protocol.specs.declared.Grades.{Grades}
 use Rattle.sets.specs.Sets.{Members, without}
-use Rattle.fleet.specs.Sets.{heardSet}
 use Rattle.fleet.specs.Listens.{rowFrom}
 use Rattle.fleet.specs.Standing.{holds}
 use Rattle.fleet.specs.Grading.{carried, heardAt, missesSome, carriedBy, RadioSets, askedOf}
 use Rattle.fleet.specs.declared.grading.Missed.{Missed}
-use Rattle.fleet.proofs.Radios.{count-members, some-members}
+use Rattle.fleet.proofs.Radios.{heard-fits, count-members, some-members}
 use Rattle.fleet.proofs.Places.{turn-back}
 use Rattle.fleet.proofs.Stood.{heard-silent}
 
@@ -76,11 +75,7 @@ carried-asks first k x y h = go (eqb first 0) refl
 
 module _ {a : Radio} {s : List ℕ} {at n going senders mark : ℕ} (d : RadioSets a s at n going senders mark) where
   heard-lt : (p : ℕ) → heardAt s at n senders p < 2 ^ 32
-  unfolding heardSet
-  heard-lt p =
-      or-lt 32 (without senders (rowFrom s at n p)) (bitAnd senders (2 ^ p))
-      (xor-lt 32 senders (bitAnd senders (rowFrom s at n p)) (d .fits) (omega (arith, and-le-l senders (rowFrom s at n p), d .fits)))
-      (omega (arith, and-le-l senders (2 ^ p), d .fits))
+  heard-lt p = heard-fits senders (rowFrom s at n p) p (d .fits)
 
   missed-is : (i : ℕ) → i < a .trucks → missesAny a i ≡ missedAt s at n senders (31 - i)
   missed-is i l =

@@ -5,7 +5,7 @@ use Prim.Native.Nat.{ℕ, _^_, _<_}
 use native.Mathlib.Omega.{arith}
 use native.Mathlib.Decide.{ℕ-discrete}
 use borrow.Author.Tests.{eq-eqb, ne-eqb, lt-ltb, le-ltb}
-use lib.Bits.{bitAnd, bitOr, bitXor, or-lt}
+use lib.Bits.{bitAnd, bitOr, bitXor, and-le-l, or-lt, xor-lt}
 use lib.Count.{ones, ones-ones}
 use lib.Dec.{eqb, ltb}
 use lib.ListN.{length}
@@ -14,8 +14,8 @@ use Rattle.basics.specs.Lists.{who}
 use Rattle.radio.specs.Radio.{Radio, hears}
 use Rattle.basics.proofs.Laws.{who-ext}
 use Rattle.radio.proofs.Laws.{count-some}
-use Rattle.basics.proofs.Bits.{bit-or}
-use Rattle.sets.proofs.Words.{bit-power, ones-count, some-bit}
+use Rattle.basics.proofs.Bits.{bit-and, bit-or}
+use Rattle.sets.proofs.Words.{bit-without, bit-power, ones-count, some-bit}
 use Rattle.sets.specs.Sets.{Members, without}
 use Rattle.fleet.specs.Sets.{heardSet}
 use Rattle.sets.proofs.Members.{members-and, members-without}
@@ -42,6 +42,22 @@ some-members {w} {n} {p} m = go (ℕ-discrete w 0)
 pub heard-by-own : (senders row p own r : ℕ) → r ≡ bitOr (without senders row) (bitAnd senders own) → own ≡ 2 ^ p → r ≡ heardSet senders row p
 unfolding heardSet
 heard-by-own senders row p own r e q = e ∙ ap (λ (x : ℕ). bitOr (without senders row) (bitAnd senders x)) q
+
+-- whoever is heard sends
+pub heard-sends : (senders row p j : ℕ) → bit (heardSet senders row p) j ≡ true → bit senders j ≡ true
+unfolding heardSet
+heard-sends senders row p j h =
+    go (bit senders j) (bit row j) (bit (2 ^ p) j)
+    (sym (bit-or (without senders row) (bitAnd senders (2 ^ p)) j ∙ ap₂ _||_ (bit-without senders row j) (bit-and senders (2 ^ p) j)) ∙ h)
+  where
+    go : (s r o : Bool) → ((s && not r) || (s && o)) ≡ true → s ≡ true
+    go true r o e = refl
+    go false r o e = e
+
+pub heard-fits : (senders row p : ℕ) → senders < 2 ^ 32 → heardSet senders row p < 2 ^ 32
+unfolding heardSet
+heard-fits senders row p l =
+    or-lt 32 (without senders row) (bitAnd senders (2 ^ p)) (xor-lt 32 senders (bitAnd senders row) l (omega (arith, and-le-l senders row))) (omega (arith, and-le-l senders (2 ^ p)))
 
 -- the trucks that truck i hears
 module _ (a : Radio) (i senders row : ℕ) (sends : Members senders (a .trucks) (a .sends)) (lost : (j : ℕ) → j < a .trucks → a .sends j ≡ true → a .lost i j ≡ bit row j) where

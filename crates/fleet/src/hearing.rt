@@ -1,6 +1,7 @@
 // What a truck hears of a round, by sets of trucks.
 use protocol::Heard;
 ghost use mathlib.Core.Path.{_≡_};
+ghost use Prim.Native.Nat.{_≤_};
 ghost use lib.Bits.{bitAnd, bitOr};
 ghost use Rattle.basics.specs.Lists.{first};
 ghost use Rattle.sets.specs.Sets.{without};
@@ -13,11 +14,12 @@ pub(crate) fn heard_by(senders: u32, row: u32, own: u32) -> u32
     sets::without(senders, row) | (senders & own)
 }
 
-// The least crusher that was heard, or 16 where none was.
-pub(crate) fn first_heard(by: &[u32; 16], heard: u32) -> usize
+// The least crusher that was heard, or 16 where none was. None before `from` was.
+pub(crate) fn first_heard(by: &[u32; 16], heard: u32, from: usize) -> usize
+    requires { ⌜ (from ≤ 16) × (first (wasHeard (now by) heard) from ≡ from) ⌝ }
     ensures { λ r. ⌜ r ≡ first (wasHeard (now (by .entry)) heard) 16 ⌝ }
 {
-    let mut c = 0;
+    let mut c = from;
     while c < 16 {
         if heard & by[c] != 0 {
             return c;
@@ -37,7 +39,7 @@ pub struct Values {
 pub(crate) fn values_of(by: &[u32; 16], heard: u32, estimate: u8) -> Values
     ensures { λ r. ⌜ r ≡ valuesOf (now (by .entry)) heard estimate ⌝ }
 {
-    let c = first_heard(by, heard);
+    let c = first_heard(by, heard, 0);
     if c < 16 {
         let several = sets::without(heard, by[c]) != 0;
         return Values {

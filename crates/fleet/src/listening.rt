@@ -57,13 +57,15 @@ pub(crate) fn hear(
     let mut one = 0;
     let mut several = 0;
     let mut taking = [0u32; 16];
+    // no truck hears a crusher that none of the senders has, so the search begins with the least that one has
+    let low = first_heard(by, senders, 0);
     let mut left = wanted;
     while left != 0 {
         let p = sets::lowest(left);
         let own = sets::only_lowest(left);
         let t = bitreader::read_at(s, at + (31 - p) * n, 32);
         let heard = heard_by(senders, t.value, own);
-        let c = first_heard(by, heard);
+        let c = first_heard(by, heard, low);
         if c < 16 {
             let lone = sets::without(heard, by[c]) == 0;
             one = sets::union_where(one, own, lone);

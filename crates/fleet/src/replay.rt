@@ -289,7 +289,7 @@ fn truck_of(b: Sets, by: &[u32; 16], opening: u8, end: u16, p: usize) -> Truck
     let running = sets::holds(b.running, p);
     let heard = heard_of(running, sets::holds(b.one, p), sets::holds(b.several, p));
     let state = state_of(running, sets::holds(b.decided, p), end);
-    let c = first_heard(by, sets::only(p));
+    let c = first_heard(by, sets::only(p), 0);
     Truck {
         opening,
         estimate: c as u8,

@@ -8,7 +8,7 @@ use borrow.Author.Needs.{needs}
 use borrow.Author.Tests.{not-true, not-false}
 use lib.Dec.{eqb}
 use lib.ListN.{getD}
-use Rattle.basics.proofs.Laws.{first-le}
+use Rattle.basics.proofs.Laws.{first-none, first-le}
 use Rattle.protocol.specs.declared.Heard.{Heard}
 use Rattle.protocol.specs.declared.Heard.the-variants.{One, Several}
 use Rattle.sets.specs.Sets.{without}
@@ -16,6 +16,9 @@ use Rattle.fleet.specs.Sets.{wasHeard}
 use Rattle.fleet.proofs.ByCrusher.{values-hit, values-none}
 use Rattle.fleet.proofs.hearing.values_of.Statement.{statement}
 use Rattle.fleet.proofs.hearing.values_of.Tie as tie
+
+first-heard-requires : tie.Need-first-heard-requires
+first-heard-requires c κs = (search needs, first-none (wasHeard (c .args .by .now) (c .args .heard)))
 
 returns : tie.Need-returns
 returns c =
@@ -39,7 +42,7 @@ pub values-of-spec : {M : Type 1} → statement M
 values-of-spec =
     tie.close
     (tie.spec
-    (λ c κs. search needs)
+    first-heard-requires
     (λ c. search needs)
     (λ c. search needs)
     (λ c κs. search needs)

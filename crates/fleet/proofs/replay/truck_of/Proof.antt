@@ -5,13 +5,16 @@ use native.Mathlib.Omega.{arith}
 use borrow.Author.Needs.{needs}
 use mathlib.Core.Path.{_∙_}
 use Rattle.basics.specs.Lists.{first}
-use Rattle.basics.proofs.Laws.{first-le}
+use Rattle.basics.proofs.Laws.{first-none, first-le}
 use Rattle.sets.proofs.Members.{only-is}
 use Rattle.fleet.proofs.replay.truck_of.Statement.{statement}
 use Rattle.fleet.proofs.replay.truck_of.Tie as tie
 
 small-first : (p : ℕ → Bool) → first p 16 < 256
 small-first p = omega (arith, first-le p 16)
+
+first-heard-requires : tie.Need-first-heard-requires
+first-heard-requires c κs = (search needs, first-none _)
 
 cast-t13 : tie.Need-cast-t13
 cast-t13 c = rw (c .first-heard .ensures) (record { fits = small-first _ })
@@ -41,7 +44,7 @@ truck-of-spec =
     (λ c κs. search needs)
     (λ c κs. search needs)
     (λ c κs. search needs)
-    (λ c κs. search needs)
+    first-heard-requires
     cast-t13
     (λ c κs. search needs)
     returns)

@@ -1,7 +1,7 @@
 -- What is worked out by sets of trucks is what the rules say.
 use mathlib.Core.Path.{_≡_, refl, ap, ap₂, sym, _∙_}
 use mathlib.Core.Bool.{Bool, true, false, cond, not, _&&_, true≢false, false≢true}
-use mathlib.Core.List.{List, [], _∷_, map, List·Memᴰ, List·Memᴰ·head, List·Memᴰ·tail, List·Memᴰ·not-nil}
+use mathlib.Core.List.{List, [], map, List·Memᴰ, List·Memᴰ·not-nil}
 use Prim.Native.Nat.{ℕ, zero, suc, _^_, _≤_, _<_}
 use native.Mathlib.Decide.{decLt}
 use native.Mathlib.Omega.{arith}
@@ -15,7 +15,7 @@ use Rattle.basics.proofs.Laws.{and-left, and-right, first-le, first-before, fir
 use Rattle.basics.proofs.Bits.{bit-and, bit-xor, oneOf}
 use Rattle.radio.specs.Radio.{heard}
 use Rattle.sets.proofs.Words.{bit-zero, no-bits, some-bit}
-use Rattle.protocol.proofs.Values.{value-of, of-value, least-keeps, one-value, all-one}
+use Rattle.protocol.proofs.Values.{value-of, of-value, least-le, least-keeps, one-value, all-one}
 use Rattle.protocol.specs.declared.Heard.{Heard}
 use Rattle.protocol.specs.declared.Heard.the-variants.{Nothing, One, Several}
 use Rattle.protocol.specs.Rules.{isSeveral, different, leastOr}
@@ -60,12 +60,6 @@ first-from values senders heard low fits among e = (
     go c l j true h =
         last (bit senders j) (bit (getD values c 0) j) (among j h) (sym (bit-and senders (getD values c 0) j) ∙ ap (λ (w : ℕ). bit w j) (none c l) ∙ bit-zero j)
     go c l j false h = refl
-
-least-le : (e : ℕ) (vs : List ℕ) (u : ℕ) → List·Memᴰ u vs → leastOr e vs ≤ u
-unfolding leastOr
-least-le e [] u m = absurd (List·Memᴰ·not-nil m)
-least-le e (v ∷ vs) u (List·Memᴰ·head g) = omega arith
-least-le e (v ∷ vs) u (List·Memᴰ·tail m) = omega (arith, least-le v vs u m)
 
 several : (vs : List ℕ) (u v : ℕ) → List·Memᴰ u vs → List·Memᴰ v vs → (u ≡ v → ⊥) → different vs ≡ Several
 several vs u v mu mv h = go (different vs) refl

@@ -9,9 +9,10 @@ use lib.Dec.{eqb, ltb}
 use native.Mathlib.Nat.{add-zero}
 use native.Mathlib.Omega.{arith}
 use Rattle.basics.specs.Lists.{first}
-use Rattle.basics.proofs.Laws.{allBelow-all, first-le, first-kept, first-hit, first-on}
+use Rattle.basics.proofs.Laws.{first-le, first-kept, first-hit, first-on}
 use Rattle.radio.specs.Round.{stopBit}
-use Rattle.radio.specs.Radio.{Radio, implies, judged, complete, majorityComplete, zeroComplete, accurate, firstBreak}
+use Rattle.radio.specs.Radio.{Radio, complete, majorityComplete, zeroComplete, accurate, firstBreak}
+use Rattle.radio.proofs.Laws.{idle-classes}
 use Rattle.recording.specs.Packed.{trucksOf, openingsOf, roundAt}
 use Rattle.protocol.specs.declared.Grades.{Grades}
 use Rattle.protocol.specs.Cycles.{radioIn}
@@ -80,14 +81,11 @@ module _ (s : List ℕ) where
   grades-next false k = refl
 
 -- nobody runs: a round breaks nothing
-nobody-judged : (a : Radio) → ((j : ℕ) → j < a .trucks → a .running j ≡ false) → (p : ℕ → Bool) → judged a p ≡ true
-unfolding judged
-nobody-judged a h p = allBelow-all (λ i. implies (a .running i) (p i)) (a .trucks) (λ j l. ap (λ (r : Bool). implies r (p j)) (h j l))
-
 idle-carried : (a : Radio) → ((j : ℕ) → j < a .trucks → a .running j ≡ false) → (g : Grades) (k : ℕ) → carriedBy g a k ≡ g
-unfolding carriedBy complete majorityComplete zeroComplete accurate
+unfolding carriedBy
 idle-carried a h g k =
-    rw (nobody-judged a h _, nobody-judged a h _, nobody-judged a h _, nobody-judged a h _, carried-true (g .complete) k, carried-true (g .majority) k, carried-true (g .zero) k, carried-true (g .accurate) k)
+    let e = idle-classes a h in
+    rw (e .0, e .1, e .2, e .3, carried-true (g .complete) k, carried-true (g .majority) k, carried-true (g .zero) k, carried-true (g .accurate) k)
 
 module _ (s : List ℕ) (k : ℕ) (none : (j : ℕ) → j < trucksOf s → runs (truck (trucksAfter s k) j) ≡ false) where
   idle-radio : (m j : ℕ) → j < trucksOf s → radioAfter s (k + m) .running j ≡ false

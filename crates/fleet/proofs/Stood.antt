@@ -1,7 +1,7 @@
 -- The sets of a run stand for the trucks after each round.
 use mathlib.Core.Path.{_≡_, refl, ap, ap₂, sym, subst, _∙_}
 use mathlib.Core.Bool.{Bool, true, false, cond, not, _&&_, _||_, and-false, true≢false, false≢true}
-use mathlib.Core.List.{List, [], _∷_, map}
+use mathlib.Core.List.{List, map}
 use Prim.Native.Nat.{ℕ, suc, _+_, _*_, _-_, _^_, _≤_, _<_}
 use native.Mathlib.Nat.{add-mul}
 use native.Mathlib.Decide.{decLt, ℕ-discrete}
@@ -27,7 +27,8 @@ use Rattle.protocol.specs.declared.State.{State}
 use Rattle.protocol.specs.declared.State.the-variants.{Running, Stopped, Decided}
 use Rattle.protocol.specs.declared.Truck.{Truck}
 use Rattle.protocol.specs.Cycles.{radioIn, valuesIn, afterIn, isRunning, turn}
-use Rattle.protocol.specs.Rules.{opened, truck, isOne, isSeveral, runs, vetoes, allSame, different, leastOr, stops, proposed, decides, vetoed, radioOf, valuesHeard, plays, after}
+use Rattle.protocol.specs.Rules.{opened, truck, isOne, isSeveral, runs, vetoes, different, leastOr, stops, proposed, decides, vetoed, radioOf, valuesHeard, plays, after}
+use Rattle.protocol.proofs.Values.{least-silent, least-same, one-only}
 use Rattle.protocol.proofs.OneRound.{plays-proposal, plays-veto}
 use Rattle.fleet.specs.declared.hearing.Values.{Values}
 use Rattle.fleet.specs.declared.replay.Proposed.{Proposed}
@@ -122,25 +123,6 @@ pub memory-back : (h : Heard) → memoryOf (isOne h) (isSeveral h) ≡ h
 memory-back Nothing = refl
 memory-back One = refl
 memory-back Several = refl
-
-one-only : (h : Heard) → isOne h ≡ true → isSeveral h ≡ false
-one-only Nothing e = refl
-one-only One e = refl
-one-only Several e = absurd (false≢true e)
-
-least-silent : (e : ℕ) (vs : List ℕ) → different vs ≡ Nothing → leastOr e vs ≡ e
-unfolding different leastOr
-least-silent e [] h = refl
-least-silent e (v ∷ vs) h = absurd (go (allSame v vs) h)
-  where
-    go : (b : Bool) → cond b One Several ≡ Nothing → ⊥
-    go true q = true≢false (ap isOne q)
-    go false q = true≢false (ap isSeveral q)
-
-least-same : (d e : ℕ) (vs : List ℕ) → (different vs ≡ Nothing → ⊥) → leastOr d vs ≡ leastOr e vs
-unfolding different leastOr
-least-same d e [] h = absurd (h refl)
-least-same d e (v ∷ vs) h = refl
 
 -- nobody is heard where nobody sends
 pub heard-silent : (senders row p : ℕ) → senders ≡ 0 → heardSet senders row p ≡ 0

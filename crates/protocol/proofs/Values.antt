@@ -1,6 +1,6 @@
 -- Values heard: those of the numbers below m that have p, the least of them, and how many are different.
 use mathlib.Core.Path.{_≡_, refl, ap, sym, subst, _∙_}
-use mathlib.Core.Bool.{Bool, true, false, cond, false≢true}
+use mathlib.Core.Bool.{Bool, true, false, cond, true≢false, false≢true}
 use mathlib.Core.List.{List, [], _∷_, _++_, map, map-append, List·Memᴰ, List·Memᴰ·head, List·Memᴰ·tail, List·Memᴰ·not-nil, Memᴰ·append-left, Memᴰ·append-right, List·Memᴰ·append-cases, List·Memᴰ·eq-of-singleton}
 use mathlib.Core.Logic.{_⊎_, inl, inr, ⊎-elim}
 use Prim.Native.Nat.{ℕ, zero, suc, _≤_, _<_, min}
@@ -10,7 +10,8 @@ use lib.Dec.{eqb}
 use borrow.Author.Tests.{eqb-true, eq-eqb}
 use Rattle.basics.specs.Lists.{who}
 use Rattle.basics.proofs.Laws.{and-left, and-right, and-both}
-use Rattle.protocol.specs.declared.Heard.the-variants.{One, Several}
+use Rattle.protocol.specs.declared.Heard.{Heard}
+use Rattle.protocol.specs.declared.Heard.the-variants.{Nothing, One, Several}
 use Rattle.protocol.specs.Rules.{isSeveral, isOne, allSame, different, leastOr}
 
 -- the values of the numbers below m that have p
@@ -103,3 +104,31 @@ pub least-any : (d e : ℕ) (vs : List ℕ) (u : ℕ) → List·Memᴰ u vs → 
 unfolding leastOr
 least-any d e [] u m = absurd (List·Memᴰ·not-nil m)
 least-any d e (v ∷ vs) u m = refl
+
+-- the least value is no larger than any
+pub least-le : (e : ℕ) (vs : List ℕ) (u : ℕ) → List·Memᴰ u vs → leastOr e vs ≤ u
+unfolding leastOr
+least-le e [] u m = absurd (List·Memᴰ·not-nil m)
+least-le e (v ∷ vs) u (List·Memᴰ·head g) = omega arith
+least-le e (v ∷ vs) u (List·Memᴰ·tail m) = omega (arith, least-le v vs u m)
+
+-- where none is heard the least is the estimate, and where one is, the estimate does not count
+pub least-silent : (e : ℕ) (vs : List ℕ) → different vs ≡ Nothing → leastOr e vs ≡ e
+unfolding different leastOr
+least-silent e [] h = refl
+least-silent e (v ∷ vs) h = absurd (go (allSame v vs) h)
+  where
+    go : (b : Bool) → cond b One Several ≡ Nothing → ⊥
+    go true q = true≢false (ap isOne q)
+    go false q = true≢false (ap isSeveral q)
+
+pub least-same : (d e : ℕ) (vs : List ℕ) → (different vs ≡ Nothing → ⊥) → leastOr d vs ≡ leastOr e vs
+unfolding different leastOr
+least-same d e [] h = absurd (h refl)
+least-same d e (v ∷ vs) h = refl
+
+-- one value is not several
+pub one-only : (h : Heard) → isOne h ≡ true → isSeveral h ≡ false
+one-only Nothing e = refl
+one-only One e = refl
+one-only Several e = absurd (false≢true e)

@@ -10,7 +10,7 @@ use lib.Dec.{ltb, leb, eqb}
 use lib.ListN.{length, length-append}
 use Rattle.basics.specs.Lists.{who, allBelow, someBelow}
 use Rattle.basics.proofs.Laws.{who-ext, and-left, and-right, and-both, allBelow-at, allBelow-all, someBelow-at, someBelow-by, someBelow-none, none-someBelow}
-use Rattle.radio.specs.Radio.{Radio, implies, sent, hears, heardBy, heard, misses, missesAny, judged, majorityComplete, zeroComplete, accurate, inFull, fewSenders, someRunning, calmRound, calmFor}
+use Rattle.radio.specs.Radio.{Radio, implies, sent, hears, heardBy, heard, misses, missesAny, judged, complete, majorityComplete, zeroComplete, accurate, inFull, fewSenders, someRunning, calmRound, calmFor}
 
 -- how many of the first m have p
 abbrev count : (ℕ → Bool) → ℕ → ℕ
@@ -117,6 +117,16 @@ module _ (a : Radio) (i : ℕ) where
       go true false f e = sym (f refl)
       go false true f e = sym e
       go false false f e = refl
+
+-- where nobody runs a round has every class
+nobody-judged : (a : Radio) → ((j : ℕ) → j < a .trucks → a .running j ≡ false) → (p : ℕ → Bool) → judged a p ≡ true
+unfolding judged
+nobody-judged a h p = allBelow-all (λ i. implies (a .running i) (p i)) (a .trucks) (λ j l. ap (λ (r : Bool). implies r (p j)) (h j l))
+
+pub idle-classes : (a : Radio) → ((j : ℕ) → j < a .trucks → a .running j ≡ false)
+    → (complete a ≡ true) × (majorityComplete a ≡ true) × (zeroComplete a ≡ true) × (accurate a ≡ true)
+unfolding complete majorityComplete zeroComplete accurate
+idle-classes a h = (nobody-judged a h _, nobody-judged a h _, nobody-judged a h _, nobody-judged a h _)
 
 -- a message is sent by somebody
 pub sent-none : (a : Radio) → sent a ≡ 0 → (j : ℕ) → j < a .trucks → a .sends j ≡ false

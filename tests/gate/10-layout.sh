@@ -9,3 +9,4 @@ strays=$(find crates -type f ! -path 'crates/*/src/*.rt' ! -path 'crates/*/specs
     ! -path 'crates/*/std*' ! -path 'crates/*/args' ! -path 'crates/*/data/*')
 expect "stray files in crates/: $strays" test -z "$strays"
 expect "rt fmt --check" rt fmt --check
+finished=yes

@@ -16,3 +16,4 @@ expect "the largest recording" test "$(long '\x81\x90' 56016 | head -n 1)" = "tr
 # a largest run calls the two functions that hand on to each other up to 400 deep; the program's own buffers of 56 KiB and its environment lie on the same stack
 expect "the largest recording in 256 KiB of stack" test "$(ulimit -s 256 && long '\x81\x90' 56016 | tail -n 1)" = "31 opened 0 running 0"
 expect "closed input" test "$(target/bin/replay <&-)" = "refused 1"
+finished=yes

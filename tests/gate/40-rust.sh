@@ -52,3 +52,4 @@ clean_test() { # PROGRAM TEST
 expect "the comparison under valgrind" clean_test compare small_set
 expect "the bit reader under valgrind" clean_test boundaries blocks_of_their_own_length
 rm -rf "$out"
+finished=yes

@@ -204,6 +204,7 @@ pub fn plain_step(d: &mut [u8; RECORD], words: &[u32]) -> u8 {
 
 /// How often a test repeats: the environment variable CHECKS multiplies it for longer runs.
 pub fn times(count: usize) -> usize {
-    let factor = std::env::var("CHECKS").ok().and_then(|s| s.parse().ok()).unwrap_or(1usize);
+    let factor: usize = std::env::var("CHECKS").map_or(1, |s| s.parse().expect("CHECKS is a number"));
+    assert!(factor > 0, "CHECKS is 0: nothing would be tested");
     count * factor
 }

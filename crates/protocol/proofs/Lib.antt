@@ -12,3 +12,5 @@ pub mod Agree
 pub mod Settle
 pub mod Whole
 pub mod Demand3
+pub mod CalmCases
+pub mod ListCases

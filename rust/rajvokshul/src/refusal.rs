@@ -58,6 +58,43 @@ impl Refusal {
         self as u8
     }
 
+    /// What was wrong, in words.
+    ///
+    /// ```
+    /// use rajvokshul::{list, Refusal};
+    ///
+    /// let refusal = list(&[0x08]).unwrap_err();
+    /// assert_eq!(refusal, Refusal::ShortRecording);
+    /// assert_eq!(refusal.reason(), "the recording has fewer than 2 bytes");
+    /// assert_eq!(refusal.to_string(), "refused 1: the recording has fewer than 2 bytes");
+    /// ```
+    pub fn reason(self) -> &'static str {
+        match self {
+            Refusal::ShortRecording => "the recording has fewer than 2 bytes",
+            Refusal::TruckCount => "the number of trucks is 0 or above 32",
+            Refusal::RoundCount => "the number of rounds is above 400",
+            Refusal::RecordingLength => {
+                "the recording's length is not the one that its numbers of trucks and rounds fix"
+            }
+            Refusal::EndBit => "a bit left over at the end of the recording's last byte is 1",
+            Refusal::OwnLoss => "a truck's own loss bit is 1, but a truck always hears itself",
+            Refusal::Record => {
+                "a fleet record is outside the limits, an opening is above 15, or the openings are not one for each truck"
+            }
+            Refusal::PlainRound => {
+                "the rounds have the wrong number of words, or a word has the bit of a truck that is not there"
+            }
+            Refusal::ShortBuffer => "a lent buffer is too short",
+            Refusal::RoadLists => {
+                "there are no roads, more than 16, or lists of unequal length"
+            }
+            Refusal::Seconds => "the seconds of a road's last run are above 3,600",
+            Refusal::NoTime => "a road's last run covered metres in 0 seconds",
+            Refusal::AllIdle => "every road is idle",
+            Refusal::RoundsDone => "400 rounds are done already",
+        }
+    }
+
     /// The refusal of a number.
     pub fn from_number(number: u8) -> Option<Refusal> {
         Refusal::ALL.into_iter().find(|r| r.number() == number)
@@ -75,7 +112,7 @@ impl Refusal {
 
 impl fmt::Display for Refusal {
     fn fmt(&self, f: &mut fmt::Formatter<'_>) -> fmt::Result {
-        write!(f, "refused {}", self.number())
+        write!(f, "refused {}: {}", self.number(), self.reason())
     }
 }
 

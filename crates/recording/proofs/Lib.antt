@@ -3,4 +3,5 @@ pub mod Packing
 pub mod RoundTrip
 pub mod Rounds
 pub mod Sizes
+pub mod Limit
 pub mod Searches

@@ -16,11 +16,6 @@ use Rattle.recording.specs.Checks.{ownBit, badOpenings, roundCheck, plai
 use Rattle.recording.proofs.Accepted.{GoodRounds, GoodPlain, good-plain, rounds-good, openings-in}
 use Rattle.recording.proofs.RoundTrip.{own-at, own-split, word-read, trucks-back, rounds-back, words-back}
 
--- the largest recording
-pub largest : bytesFor 32 400 ≡ 56018
-unfolding bytesFor bitsFor
-largest = refl
-
 -- ---- one round
 pub record GoodRound (n : ℕ) (words : List ℕ) : Type 0 where
   pub count : length words ≡ 3 + n

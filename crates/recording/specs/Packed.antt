@@ -64,6 +64,10 @@ bitsFor n R = headerBits + 4 * n + R * (3 * n + n * n)
 unfoldable pub bytesFor : ℕ → ℕ → ℕ
 bytesFor n R = (bitsFor n R + 7) / 8
 
+-- the bytes of the largest recording, of 32 trucks and 400 rounds
+abbrev pub largestRecording : ℕ
+largestRecording = 56018
+
 -- m bytes from a function that gives each bit
 unfoldable pub pack : (ℕ → ℕ) → ℕ → List ℕ
 pack f m = tab (λ q. numAt f (8 * q) 8) m

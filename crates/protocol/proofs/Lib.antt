@@ -7,6 +7,7 @@ pub mod AnyRun
 pub mod Good
 pub mod Steps
 pub mod Demand
+pub mod Ran
 pub mod OneRound
 pub mod Agree
 pub mod Settle

@@ -45,7 +45,7 @@ extern "C" {
 #define RAJVOKSHUL_MAX_ROUNDS 400
 #define RAJVOKSHUL_MAX_RECORDING 56018 /* bytes of a recording */
 #define RAJVOKSHUL_MAX_WORDS 14000     /* words of all rounds in plain form: rounds * (3 + n) */
-#define RAJVOKSHUL_MAX_TEXT 1466       /* bytes of a listing */
+#define RAJVOKSHUL_MAX_TEXT 1099       /* bytes of a listing */
 #define RAJVOKSHUL_RECORD_SIZE 227     /* bytes of a fleet record: exactly these are read and written */
 #define RAJVOKSHUL_GRADES 4            /* numbers of a grading */
 

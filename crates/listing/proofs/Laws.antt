@@ -190,7 +190,7 @@ unfolding listed
 listed-by s d a e h = rw (← e, h)
 
 -- an answer's text lies within the buffer
-abbrev sizeOf : Listed → ℕ
+abbrev pub sizeOf : Listed → ℕ
 sizeOf (Text k) = k
 sizeOf (Refused r) = 0
 

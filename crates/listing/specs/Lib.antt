@@ -1,3 +1,4 @@
 pub mod Text
 pub mod Writing
 pub mod Listed
+pub mod Program

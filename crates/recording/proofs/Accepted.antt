@@ -1,6 +1,6 @@
 -- An input is accepted exactly where each condition of a refusal fails: openings, rounds, plain form, and the bytes of a recording.
 use mathlib.Core.Path.{_≡_, refl, ap, sym, _∙_}
-use mathlib.Core.Bool.{Bool, false, not}
+use mathlib.Core.Bool.{Bool, true, false, not}
 use mathlib.Core.List.{List}
 use Prim.Native.Nat.{ℕ, _+_, _*_, _-_, _^_, _≤_, _<_}
 use native.Mathlib.Omega.{arith}
@@ -10,7 +10,8 @@ use lib.ListN.{length, getD}
 use Rattle.refusals.specs.declared.Refusal.the-variants.{ShortRecording, TruckCount, RoundCount, RecordingLength, EndBit, OwnLoss, Record, PlainRound}
 use Rattle.refusals.specs.declared.Outcome.{Outcome}
 use Rattle.refusals.specs.declared.Outcome.the-variants.{Accepted}
-use Rattle.refusals.specs.Outcomes.{refuse}
+use Rattle.refusals.specs.Outcomes.{refuse, andThen}
+use Rattle.refusals.specs.Numbers.{outcomeNumber}
 use Rattle.refusals.proofs.Outcomes.{refuse-false, refuse-rest, refuse-on, then-first, then-second, then-both}
 use Rattle.basics.specs.Lists.{someBelow}
 use Rattle.basics.proofs.Laws.{or-left, or-right, or-none, someBelow-none, none-someBelow}
@@ -232,3 +233,20 @@ good-bytes s g =
     then-both (frameCheck s) (ownCheck s) (good-frame s (g .frame))
     (refuse-on (ownLoss (wordAt s) (trucksOf s) (roundsOf s)) OwnLoss Accepted
     (none-someBelow (ownBit (wordAt s) (trucksOf s)) (roundsOf s * trucksOf s) (g .own)) refl)
+
+-- a recording is refused for 1 to 6 and nothing else
+pub check-number : (s : List ℕ) → outcomeNumber (checkOf s) ≤ 6
+unfolding checkOf frameCheck ownCheck
+check-number s =
+    go (tooShort s) (badTrucks (trucksOf s)) (badRounds (roundsOf s)) (badLength s) (endBit s) (ownLoss (wordAt s) (trucksOf s) (roundsOf s))
+  where
+    go : (a b c d e f : Bool)
+        → outcomeNumber (andThen (refuse a ShortRecording (refuse b TruckCount (refuse c RoundCount (refuse d RecordingLength (refuse e EndBit Accepted)))))
+        (refuse f OwnLoss Accepted)) ≤ 6
+    go true b c d e f = omega arith
+    go false true c d e f = omega arith
+    go false false true d e f = omega arith
+    go false false false true e f = omega arith
+    go false false false false true f = omega arith
+    go false false false false false true = omega arith
+    go false false false false false false = omega arith

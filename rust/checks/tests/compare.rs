@@ -31,7 +31,7 @@ fn whole(bytes: &[u8]) {
     }
 
     let text = oracle::listing(bytes);
-    let mut buf = [FILL; 1466];
+    let mut buf = [FILL; 1099];
     let mut written = 77;
     assert_eq!(checks::list(bytes, &mut buf, &mut written), number);
     if number == 0 {

@@ -7,7 +7,7 @@ pub const MAX_RECORDING: usize = 56_018;
 /// The words of the largest recording in plain form.
 pub const MAX_WORDS: usize = 14_000;
 /// No listing has more bytes.
-pub const MAX_TEXT: usize = 1_466;
+pub const MAX_TEXT: usize = 1_099;
 
 /// For each class of marks the first round that breaks it, or 0.
 #[derive(Clone, Copy, Debug, PartialEq, Eq, Hash)]

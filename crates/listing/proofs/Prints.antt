@@ -1,0 +1,108 @@
+-- What the two calls leave in their buffers is what document 01 has printed; the sizes named for callers suffice; and so the program prints what is printed.
+use mathlib.Core.Path.{_≡_, refl, ap, sym, subst, _∙_}
+use mathlib.Core.Bool.{Bool, true, false, cond, false≢true, true≢false}
+use mathlib.Core.List.{List, [], _∷_, _++_}
+use Prim.Native.Nat.{ℕ, _+_, _≤_, _<_}
+use native.Mathlib.Omega.{arith}
+use borrow.Author.Tests.{le-leb}
+use lib.Dec.{leb}
+use lib.ListN.{length, take, drop}
+use lib.Seq.{take-append-seam}
+use Rattle.refusals.specs.declared.Refusal.{Refusal}
+use Rattle.refusals.specs.declared.Refusal.the-variants.{ShortBuffer}
+use Rattle.refusals.specs.declared.Outcome.{Outcome}
+use Rattle.refusals.specs.declared.Outcome.the-variants as outcome
+use Rattle.recording.specs.Packed.{trucksOf, roundsOf, openingsOf, roundAt, largestRecording}
+use Rattle.recording.specs.Checks.{checkOf}
+use Rattle.protocol.specs.declared.Fleet.{Fleet}
+use Rattle.protocol.specs.declared.Answer.{Answer}
+use Rattle.protocol.specs.Fleets.{twoRound, answer, blank, fleetAt, ran, ranIn}
+use Rattle.protocol.proofs.Ran.{ran-fleet, ran-cut}
+use Rattle.listing.specs.declared.Listed.{Listed}
+use Rattle.listing.specs.declared.Listed.the-variants.{Text, Refused}
+use Rattle.listing.specs.Text.{listingOf, refusalText, printedFor, printed}
+use Rattle.listing.specs.Listed.{Left, left, textIn, listedFor, listed, refusalListed}
+use Rattle.listing.specs.Program.{longestListing, longestRefusal, inputLimit, textUpTo, textLeft, printedBy, replayed}
+use Rattle.listing.proofs.Laws.{sizeOf}
+use Rattle.listing.proofs.Sizes.{listing-size, refusal-size}
+
+-- a text in a buffer that is long enough for it
+text-suffices : (t d : List ℕ) → length t ≤ length d → textIn t d ≡ left (Text (length t)) (t ++ drop (length t) d)
+unfolding textIn
+text-suffices t d h = rw (le-leb (length t) (length d) h)
+
+abbrev isText : Listed → Bool
+isText (Text k) = true
+isText (Refused r) = false
+
+-- what a text leaves in a buffer up to its answer is the text
+text-left : (t d : List ℕ) (k : ℕ) → textIn t d .answer ≡ Text k → take k (textIn t d .buffer) ≡ t
+unfolding textIn
+text-left t d k = go (leb (length t) (length d))
+  where
+    go : (b : Bool) → cond b (left (Text (length t)) (t ++ drop (length t) d)) (left (Refused ShortBuffer) d) .answer ≡ Text k
+        → take k (cond b (left (Text (length t)) (t ++ drop (length t) d)) (left (Refused ShortBuffer) d) .buffer) ≡ t
+    go true e = ap (λ (j : ℕ). take j (t ++ drop (length t) d)) (sym (ap sizeOf e)) ∙ take-append-seam t (drop (length t) d)
+    go false e = absurd (false≢true (ap isText e))
+
+-- what `list` leaves in the buffer up to its answer is what is printed for the recording
+pub listed-printed : (s d : List ℕ) (k : ℕ) → listed s d .answer ≡ Text k → take k (listed s d .buffer) ≡ printed s
+unfolding listed printed
+listed-printed s d k = go (ran s .outcome)
+  where
+    go : (o : Outcome) → listedFor o (ran s .fleet) d .answer ≡ Text k → take k (listedFor o (ran s .fleet) d .buffer) ≡ printedFor o (ran s .fleet)
+    go outcome.Accepted e = text-left (listingOf (ran s .fleet)) d k e
+    go (outcome.Refused r) e = absurd (false≢true (ap isText e))
+
+-- what `refusal_line` leaves up to its answer is the line of the refusal
+pub refusal-printed : (r : Refusal) (d : List ℕ) (k : ℕ) → refusalListed r d .answer ≡ Text k → take k (refusalListed r d .buffer) ≡ refusalText r
+unfolding refusalListed
+refusal-printed r d k e = text-left (refusalText r) d k e
+
+-- a buffer of the size named for a listing is never too short: a refusal is one of the recording
+abbrev outcomeFor : Listed → Outcome
+outcomeFor (Text k) = outcome.Accepted
+outcomeFor (Refused r) = outcome.Refused r
+
+pub list-suffices : (s d : List ℕ) (r : Refusal) → longestListing ≤ length d → listed s d .answer ≡ Refused r → checkOf s ≡ outcome.Refused r
+unfolding listed ranIn
+list-suffices s d r h = go (checkOf s) refl
+  where
+    f : Fleet
+    f = fleetAt (trucksOf s) (openingsOf s) (roundAt s) (roundsOf s)
+
+    go : (o : Outcome) → checkOf s ≡ o → listedFor (answer o f blank .outcome) (answer o f blank .fleet) d .answer ≡ Refused r → o ≡ outcome.Refused r
+    go outcome.Accepted e a =
+        let fits : length (listingOf f) ≤ longestListing = subst (λ (g : Fleet). length (listingOf g) ≤ longestListing) (ran-fleet twoRound s e) (listing-size s e) in
+        absurd (true≢false (sym (ap (λ (l : Left). isText (l .answer)) (text-suffices (listingOf f) d (omega arith))) ∙ ap isText a))
+    go (outcome.Refused q) e a = ap outcomeFor a
+
+-- nor is one of the size named for the line of a refusal
+pub refusal-suffices : (r : Refusal) (d : List ℕ) → longestRefusal ≤ length d → refusalListed r d .answer ≡ Text (length (refusalText r))
+unfolding refusalListed
+refusal-suffices r d h = ap (λ (l : Left). l .answer) (text-suffices (refusalText r) d (omega (arith, refusal-size r)))
+
+-- a refused recording prints the line of its refusal
+refused-printed : (s : List ℕ) (r : Refusal) → checkOf s ≡ outcome.Refused r → printed s ≡ refusalText r
+unfolding printed ranIn
+refused-printed s r h = rw h
+
+-- input past the limit changes nothing
+printed-cut : (s : List ℕ) → printed (take inputLimit s) ≡ printed s
+unfolding printed
+printed-cut s = ap (λ (a : Answer). printedFor (a .outcome) (a .fleet)) (ran-cut twoRound s inputLimit (omega arith))
+
+-- the program prints what document 01 says, whatever its input, with buffers of the sizes named or larger
+pub replay-prints : (input d line : List ℕ) → longestListing ≤ length d → longestRefusal ≤ length line → replayed input d line ≡ printed input
+unfolding replayed
+replay-prints input d line h g = go (listed s d .answer) refl ∙ printed-cut input
+  where
+    s : List ℕ
+    s = take inputLimit input
+
+    go : (a : Listed) → listed s d .answer ≡ a → printedBy a (listed s d .buffer) line ≡ printed s
+    go (Text k) e = listed-printed s d k e
+    go (Refused r) e =
+        let l = refusal-suffices r line g in
+        ap (λ (a : Listed). textUpTo a (refusalListed r line .buffer)) l ∙ refusal-printed r line (length (refusalText r)) l
+        ∙ sym (refused-printed s r (list-suffices s d r h e))

@@ -12,8 +12,10 @@ use Rattle.refusals.specs.declared.Refusal.{Refusal}
 use Rattle.refusals.specs.declared.Refusal.the-variants.{ShortBuffer}
 use Rattle.refusals.specs.declared.Outcome.{Outcome}
 use Rattle.refusals.specs.declared.Outcome.the-variants as outcome
+use Rattle.refusals.specs.Numbers.{numberOf, outcomeNumber}
 use Rattle.recording.specs.Packed.{trucksOf, roundsOf, openingsOf, roundAt, largestRecording}
 use Rattle.recording.specs.Checks.{checkOf}
+use Rattle.recording.proofs.Accepted.{check-number}
 use Rattle.protocol.specs.declared.Fleet.{Fleet}
 use Rattle.protocol.specs.declared.Answer.{Answer}
 use Rattle.protocol.specs.Fleets.{twoRound, answer, blank, fleetAt, ran, ranIn}
@@ -106,3 +108,11 @@ replay-prints input d line h g = go (listed s d .answer) refl ∙ printed-cut in
         let l = refusal-suffices r line g in
         ap (λ (a : Listed). textUpTo a (refusalListed r line .buffer)) l ∙ refusal-printed r line (length (refusalText r)) l
         ∙ sym (refused-printed s r (list-suffices s d r h e))
+
+-- as callers of the two functions have it: with buffers of these sizes only the recording is refused, for 1 to 6
+pub list-refused : (s d d′ : List ℕ) (l : Listed) (r : Refusal) → left l d′ ≡ listed s d → l ≡ Refused r → longestListing ≤ length d → numberOf r ≤ 6
+list-refused s d d′ l r e h g = subst (λ (o : Outcome). outcomeNumber o ≤ 6) (list-suffices s d r g (sym (ap (λ (x : Left). x .answer) e) ∙ h)) (check-number s)
+
+pub line-refused : (r : Refusal) (d d′ : List ℕ) (l : Listed) (q : Refusal) → left l d′ ≡ refusalListed r d → l ≡ Refused q → longestRefusal ≤ length d → ⊥
+line-refused r d d′ l q e h g =
+    true≢false (sym (ap isText (refusal-suffices r d g)) ∙ ap (λ (x : Left). isText (x .answer)) (sym e) ∙ ap isText h)

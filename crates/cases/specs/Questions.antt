@@ -10,7 +10,7 @@ use Rattle.protocol.specs.Rules.{truck}
 use Rattle.protocol.specs.Runs.{trucksAt, radioAt}
 use Rattle.protocol.specs.Fleets.{graded}
 use Rattle.listing.specs.Text.{text, printed}
-use Rattle.roads.specs.Opening.{Road, numerator, denominator, openingOf, answerOf}
+use Rattle.roads.specs.Opening.{Road, numerator, denominator, openingOf, openingAnswer}
 
 pub data Question : Type 0 where
   -- what is printed for a recording
@@ -41,7 +41,7 @@ reply (estimates k s) =
     let ts = trucksAt (trucksOf s) (openingsOf s) (roundAt s) k in
     numbers (tab (λ i. truck ts i .estimate) (trucksOf s))
 reply (senders k s) = numbers (who (radioAt (trucksOf s) (openingsOf s) (roundAt s) k .sends) (trucksOf s))
-reply (opens lengths metres seconds) = opening (answerOf (openingOf lengths metres seconds))
+reply (opens lengths metres seconds) = opening (openingAnswer (openingOf lengths metres seconds))
 reply (takes length metres seconds) =
     let r : Road = record { length = length; metres = metres; seconds = seconds } in
     exactly (numerator r / denominator r, numerator r % denominator r)

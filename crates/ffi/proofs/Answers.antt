@@ -86,7 +86,7 @@ four-put (x ∷ y ∷ z ∷ w ∷ d) a b c e h = refl
 module _ (bytes grades : List ℕ) (g : Grading) (judged : g ≡ graded bytes) where
   pub grade-call-refused : (r : Refusal) (k : ℕ) → g ≡ grading.Refused r → k ≡ numberOf r → gradeLeft k grades ≡ gradeCall bytes grades
   unfolding gradeCall
-  grade-call-refused r k h e = rw (e, ← judged, h)
+  grade-call-refused r k h e = rw (e, ← judged, h, le-ltb (length grades) 0 (omega arith))
 
   pub grade-call-9 : (x : Grades) (k : ℕ) → g ≡ grading.Graded x → length grades < 4 → k ≡ numberOf ShortBuffer → gradeLeft k grades ≡ gradeCall bytes grades
   unfolding gradeCall

@@ -1,32 +1,23 @@
 -- What each exported function answers, with everything lent as it leaves it, by the answers of the library.
--- The number answered is document 01's number of the refusal, and 0 where nothing is refused; a refusal changes nothing that was lent.
+-- The number answered is document 01's number of the refusal, and 0 where nothing is refused; the values of an answer are put where the caller said, and
+-- without a value what is there stays: a refusal changes nothing that was lent.
 use Prim.Native.Nat.{ℕ}
 use mathlib.Core.Bool.{cond}
-use mathlib.Core.List.{List, [], _∷_}
+use mathlib.Core.List.{List, [], _∷_, _++_}
 use lib.Dec.{ltb}
-use lib.ListN.{length, drop}
+use lib.ListN.{length, getD, drop}
 use Rattle.basics.specs.Lists.{filled}
 use Rattle.refusals.specs.Numbers.{numberOf}
 use Rattle.refusals.specs.declared.Refusal.the-variants.{ShortBuffer}
 use Rattle.refusals.specs.declared.Outcome.{Outcome}
 use Rattle.refusals.specs.declared.Outcome.the-variants.{Accepted, Refused}
 use Rattle.refusals.specs.Outcomes.{refuse, andThen}
-use Rattle.roads.specs.declared.Opening.{Opening}
-use Rattle.roads.specs.declared.Opening.the-variants as opening
-use Rattle.roads.specs.Opening.{openingOf}
-use Rattle.plain.specs.declared.ReadOutcome.{ReadOutcome}
-use Rattle.plain.specs.declared.ReadOutcome.the-variants as read
-use Rattle.plain.specs.declared.WriteOutcome.{WriteOutcome}
-use Rattle.plain.specs.declared.WriteOutcome.the-variants as write
-use Rattle.plain.specs.Forms.{readPlain, writePlain}
+use Rattle.roads.specs.Opening.{openingOf, openingAnswer}
+use Rattle.plain.specs.Forms.{readAnswer, readPlain, writeAnswer, writePlain}
 use Rattle.protocol.specs.declared.Fleet.{Fleet}
 use Rattle.protocol.specs.declared.Answer.{Answer}
-use Rattle.protocol.specs.declared.Grading.{Grading}
-use Rattle.protocol.specs.declared.Grading.the-variants as grading
-use Rattle.protocol.specs.Fleets.{started, stepped, ran, graded}
-use Rattle.listing.specs.declared.Listed.{Listed}
-use Rattle.listing.specs.declared.Listed.the-variants as listing
-use Rattle.listing.specs.Listed.{listed}
+use Rattle.protocol.specs.Fleets.{started, stepped, ran, gradeAnswer, graded}
+use Rattle.listing.specs.Listed.{listAnswer, listed}
 use Rattle.recordbytes.specs.Layout.{sizeFor, recordByte, unpacked}
 
 -- ---- the opening crusher
@@ -38,13 +29,11 @@ pub record OpeningLeft : Type 0 where
 abbrev pub openingLeft : ℕ → ℕ → OpeningLeft
 openingLeft number crusher = record { number = number; crusher = crusher }
 
-abbrev pub openingLeftAs : Opening → ℕ → OpeningLeft
-openingLeftAs (opening.Crusher k) crusher = openingLeft 0 k
-openingLeftAs (opening.Refused r) crusher = openingLeft (numberOf r) crusher
-
 -- 10, 11, 12, 13
 unfoldable pub openingCall : List ℕ → List ℕ → List ℕ → ℕ → OpeningLeft
-openingCall lengths metres seconds crusher = openingLeftAs (openingOf lengths metres seconds) crusher
+openingCall lengths metres seconds crusher =
+    let (number, values) = openingAnswer (openingOf lengths metres seconds) in
+    openingLeft number (getD values 0 crusher)
 
 -- ---- reading to plain form
 
@@ -59,15 +48,12 @@ abbrev pub readLeft : ℕ → List ℕ → List ℕ → ℕ → ℕ → ReadLeft
 readLeft number openings words trucks rounds =
     record { number = number; openings = openings; words = words; trucks = trucks; rounds = rounds }
 
-abbrev pub readLeftAs : ReadOutcome → List ℕ → List ℕ → ℕ → ℕ → ReadLeft
-readLeftAs (read.Plain n R) openings words trucks rounds = readLeft 0 openings words n R
-readLeftAs (read.Refused r) openings words trucks rounds = readLeft (numberOf r) openings words trucks rounds
-
 -- 1 to 6, then 9
 unfoldable pub readCall : List ℕ → List ℕ → List ℕ → ℕ → ℕ → ReadLeft
 readCall bytes openings words trucks rounds =
     let a = readPlain bytes openings words in
-    readLeftAs (a .answer) (a .openings) (a .words) trucks rounds
+    let (number, values) = readAnswer (a .answer) in
+    readLeft number (a .openings) (a .words) (getD values 0 trucks) (getD values 1 rounds)
 
 -- ---- writing
 
@@ -79,15 +65,12 @@ pub record WriteLeft : Type 0 where
 abbrev pub writeLeft : ℕ → List ℕ → ℕ → WriteLeft
 writeLeft number bytes written = record { number = number; bytes = bytes; written = written }
 
-abbrev pub writeLeftAs : WriteOutcome → List ℕ → ℕ → WriteLeft
-writeLeftAs (write.Bytes m) bytes written = writeLeft 0 bytes m
-writeLeftAs (write.Refused r) bytes written = writeLeft (numberOf r) bytes written
-
 -- 2, 3, 7, 8, 6, then 9
 unfoldable pub writeCall : ℕ → ℕ → List ℕ → List ℕ → List ℕ → ℕ → WriteLeft
 writeCall n R openings words bytes written =
     let a = writePlain n R openings words bytes in
-    writeLeftAs (a .answer) (a .buffer) written
+    let (number, values) = writeAnswer (a .answer) in
+    writeLeft number (a .buffer) (getD values 0 written)
 
 -- ---- a recording's listing
 
@@ -99,15 +82,12 @@ pub record ListLeft : Type 0 where
 abbrev pub listLeft : ℕ → List ℕ → ℕ → ListLeft
 listLeft number text written = record { number = number; text = text; written = written }
 
-abbrev pub listLeftAs : Listed → List ℕ → ℕ → ListLeft
-listLeftAs (listing.Text k) text written = listLeft 0 text k
-listLeftAs (listing.Refused r) text written = listLeft (numberOf r) text written
-
 -- 1 to 6, then 9
 unfoldable pub listCall : List ℕ → List ℕ → ℕ → ListLeft
 listCall bytes text written =
     let a = listed bytes text in
-    listLeftAs (a .answer) (a .buffer) written
+    let (number, values) = listAnswer (a .answer) in
+    listLeft number (a .buffer) (getD values 0 written)
 
 -- ---- a recording's grading
 
@@ -118,16 +98,15 @@ pub record GradeLeft : Type 0 where
 abbrev pub gradeLeft : ℕ → List ℕ → GradeLeft
 gradeLeft number grades = record { number = number; grades = grades }
 
--- complete, majority, zero and accurate, in this order
-abbrev pub gradeLeftAs : Grading → List ℕ → GradeLeft
-gradeLeftAs (grading.Graded g) grades =
-    cond (ltb (length grades) 4) (gradeLeft (numberOf ShortBuffer) grades)
-    (gradeLeft 0 (g .complete ∷ g .majority ∷ g .zero ∷ g .accurate ∷ drop 4 grades))
-gradeLeftAs (grading.Refused r) grades = gradeLeft (numberOf r) grades
+-- the values at the front of the buffer; 9 where it has fewer places than there are values
+abbrev pub gradeLeftAs : ℕ × List ℕ → List ℕ → GradeLeft
+gradeLeftAs (number, values) grades =
+    cond (ltb (length grades) (length values)) (gradeLeft (numberOf ShortBuffer) grades)
+    (gradeLeft number (values ++ drop (length values) grades))
 
 -- 1 to 6, then 9
 unfoldable pub gradeCall : List ℕ → List ℕ → GradeLeft
-gradeCall bytes grades = gradeLeftAs (graded bytes) grades
+gradeCall bytes grades = gradeLeftAs (gradeAnswer (graded bytes)) grades
 
 -- ---- fleet records as bytes
 

@@ -4,15 +4,17 @@ use mathlib.Core.Bool.{Bool, true, false, cond, false≢true, true≢false}
 use mathlib.Core.List.{List, [], _∷_, _++_}
 use Prim.Native.Nat.{ℕ, _+_, _≤_, _<_}
 use native.Mathlib.Omega.{arith}
-use borrow.Author.Tests.{le-leb}
-use lib.Dec.{leb}
+use native.Mathlib.Decide.{decLe}
+use borrow.Author.Tests.{le-leb, lt-leb, le-ltb, lt-ltb}
+use lib.Dec.{ltb, leb}
 use lib.ListN.{length, take, drop}
 use lib.Seq.{take-append-seam}
 use Rattle.refusals.specs.declared.Refusal.{Refusal}
 use Rattle.refusals.specs.declared.Refusal.the-variants.{ShortBuffer}
 use Rattle.refusals.specs.declared.Outcome.{Outcome}
 use Rattle.refusals.specs.declared.Outcome.the-variants as outcome
-use Rattle.refusals.specs.Numbers.{numberOf, outcomeNumber}
+use Rattle.refusals.specs.Numbers.{numberOf, outcomeNumber, numbered}
+use Rattle.refusals.specs.Outcomes.{refuse, andThen}
 use Rattle.recording.specs.Packed.{trucksOf, roundsOf, openingsOf, roundAt, largestRecording}
 use Rattle.recording.specs.Checks.{checkOf}
 use Rattle.recording.proofs.Accepted.{check-number}
@@ -23,7 +25,7 @@ use Rattle.protocol.proofs.Ran.{ran-fleet, ran-cut}
 use Rattle.listing.specs.declared.Listed.{Listed}
 use Rattle.listing.specs.declared.Listed.the-variants.{Text, Refused}
 use Rattle.listing.specs.Text.{listingOf, refusalText, printedFor, printed}
-use Rattle.listing.specs.Listed.{Left, left, textIn, listedFor, listed, refusalListed}
+use Rattle.listing.specs.Listed.{Left, left, listAnswer, textIn, listedFor, listed, listCheck, refusalListed}
 use Rattle.listing.specs.Program.{longestListing, longestRefusal, inputLimit, textUpTo, textLeft, printedBy, replayed}
 use Rattle.listing.proofs.Laws.{sizeOf}
 use Rattle.listing.proofs.Sizes.{listing-size, refusal-size}
@@ -116,3 +118,35 @@ list-refused s d d′ l r e h g = subst (λ (o : Outcome). outcomeNumber o ≤ 6
 pub line-refused : (r : Refusal) (d d′ : List ℕ) (l : Listed) (q : Refusal) → left l d′ ≡ refusalListed r d → l ≡ Refused q → longestRefusal ≤ length d → ⊥
 line-refused r d d′ l q e h g =
     true≢false (sym (ap isText (refusal-suffices r d g)) ∙ ap (λ (x : Left). isText (x .answer)) (sym e) ∙ ap isText h)
+
+-- ---- answers by document 01's number and values
+text-answer : (t d : List ℕ) → listAnswer (textIn t d .answer) ≡ numbered (refuse (ltb (length d) (length t)) ShortBuffer outcome.Accepted) (length t ∷ [])
+unfolding textIn
+text-answer t d = go (decLe (length t) (length d))
+  where
+    go : Dec (length t ≤ length d)
+        → listAnswer (cond (leb (length t) (length d)) (left (Text (length t)) (t ++ drop (length t) d)) (left (Refused ShortBuffer) d) .answer)
+        ≡ numbered (refuse (ltb (length d) (length t)) ShortBuffer outcome.Accepted) (length t ∷ [])
+    go (yes h) = rw (le-leb (length t) (length d) h, le-ltb (length d) (length t) h)
+    go (no h) =
+        let l : length d < length t = omega arith in
+        rw (lt-leb (length t) (length d) l, lt-ltb (length d) (length t) l)
+
+pub list-answer : (s d : List ℕ) → listAnswer (listed s d .answer) ≡ numbered (listCheck s (length d)) (length (listingOf (ran s .fleet)) ∷ [])
+unfolding listed listCheck ranIn
+list-answer s d = go (checkOf s)
+  where
+    f : Fleet
+    f = fleetAt (trucksOf s) (openingsOf s) (roundAt s) (roundsOf s)
+
+    go : (o : Outcome)
+        → listAnswer (listedFor (answer o f blank .outcome) (answer o f blank .fleet) d .answer)
+        ≡ numbered (andThen o (refuse (ltb (length d) (length (listingOf (answer o f blank .fleet)))) ShortBuffer outcome.Accepted))
+        (length (listingOf (answer o f blank .fleet)) ∷ [])
+    go outcome.Accepted = text-answer (listingOf f) d
+    go (outcome.Refused r) = refl
+
+pub refusal-answer : (r : Refusal) (d : List ℕ)
+    → listAnswer (refusalListed r d .answer) ≡ numbered (refuse (ltb (length d) (length (refusalText r))) ShortBuffer outcome.Accepted) (length (refusalText r) ∷ [])
+unfolding refusalListed
+refusal-answer r d = text-answer (refusalText r) d

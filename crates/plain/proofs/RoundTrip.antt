@@ -1,7 +1,7 @@
 -- Reading and writing undo each other, with their buffers: both stated of the definitions that the contracts of `read` and `write` cite.
 use mathlib.Core.Path.{_≡_, refl, ap, ap₂, sym, _∙_}
 use mathlib.Core.Bool.{Bool, false, _||_}
-use mathlib.Core.List.{List, _++_}
+use mathlib.Core.List.{List, [], _∷_, _++_}
 use Prim.Native.Nat.{ℕ, _+_, _*_, _≤_, _<_}
 use native.Mathlib.Omega.{arith}
 use borrow.Author.Tests.{le-ltb}
@@ -11,7 +11,7 @@ use lib.Seq.{take-at}
 use Rattle.refusals.specs.declared.Refusal.the-variants.{ShortBuffer}
 use Rattle.refusals.specs.declared.Outcome.{Outcome}
 use Rattle.refusals.specs.declared.Outcome.the-variants.{Accepted, Refused}
-use Rattle.refusals.specs.Numbers.{outcomeNumber}
+use Rattle.refusals.specs.Numbers.{numbered}
 use Rattle.refusals.specs.Outcomes.{refuse}
 use Rattle.refusals.proofs.Outcomes.{refuse-on, then-first, then-both}
 use Rattle.basics.specs.Lists.{filled}
@@ -23,7 +23,7 @@ use Rattle.recording.proofs.Packing.{length-pack}
 use Rattle.recording.proofs.RoundTrip.{read-back, write-back}
 use Rattle.plain.specs.declared.ReadOutcome.the-variants.{Plain}
 use Rattle.plain.specs.declared.WriteOutcome.the-variants.{Bytes}
-use Rattle.plain.specs.Forms.{afterRead, readNumber, shortBuffers, readCheck, readAs, readPlain, afterWrite, writeNumber, writeCheck, writeAs, writePlain}
+use Rattle.plain.specs.Forms.{afterRead, readAnswer, shortBuffers, readCheck, readAs, readPlain, afterWrite, writeAnswer, writeCheck, writeAs, writePlain}
 
 -- ---- what an answer that is no refusal says
 read-case : (o : Outcome) (s openings words : List ℕ) (n R : ℕ) → readAs o s openings words .answer ≡ Plain n R → (o ≡ Accepted) × (trucksOf s ≡ n) × (roundsOf s ≡ R)
@@ -116,40 +116,42 @@ read-writes s openings words buf n R bytes h a =
     ∙ write-whole (trucksOf s) (roundsOf s) (openingsOf s) (wordsOf s) buf (back .0) (omega arith)
     ∙ ap₂ (λ (x : ℕ) (y : List ℕ). afterWrite (Bytes x) (y ++ drop x buf)) (sym size) (back .1)
 
--- ---- the numbers of the answers are those of the checks, in document 01's order
-read-as-number : (o : Outcome) (s openings words : List ℕ) → readNumber (readAs o s openings words .answer) ≡ outcomeNumber o
-read-as-number Accepted s openings words = refl
-read-as-number (Refused r) s openings words = refl
+-- ---- answers by document 01's numbers and values: those of the checks, in its order
+read-as-answer : (o : Outcome) (s openings words : List ℕ) → readAnswer (readAs o s openings words .answer) ≡ numbered o (trucksOf s ∷ roundsOf s ∷ [])
+read-as-answer Accepted s openings words = refl
+read-as-answer (Refused r) s openings words = refl
 
-pub read-number : (s openings words : List ℕ) → readNumber (readPlain s openings words .answer) ≡ outcomeNumber (readCheck s (length openings) (length words))
+pub read-answer : (s openings words : List ℕ)
+    → readAnswer (readPlain s openings words .answer) ≡ numbered (readCheck s (length openings) (length words)) (trucksOf s ∷ roundsOf s ∷ [])
 unfolding readPlain
-read-number s openings words = read-as-number (readCheck s (length openings) (length words)) s openings words
+read-answer s openings words = read-as-answer (readCheck s (length openings) (length words)) s openings words
 
-write-as-number : (o : Outcome) (n R : ℕ) (openings words buf : List ℕ) → writeNumber (writeAs o n R openings words buf .answer) ≡ outcomeNumber o
-write-as-number Accepted n R openings words buf = refl
-write-as-number (Refused r) n R openings words buf = refl
+write-as-answer : (o : Outcome) (n R : ℕ) (openings words buf : List ℕ) → writeAnswer (writeAs o n R openings words buf .answer) ≡ numbered o (bytesFor n R ∷ [])
+write-as-answer Accepted n R openings words buf = refl
+write-as-answer (Refused r) n R openings words buf = refl
 
-pub write-number : (n R : ℕ) (openings words buf : List ℕ) → writeNumber (writePlain n R openings words buf .answer) ≡ outcomeNumber (writeCheck n R openings words (length buf))
+pub write-answer : (n R : ℕ) (openings words buf : List ℕ)
+    → writeAnswer (writePlain n R openings words buf .answer) ≡ numbered (writeCheck n R openings words (length buf)) (bytesFor n R ∷ [])
 unfolding writePlain
-write-number n R openings words buf = write-as-number (writeCheck n R openings words (length buf)) n R openings words buf
+write-answer n R openings words buf = write-as-answer (writeCheck n R openings words (length buf)) n R openings words buf
 
 -- and a refusal leaves every buffer as it was
-read-as-kept : (o : Outcome) (s openings words : List ℕ) → (outcomeNumber o ≡ 0 → ⊥) → (readAs o s openings words .openings ≡ openings) × (readAs o s openings words .words ≡ words)
+read-as-kept : (o : Outcome) (s openings words : List ℕ) → (readAnswer (readAs o s openings words .answer) .0 ≡ 0 → ⊥) → (readAs o s openings words .openings ≡ openings) × (readAs o s openings words .words ≡ words)
 read-as-kept Accepted s openings words h = absurd (h refl)
 read-as-kept (Refused r) s openings words h = (refl, refl)
 
-pub read-kept : (s openings words : List ℕ) → (readNumber (readPlain s openings words .answer) ≡ 0 → ⊥)
+pub read-kept : (s openings words : List ℕ) → (readAnswer (readPlain s openings words .answer) .0 ≡ 0 → ⊥)
     → (readPlain s openings words .openings ≡ openings) × (readPlain s openings words .words ≡ words)
 unfolding readPlain
 read-kept s openings words h =
-    read-as-kept (readCheck s (length openings) (length words)) s openings words (λ e. h (read-number s openings words ∙ e))
+    read-as-kept (readCheck s (length openings) (length words)) s openings words h
 
-write-as-kept : (o : Outcome) (n R : ℕ) (openings words buf : List ℕ) → (outcomeNumber o ≡ 0 → ⊥) → writeAs o n R openings words buf .buffer ≡ buf
+write-as-kept : (o : Outcome) (n R : ℕ) (openings words buf : List ℕ) → (writeAnswer (writeAs o n R openings words buf .answer) .0 ≡ 0 → ⊥) → writeAs o n R openings words buf .buffer ≡ buf
 write-as-kept Accepted n R openings words buf h = absurd (h refl)
 write-as-kept (Refused r) n R openings words buf h = refl
 
-pub write-kept : (n R : ℕ) (openings words buf : List ℕ) → (writeNumber (writePlain n R openings words buf .answer) ≡ 0 → ⊥)
+pub write-kept : (n R : ℕ) (openings words buf : List ℕ) → (writeAnswer (writePlain n R openings words buf .answer) .0 ≡ 0 → ⊥)
     → writePlain n R openings words buf .buffer ≡ buf
 unfolding writePlain
 write-kept n R openings words buf h =
-    write-as-kept (writeCheck n R openings words (length buf)) n R openings words buf (λ e. h (write-number n R openings words buf ∙ e))
+    write-as-kept (writeCheck n R openings words (length buf)) n R openings words buf h

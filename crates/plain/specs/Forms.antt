@@ -18,15 +18,10 @@ use Rattle.plain.specs.declared.WriteOutcome.{WriteOutcome}
 use Rattle.plain.specs.declared.WriteOutcome.the-variants.{Bytes, Refused as NotWritten}
 
 -- ---- reading to plain form
--- the number of an answer: 0 is no refusal
-abbrev pub readNumber : ReadOutcome → ℕ
-readNumber (Plain n R) = 0
-readNumber (NotRead r) = numberOf r
-
--- the values of an answer: n and R, where it is no refusal
-abbrev pub readCounts : ReadOutcome → List ℕ
-readCounts (Plain n R) = n ∷ R ∷ []
-readCounts (NotRead r) = []
+-- an answer by document 01's number and values: n and R, where it is no refusal
+abbrev pub readAnswer : ReadOutcome → ℕ × List ℕ
+readAnswer (Plain n R) = (0, n ∷ R ∷ [])
+readAnswer (NotRead r) = (numberOf r, [])
 
 -- 9: a buffer shorter than its part, n openings or the words of R rounds
 unfoldable pub shortBuffers : List ℕ → ℕ → ℕ → Bool
@@ -57,14 +52,10 @@ unfoldable pub readPlain : List ℕ → List ℕ → List ℕ → AfterRead
 readPlain s openings words = readAs (readCheck s (length openings) (length words)) s openings words
 
 -- ---- writing
-abbrev pub writeNumber : WriteOutcome → ℕ
-writeNumber (Bytes m) = 0
-writeNumber (NotWritten r) = numberOf r
-
--- the value of an answer: the number of bytes written
-abbrev pub writeBytes : WriteOutcome → ℕ
-writeBytes (Bytes m) = m
-writeBytes (NotWritten r) = 0
+-- an answer by document 01's number and values: the number of bytes written, where it is no refusal
+abbrev pub writeAnswer : WriteOutcome → ℕ × List ℕ
+writeAnswer (Bytes m) = (0, m ∷ [])
+writeAnswer (NotWritten r) = (numberOf r, [])
 
 -- 2, 3, 7, 8, 6, then 9, for a buffer of this length
 unfoldable pub writeCheck : ℕ → ℕ → List ℕ → List ℕ → ℕ → Outcome

@@ -1,7 +1,7 @@
 -- The record that running a recording leaves, by any protocol: refusal 7 lets it pass; with no rounds every truck runs on at its opening; and bytes past the
--- largest recording change nothing.
+-- largest recording change nothing; and grading by number and values.
 use mathlib.Core.Path.{_≡_, refl, ap, _∙_}
-use mathlib.Core.List.{List}
+use mathlib.Core.List.{List, [], _∷_}
 use mathlib.Core.Logic.{_⊎_, ⊎-elim}
 use Prim.Native.Nat.{ℕ, _≤_, _<_}
 use native.Mathlib.Omega.{arith}
@@ -9,15 +9,17 @@ use lib.ListN.{getD, take}
 use Rattle.basics.proofs.Laws.{getD-tab}
 use Rattle.refusals.specs.declared.Outcome.{Outcome}
 use Rattle.refusals.specs.declared.Outcome.the-variants.{Accepted, Refused}
+use Rattle.refusals.specs.Numbers.{numbered}
 use Rattle.recording.specs.Packed.{trucksOf, roundsOf, openingAt, openingsOf, roundAt, largestRecording}
 use Rattle.recording.specs.Checks.{checkOf}
 use Rattle.recording.proofs.Accepted.{bytes-good}
 use Rattle.recording.proofs.Limit.{check-cut}
 use Rattle.recording.proofs.RoundTrip.{openings-read}
 use Rattle.protocol.specs.declared.Fleet.{Fleet}
-use Rattle.protocol.specs.declared.Answer.{Answer}
+use Rattle.protocol.specs.declared.Grades.{Grades}
 use Rattle.protocol.specs.Rules.{opened, truck}
-use Rattle.protocol.specs.Fleets.{Protocol, answer, blank, fleetIn, ranIn}
+use Rattle.protocol.specs.Runs.{radiosIn, gradesFor}
+use Rattle.protocol.specs.Fleets.{Protocol, answer, gradingFor, gradeAnswer, blank, fleetIn, ranIn, gradedIn}
 use Rattle.protocol.proofs.AnyRun.{opened-truck}
 use Rattle.protocol.proofs.Good.{Sound, Good, good-at}
 
@@ -57,3 +59,19 @@ ran-cut p s m h =
   where
     at : List ℕ → Fleet
     at s = fleetIn p (trucksOf s) (openingsOf s) (roundAt s) (roundsOf s)
+
+-- the answer of grading, by document 01's number and values
+pub grade-answer : (p : Protocol) (s : List ℕ)
+    → gradeAnswer (gradedIn p s)
+    ≡ numbered (checkOf s)
+    (let g = gradesFor (radiosIn (p .rules) (trucksOf s) (openingsOf s) (roundAt s)) (roundsOf s) in
+    g .complete ∷ g .majority ∷ g .zero ∷ g .accurate ∷ [])
+unfolding gradedIn
+grade-answer p s = go (checkOf s)
+  where
+    g : Grades
+    g = gradesFor (radiosIn (p .rules) (trucksOf s) (openingsOf s) (roundAt s)) (roundsOf s)
+
+    go : (o : Outcome) → gradeAnswer (gradingFor o g) ≡ numbered o (g .complete ∷ g .majority ∷ g .zero ∷ g .accurate ∷ [])
+    go Accepted = refl
+    go (Refused r) = refl

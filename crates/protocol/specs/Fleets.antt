@@ -2,7 +2,7 @@
 -- proofs/Good.
 use Prim.Native.Nat.{ℕ, _+_}
 use mathlib.Core.Bool.{Bool, true, false, not, _&&_, _||_}
-use mathlib.Core.List.{List, []}
+use mathlib.Core.List.{List, [], _∷_}
 use lib.Dec.{eqb, leb, ltb}
 use Rattle.basics.specs.Lists.{allBelow}
 use Rattle.basics.specs.Bits.{odd}
@@ -11,6 +11,7 @@ use Rattle.radio.specs.Radio.{Radio, implies, majorityComplete}
 use Rattle.refusals.specs.declared.Refusal.the-variants.{TruckCount, Record, RoundsDone}
 use Rattle.refusals.specs.declared.Outcome.{Outcome}
 use Rattle.refusals.specs.declared.Outcome.the-variants.{Accepted, Refused}
+use Rattle.refusals.specs.Numbers.{numberOf}
 use Rattle.refusals.specs.Outcomes.{refuse}
 use Rattle.recording.specs.Packed.{trucksOf, roundsOf, openingsOf, roundAt}
 use Rattle.recording.specs.Checks.{badTrucks, badOpenings, checkOf, roundCheck}
@@ -86,6 +87,11 @@ twoRound =
 abbrev pub gradingFor : Outcome → Grades → Grading
 gradingFor Accepted g = Graded g
 gradingFor (Refused r) g = grading.Refused r
+
+-- an answer by document 01's number and values: complete, majority, zero and accurate, where it is no refusal
+abbrev pub gradeAnswer : Grading → ℕ × List ℕ
+gradeAnswer (Graded g) = (0, g .complete ∷ g .majority ∷ g .zero ∷ g .accurate ∷ [])
+gradeAnswer (grading.Refused r) = (numberOf r, [])
 
 -- round k is not 0 and not later than the rounds done
 abbrev pub isDone : ℕ → ℕ → Bool

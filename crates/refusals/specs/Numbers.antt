@@ -1,6 +1,7 @@
 -- The refusals of document 01, 'Who can cause which refusal', and their numbers there.
 use Prim.Native.Nat.{ℕ}
 use mathlib.Core.Bool.{Bool, true, false}
+use mathlib.Core.List.{List, []}
 use Rattle.refusals.specs.declared.Refusal.{Refusal}
 use Rattle.refusals.specs.declared.Refusal.the-variants.{ShortRecording, TruckCount, RoundCount, RecordingLength, EndBit, OwnLoss, Record}
 use Rattle.refusals.specs.declared.Refusal.the-variants.{PlainRound, ShortBuffer, RoadLists, Seconds, NoTime, AllIdle, RoundsDone}
@@ -41,6 +42,11 @@ numberOf RoundsDone = 14
 abbrev pub outcomeNumber : Outcome → ℕ
 outcomeNumber Accepted = 0
 outcomeNumber (Refused r) = numberOf r
+
+-- an answer by its number and values: a refusal's number with no value, or 0 with the values that the call gives
+abbrev pub numbered : Outcome → List ℕ → ℕ × List ℕ
+numbered Accepted values = (0, values)
+numbered (Refused r) values = (numberOf r, [])
 
 -- it is no refusal
 abbrev pub accepted : Outcome → Bool

@@ -8,14 +8,17 @@ use native.Mathlib.Omega.{arith}
 use lib.ListN.{length}
 use Rattle.basics.proofs.Laws.{allBelow-at, allBelow-all}
 use Rattle.refusals.specs.declared.Refusal.the-variants.{AllIdle}
+use Rattle.refusals.specs.declared.Outcome.{Outcome}
+use Rattle.refusals.specs.declared.Outcome.the-variants as outcome
+use Rattle.refusals.specs.Numbers.{numbered}
 use Rattle.roads.specs.declared.Opening.{Opening}
 use Rattle.roads.specs.declared.Opening.the-variants.{Crusher, Refused}
-use Rattle.roads.specs.Opening.{Road, roadAt, idle, numerator, denominator, badLists, secondsAbove, noTime, allIdle, leastRoad, openingOf, answerOf}
+use Rattle.roads.specs.Opening.{Road, roadAt, idle, numerator, denominator, badLists, secondsAbove, noTime, allIdle, openingCheck, leastRoad, crusherAs, openingOf, openingAnswer}
 use Rattle.roads.proofs.Answers.{openingBy, opening-by}
 use Rattle.roads.proofs.Least.{LeastRoad, time-there, least-is, least-there}
 
 abbrev number : Opening → ℕ
-number o = answerOf o .0
+number o = openingAnswer o .0
 
 apart : {A : Type 0} {p q : Opening} → p ≡ q → (number p ≡ number q → ⊥) → A
 apart e h = absurd (h (ap number e))
@@ -35,7 +38,7 @@ at-13 false false true d k e = apart e (λ z. omega arith)
 at-13 false false false true k e = (refl, refl, refl, refl)
 at-13 false false false false k e = apart e (λ z. omega arith)
 
-numbers : (a b c d : Bool) (k : ℕ) → answerOf (openingBy a b c d k) ≡ cond a (10, []) (cond b (11, []) (cond c (12, []) (cond d (13, []) (0, k ∷ []))))
+numbers : (a b c d : Bool) (k : ℕ) → openingAnswer (openingBy a b c d k) ≡ cond a (10, []) (cond b (11, []) (cond c (12, []) (cond d (13, []) (0, k ∷ []))))
 numbers true b c d k = refl
 numbers false true c d k = refl
 numbers false false true d k = refl
@@ -50,13 +53,22 @@ module _ (lengths metres seconds : List ℕ) where
   road = roadAt lengths metres seconds
 
   -- In document 01's numbers: each refusal is returned for its condition, no earlier one holding, and for nothing else.
-  pub opening-numbers : answerOf (openingOf lengths metres seconds)
+  pub opening-numbers : openingAnswer (openingOf lengths metres seconds)
       ≡ cond (badLists lengths metres seconds) (10, [])
       (cond (secondsAbove seconds) (11, [])
       (cond (noTime metres seconds) (12, [])
       (cond (allIdle road n) (13, [])
       (0, leastRoad road n ∷ []))))
-  opening-numbers = ap answerOf (opening-by lengths metres seconds) ∙ numbers (badLists lengths metres seconds) (secondsAbove seconds) (noTime metres seconds) (allIdle road n) (leastRoad road n)
+  opening-numbers = ap openingAnswer (opening-by lengths metres seconds) ∙ numbers (badLists lengths metres seconds) (secondsAbove seconds) (noTime metres seconds) (allIdle road n) (leastRoad road n)
+
+  -- the number of the check, with the road of least exact time where it accepts
+  pub opening-answer : openingAnswer (openingOf lengths metres seconds) ≡ numbered (openingCheck lengths metres seconds) (leastRoad road n ∷ [])
+  unfolding openingOf
+  opening-answer = go (openingCheck lengths metres seconds)
+    where
+      go : (o : Outcome) → openingAnswer (crusherAs o (leastRoad road n)) ≡ numbered o (leastRoad road n ∷ [])
+      go outcome.Accepted = refl
+      go (outcome.Refused r) = refl
 
   -- A crusher k is a road that is not idle; no road that is not idle takes less exact time, and none of the same time has a lower number.
   pub opening-least : (k : ℕ) → openingOf lengths metres seconds ≡ Crusher k → LeastRoad road n k

@@ -93,7 +93,7 @@ unfoldable pub openingOf : List ℕ → List ℕ → List ℕ → Opening
 openingOf lengths metres seconds =
     crusherAs (openingCheck lengths metres seconds) (leastRoad (roadAt lengths metres seconds) (length lengths))
 
--- an answer in document 01's terms: its refusal's number with no value, or 0 with the crusher
-abbrev pub answerOf : Opening → ℕ × List ℕ
-answerOf (Crusher k) = (0, k ∷ [])
-answerOf (NoOpening r) = (numberOf r, [])
+-- an answer by document 01's number and values: the crusher, where it is no refusal
+abbrev pub openingAnswer : Opening → ℕ × List ℕ
+openingAnswer (Crusher k) = (0, k ∷ [])
+openingAnswer (NoOpening r) = (numberOf r, [])

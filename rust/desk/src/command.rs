@@ -186,15 +186,19 @@ pub struct Answer {
     pub status: u8,
 }
 
-/// A view of a recording.
-pub fn answer(view: View, recording: &[u8]) -> Answer {
-    shown(view, recording).unwrap_or_else(|failure| {
+impl From<Failure> for Answer {
+    fn from(failure: Failure) -> Answer {
         let status = match failure {
             Failure::Refused(_) => REFUSED,
             Failure::Contradiction(_) => CONTRADICTED,
         };
         Answer { out: String::new(), err: format!("{failure}\n"), status }
-    })
+    }
+}
+
+/// A view of a recording.
+pub fn answer(view: View, recording: &[u8]) -> Answer {
+    shown(view, recording).unwrap_or_else(Answer::from)
 }
 
 fn shown(view: View, recording: &[u8]) -> Result<Answer, Failure> {

@@ -61,9 +61,10 @@ fn round_text(round: &Round) -> String {
         text += &format!(" ({})", round.senders.named());
     }
     text += "\n";
+    let width = (round.turns.len() - 1).to_string().len();
     for (truck, turn) in round.turns.iter().enumerate().filter(|(_, turn)| turn.runs || turn.stops)
     {
-        text += &format!("  truck {truck:<2}  {}\n", turn_text(round, turn));
+        text += &format!("  truck {truck:<width$}  {}\n", turn_text(round, turn));
     }
     text
 }

@@ -8,7 +8,7 @@ use desk::story::tell;
 use oracle::gen::{self, Rng, FULL, SMALL, TINY};
 use oracle::marks::{airs, round_is_calm};
 use oracle::steps::follow;
-use oracle::{Header, Plain, State};
+use oracle::{Air, Header, Plain, State, Truck};
 
 const C1: [u8; 8] = [0x08, 0x04, 0x35, 0x30, 0x00, 0x03, 0x00, 0x00];
 const C2: [u8; 6] = [0x08, 0x02, 0x35, 0x31, 0x80, 0x00];
@@ -133,6 +133,21 @@ struct Counted {
     calm: usize,
 }
 
+/// What happens to truck i in a round, in the order of the events.
+fn happened(air: &Air, after: &Truck, i: usize) -> [bool; 8] {
+    let marked = air.running[i] && air.mark_bit[i];
+    [
+        air.running[i],
+        air.sends[i] && air.is_proposal(),
+        air.sends[i] && !air.is_proposal(),
+        air.running[i] && air.missed(i) > 0,
+        marked,
+        marked && air.missed(i) == 0,
+        after.state == State::Stopped(air.round),
+        after.state == State::Decided(air.round),
+    ]
+}
+
 fn counted(plain: &Plain) -> Counted {
     let mut counted = Counted::default();
     let (_, mut before) = oracle::start(plain.n as u64, &plain.openings);
@@ -140,39 +155,25 @@ fn counted(plain: &Plain) -> Counted {
     let airs = airs(plain);
     for air in &airs {
         let after = follow(&before, plain.round(air.round as usize));
-        for i in 0..plain.n {
-            let (was, is) = (before.trucks[i], after.trucks[i]);
-            let marked = air.running[i] && air.mark_bit[i];
-            let happened = [
-                air.running[i],
-                air.sends[i] && air.is_proposal(),
-                air.sends[i] && !air.is_proposal(),
-                air.running[i] && air.missed(i) > 0,
-                marked,
-                marked && air.missed(i) == 0,
-                is.state == State::Stopped(air.round),
-                is.state == State::Decided(air.round),
-            ];
-            for (total, happened) in counted.events.iter_mut().zip(happened) {
+        for (i, last) in last.iter_mut().enumerate() {
+            let (was, is) = (&before.trucks[i], &after.trucks[i]);
+            for (total, happened) in counted.events.iter_mut().zip(happened(air, is, i)) {
                 *total += usize::from(happened);
             }
             counted.changes += usize::from(was.estimate != is.estimate);
             if air.running[i] {
                 counted.crushers[usize::from(is.estimate)] += 1;
-                counted.bars += usize::from(last[i] != Some(is.estimate));
-                last[i] = Some(is.estimate);
+                counted.bars += usize::from(*last != Some(is.estimate));
+                *last = Some(is.estimate);
             }
         }
         before = after;
     }
-    counted.rests = before
-        .trucks_below_n()
-        .iter()
-        .filter(|truck| match truck.state {
-            State::Running => false,
-            State::Stopped(round) | State::Decided(round) => usize::from(round) < plain.rounds,
-        })
-        .count();
+    let rests = |truck: &&Truck| match truck.state {
+        State::Running => false,
+        State::Stopped(round) | State::Decided(round) => usize::from(round) < plain.rounds,
+    };
+    counted.rests = before.trucks_below_n().iter().filter(rests).count();
     counted.broken = usize::from(!oracle::marks::majority_complete(plain));
     let calm = |b: u64| airs.windows(5).any(|five| five.iter().all(|air| round_is_calm(air, b)));
     counted.calm = usize::from((0..=32).any(calm));

@@ -188,11 +188,11 @@ pub struct Answer {
 
 impl From<Failure> for Answer {
     fn from(failure: Failure) -> Answer {
-        let status = match failure {
-            Failure::Refused(_) => REFUSED,
-            Failure::Contradiction(_) => CONTRADICTED,
+        let (status, more) = match failure {
+            Failure::Refused(_) => (REFUSED, " (desk explain says where)"),
+            Failure::Contradiction(_) => (CONTRADICTED, ""),
         };
-        Answer { out: String::new(), err: format!("{failure}\n"), status }
+        Answer { out: String::new(), err: format!("{failure}{more}\n"), status }
     }
 }
 

@@ -61,9 +61,9 @@ impl Header {
         let place = place % self.round_bits();
         let truck = place % self.trucks;
         match place / self.trucks {
-            0 => Field::Stop { round, truck },
-            1 => Field::Active { round, truck },
-            2 => Field::Mark { round, truck },
+            0 => Field::Bit { round, kind: "stop", truck },
+            1 => Field::Bit { round, kind: "active", truck },
+            2 => Field::Bit { round, kind: "mark", truck },
             row => Field::Loss { round, truck: row - 3, sender: truck },
         }
     }
@@ -71,27 +71,38 @@ impl Header {
 
 /// A field of a recording after its two counts. Rounds count from 1, trucks from 0.
 #[derive(Clone, Copy, Debug, PartialEq, Eq)]
-#[allow(missing_docs)]
 pub enum Field {
-    Opening { truck: usize },
-    Stop { round: usize, truck: usize },
-    Active { round: usize, truck: usize },
-    Mark { round: usize, truck: usize },
-    Loss { round: usize, truck: usize, sender: usize },
+    /// The crusher that a truck opens with.
+    Opening {
+        /// The truck.
+        truck: usize,
+    },
+    /// A bit of a truck in a round.
+    Bit {
+        /// The round.
+        round: usize,
+        /// Stop, active or mark.
+        kind: &'static str,
+        /// The truck.
+        truck: usize,
+    },
+    /// A bit of a row: whether a truck missed a sender.
+    Loss {
+        /// The round.
+        round: usize,
+        /// The truck whose row it is.
+        truck: usize,
+        /// The sender.
+        sender: usize,
+    },
 }
 
 impl fmt::Display for Field {
     fn fmt(&self, f: &mut fmt::Formatter<'_>) -> fmt::Result {
         match self {
             Field::Opening { truck } => write!(f, "the opening of truck {truck}"),
-            Field::Stop { round, truck } => {
-                write!(f, "round {round}, the stop bit of truck {truck}")
-            }
-            Field::Active { round, truck } => {
-                write!(f, "round {round}, the active bit of truck {truck}")
-            }
-            Field::Mark { round, truck } => {
-                write!(f, "round {round}, the mark bit of truck {truck}")
+            Field::Bit { round, kind, truck } => {
+                write!(f, "round {round}, the {kind} bit of truck {truck}")
             }
             Field::Loss { round, truck, sender } => {
                 write!(

@@ -182,9 +182,9 @@ fn every_bit_has_its_field() {
         for (index, truck) in (0..3).flat_map(|index| (0..n).map(move |truck| (index, truck))) {
             let round = index + 1;
             let flag = |kind: usize| header.field(places.flag_place(index, kind, truck));
-            assert_eq!(flag(0), Field::Stop { round, truck });
-            assert_eq!(flag(1), Field::Active { round, truck });
-            assert_eq!(flag(2), Field::Mark { round, truck });
+            assert_eq!(flag(0), Field::Bit { round, kind: "stop", truck });
+            assert_eq!(flag(1), Field::Bit { round, kind: "active", truck });
+            assert_eq!(flag(2), Field::Bit { round, kind: "mark", truck });
             for sender in 0..n {
                 let place = places.loss_place(index, truck, sender);
                 assert_eq!(header.field(place), Field::Loss { round, truck, sender });

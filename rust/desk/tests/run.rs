@@ -62,6 +62,7 @@ fn a_refused_recording_has_status_1() {
         let (out, err, status) = said(fed(&[command], &C1[..7]));
         assert_eq!((out.as_str(), status), ("", 1));
         assert!(err.starts_with("desk: refused 4: "), "{err}");
+        assert!(err.ends_with(" (desk explain says where)\n"), "{err}");
     }
     let (out, err, status) = said(fed(&["explain"], &C1[..7]));
     assert!(out.starts_with("refused 4: ") && out.contains("1 byte short"), "{out}");
@@ -138,9 +139,12 @@ fn input_without_end_is_not_read_to_its_end() {
     assert!(run(&["explain", "/dev/zero"]).0.starts_with("refused 2: "));
     let mut input = vec![0x81, 0x90];
     input.resize(2_000_000, 0);
-    let (out, _, status) = said(fed(&["explain"], &input));
-    assert!(out.contains("but there are 56,019 or more"), "{out}");
-    assert_eq!(status, 1);
+    let long = file("long", &input);
+    let answers = [said(fed(&["explain"], &input)), run(&["explain", long.to_str().unwrap()])];
+    for (out, _, status) in answers {
+        assert!(out.contains("but there are 56,019 or more"), "{out}");
+        assert_eq!(status, 1);
+    }
 }
 
 #[test]

@@ -180,6 +180,29 @@ fn hold_turns(plain: &oracle::Plain, story: &Story) {
     }
 }
 
+/// The counts by the independent reading.
+fn counts_of(plain: &oracle::Plain) -> Counts {
+    let mut counts = Counts::default();
+    for air in airs(plain) {
+        let sent = if air.is_proposal() { &mut counts.proposals } else { &mut counts.vetoes };
+        *sent += air.messages();
+        for i in air.running_trucks() {
+            counts.missed += air.missed(i);
+            counts.marks += usize::from(air.mark_bit[i]);
+            counts.false_marks += usize::from(air.mark_bit[i] && air.missed(i) == 0);
+        }
+    }
+    let (_, end) = oracle::run(&gen::bytes_of(plain));
+    for truck in end.trucks_below_n() {
+        match truck.state {
+            oracle::State::Running => {}
+            oracle::State::Stopped(_) => counts.stopped += 1,
+            oracle::State::Decided(_) => counts.decided += 1,
+        }
+    }
+    counts
+}
+
 /// The first calm stretch by trying every S and every b.
 fn calm_by_trying(plain: &oracle::Plain) -> Option<Calm> {
     let airs = airs(plain);
@@ -207,6 +230,7 @@ fn told_as_the_independent_reading_tells_it() {
         assert_eq!(story.openings, plain.openings);
         assert_eq!(story.rounds.len(), plain.rounds);
         hold_turns(&plain, &story);
+        assert_eq!(counts(&story), counts_of(&plain));
         let expected = oracle::grade(&gen::bytes_of(&plain)).unwrap();
         let Grades { complete, majority, zero, accurate } = grades_of(&story.rounds);
         assert_eq!([complete, majority, zero, accurate], expected);

@@ -275,7 +275,7 @@ fn sizes_at_which_the_picture_changes_its_scale() {
 }
 
 #[test]
-fn nothing_from_elsewhere_and_a_name_for_everyone() {
+fn nothing_from_elsewhere_and_a_title() {
     let svg = picture(&tell(&C2).unwrap());
     let elements = elements(&svg);
     let root = &elements[0].attributes;

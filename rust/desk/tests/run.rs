@@ -125,7 +125,7 @@ fn failed_reading_and_writing_have_status_3() {
 }
 
 #[test]
-fn a_reader_that_has_gone_is_no_news() {
+fn a_reader_that_has_gone_gets_no_message() {
     let mut child = program().arg("timeline").stdin(Stdio::piped()).spawn().unwrap();
     drop(child.stdout.take());
     child.stdin.take().unwrap().write_all(&C1).unwrap();

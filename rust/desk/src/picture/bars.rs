@@ -40,7 +40,7 @@ fn bar(layout: &Layout, truck: usize, equal: &[&Round]) -> String {
         svg += &small_number(layout, truck, crusher, x + width / 2, width - 2);
         return svg;
     }
-    let mut at = x + 9;
+    let mut at = x + 10;
     while at + 8 <= end_x {
         svg += &layout.number(crusher, at, truck);
         at += 50 * layout.scale.cell;

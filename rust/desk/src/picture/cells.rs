@@ -67,8 +67,8 @@ fn below(layout: &Layout, truck: usize, turn: &Turn, x: i32) -> String {
     let count = turn.missed.count();
     let missed = match count {
         0 => 0,
-        1..=9 => 16,
-        _ => 23,
+        1..=9 => 18,
+        _ => 25,
     };
     let mark = if turn.marked { 9 } else { 0 };
     let left = x + (layout.scale.cell - missed - mark) / 2;

@@ -195,14 +195,14 @@ fn highlights(story: &Story, layout: &Layout) -> String {
             "<rect class=\"broken\" x=\"{x}\" y=\"{y}\" width=\"{width}\" height=\"{height}\" rx=\"2\"/>\n"
         );
         let said = format!("round {}: not majority complete", story.grades.majority);
-        svg += &layout.beside("breach", &said, (x, x + width), y - 2);
+        svg += &layout.beside("broken-label", &said, (x, x + width), y - 2);
     }
     if let Some(calm) = first_calm(&story.rounds) {
         let (x, end_x) = (layout.round_x(calm.from), layout.round_x(calm.last() + 1));
         let y = top - 58;
         svg += &format!("<path class=\"calm\" d=\"M{} {}v-6H{}v6\"/>\n", x + 1, y + 6, end_x - 1);
         let said = format!("calm, rounds {} to {}", calm.from, calm.last());
-        svg += &layout.beside("peace", &said, (x, end_x), y + 8);
+        svg += &layout.beside("calm-label", &said, (x, end_x), y + 8);
     }
     svg
 }

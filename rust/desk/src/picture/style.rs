@@ -42,7 +42,7 @@ text.missed,text.k-missed{text-anchor:middle;font-size:11px;font-weight:700}
 .band{fill-opacity:.035}
 .broken{stroke-width:1;fill-opacity:.13}
 .calm{fill:none;stroke-width:2.5}
-.breach,.peace{font-weight:600}
+.broken-label,.calm-label{font-weight:600}
 .tick{fill:none;stroke-width:1}
 ";
 
@@ -100,10 +100,10 @@ fn rules(ground: &Ground) -> String {
          .summary,.head,.axis,.kind,.meaning{{fill:{soft}}}\n\
          .even,.k-even,.band{{fill:{ink}}}\n\
          .cell,.bar,.opening,.key,.rest{{stroke:{edge}}}\n\
-         .veto,.k-veto,.broken{{stroke:{veto}}}.broken,.breach,.ticks .veto,.ticks .k-veto{{fill:{veto}}}\n\
+         .veto,.k-veto,.broken{{stroke:{veto}}}.broken,.broken-label,.ticks .veto,.ticks .k-veto{{fill:{veto}}}\n\
          .missed,.k-missed{{fill:{missed}}}\n\
          .mark,.k-mark{{fill:{mark};stroke:{mark}}}.false,.k-false{{fill:none}}\n\
-         .decided,.k-decided,.calm{{stroke:{decided}}}.peace{{fill:{decided}}}\n\
+         .decided,.k-decided,.calm{{stroke:{decided}}}.calm-label{{fill:{decided}}}\n\
          .stopped,.k-stopped{{fill:{ink}}}\n\
          .off,.k-off,.k-rest{{stroke:{soft}}}\n\
          .tick{{stroke:{soft};stroke-opacity:.35}}\n"

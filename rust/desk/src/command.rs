@@ -1,0 +1,223 @@
+//! The command line: what is asked for, and what is answered.
+
+use std::ffi::{OsStr, OsString};
+
+use rajvokshul::{grade, list, Grades};
+
+use crate::explain::explained;
+use crate::picture::picture;
+use crate::story::{tell, Failure};
+use crate::timeline::timeline;
+
+/// Everything was done.
+pub const DONE: u8 = 0;
+/// The recording is refused.
+pub const REFUSED: u8 = 1;
+/// The command line is not understood.
+pub const USAGE: u8 = 2;
+/// Reading or writing failed.
+pub const FAILED: u8 = 3;
+/// The program contradicts the proved library.
+pub const CONTRADICTED: u8 = 4;
+
+/// How the program is called.
+pub const USAGE_TEXT: &str = "\
+usage: desk COMMAND [FILE]
+
+  desk list FILE       the trucks after the last round
+  desk grade FILE      the first round that breaks each class of marks, or 0
+  desk explain FILE    why a recording is refused, and where; or what it holds
+  desk timeline FILE   every round in words, and a verdict
+  desk picture FILE    the whole run as an SVG picture
+
+  desk help COMMAND    more about a command
+  desk --help          this text
+  desk --version       the program's version
+
+Without FILE, or with -, the recording is read from standard input.
+Status: 0 done, 1 the recording is refused, 2 usage, 3 reading or writing failed,
+4 the program contradicts itself.
+";
+
+/// What can be shown of a recording.
+#[derive(Clone, Copy, Debug, PartialEq, Eq)]
+pub enum View {
+    /// The proved listing.
+    List,
+    /// The proved grades.
+    Grade,
+    /// Why it is refused.
+    Explain,
+    /// Every round in words.
+    Timeline,
+    /// The SVG picture.
+    Picture,
+}
+
+impl View {
+    /// All of them with their names and what help says.
+    pub const ALL: [(View, &'static str, &'static str); 5] = [
+        (
+            View::List,
+            "list",
+            "\
+usage: desk list [FILE]
+
+Prints the numbers of trucks and rounds, then a line for each truck after the
+last round: its opening, its state, its crusher, and the round of a decision or
+a stop.
+",
+        ),
+        (
+            View::Grade,
+            "grade",
+            "\
+usage: desk grade [FILE]
+
+Prints for each class of marks the first round that breaks it, or 0.
+  complete   a truck that misses a message has a mark
+  majority   a truck that hears at most half of the messages has a mark
+  zero       a truck that hears none of the messages has a mark
+  accurate   a truck that has a mark missed a message
+",
+        ),
+        (
+            View::Explain,
+            "explain",
+            "\
+usage: desk explain [FILE]
+
+Says on standard output why a recording is refused: the refusal with its number,
+then the place, with offsets counted from 0. The status is 1 then. Of an
+accepted recording it says so, with its counts.
+",
+        ),
+        (
+            View::Timeline,
+            "timeline",
+            "\
+usage: desk timeline [FILE]
+
+Prints every round: what each truck sent, heard and missed, its mark, and its
+estimate; who stopped and who decided; which class of marks a truck broke. The
+verdict at the end says what the marks were worth, what was decided, and
+whether five rounds in a row were calm.
+",
+        ),
+        (
+            View::Picture,
+            "picture",
+            "\
+usage: desk picture [FILE] > run.svg
+
+Prints an SVG picture of the run: trucks down, rounds across, the colour of a
+bar for the crusher of the estimate, with its number.
+",
+        ),
+    ];
+
+    fn named(name: &OsStr) -> Option<(View, &'static str)> {
+        let named = View::ALL.into_iter().find(|(_, known, _)| name == *known)?;
+        Some((named.0, named.2))
+    }
+}
+
+/// What the command line asks for.
+#[derive(Clone, Debug, PartialEq, Eq)]
+pub enum Request {
+    /// A text to print.
+    Say(&'static str),
+    /// A view of a recording, from a file or from standard input.
+    Show(View, Option<OsString>),
+}
+
+/// Reads the arguments after the program's name; an error says what is not understood.
+pub fn parse(arguments: &[OsString]) -> Result<Request, String> {
+    let mut words: Vec<&OsStr> = Vec::new();
+    let mut help = false;
+    let mut version = false;
+    let mut options = true;
+    for argument in arguments {
+        match argument.to_str() {
+            Some("--") if options => options = false,
+            Some("--help" | "-h") if options => help = true,
+            Some("--version" | "-V") if options => version = true,
+            _ if options && is_option(argument) => return Err(format!("no option {argument:?}")),
+            _ => words.push(argument),
+        }
+    }
+    match words.as_slice() {
+        _ if version => Ok(Request::Say(concat!("desk ", env!("CARGO_PKG_VERSION"), "\n"))),
+        [] if help => Ok(Request::Say(USAGE_TEXT)),
+        [] => Err("no command".to_string()),
+        [name] if *name == "help" => Ok(Request::Say(USAGE_TEXT)),
+        [name, about] if *name == "help" => help_on(about),
+        [name, ..] if help => help_on(name),
+        [name, rest @ ..] => {
+            let (view, _) = View::named(name).ok_or_else(|| format!("no command {name:?}"))?;
+            match rest {
+                [] => Ok(Request::Show(view, None)),
+                [file] if *file == "-" => Ok(Request::Show(view, None)),
+                [file] => Ok(Request::Show(view, Some(file.to_os_string()))),
+                [_, other, ..] => Err(format!("one file at a time, but there is {other:?} too")),
+            }
+        }
+    }
+}
+
+/// A lone dash names standard input and is no option.
+fn is_option(argument: &OsStr) -> bool {
+    argument != "-" && argument.as_encoded_bytes().first() == Some(&b'-')
+}
+
+fn help_on(name: &OsStr) -> Result<Request, String> {
+    let (_, text) = View::named(name).ok_or_else(|| format!("no command {name:?}"))?;
+    Ok(Request::Say(text))
+}
+
+/// What is printed, and the status.
+#[derive(Clone, Debug, PartialEq, Eq)]
+pub struct Answer {
+    /// For standard output.
+    pub out: String,
+    /// For standard error, without the program's name.
+    pub err: String,
+    /// The status to end with.
+    pub status: u8,
+}
+
+impl From<Failure> for Answer {
+    fn from(failure: Failure) -> Answer {
+        let (status, more) = match failure {
+            Failure::Refused(_) => (REFUSED, " (desk explain says where)"),
+            Failure::Contradiction(_) => (CONTRADICTED, ""),
+        };
+        Answer { out: String::new(), err: format!("{failure}{more}\n"), status }
+    }
+}
+
+/// A view of a recording.
+pub fn answer(view: View, recording: &[u8]) -> Answer {
+    shown(view, recording).unwrap_or_else(Answer::from)
+}
+
+fn shown(view: View, recording: &[u8]) -> Result<Answer, Failure> {
+    let mut status = DONE;
+    let out = match view {
+        View::List => list(recording)?,
+        View::Grade => {
+            let Grades { complete, majority, zero, accurate } = grade(recording)?;
+            format!("complete {complete}\nmajority {majority}\nzero {zero}\naccurate {accurate}\n")
+        }
+        View::Explain => {
+            let (text, refusal) = explained(recording)?;
+            if refusal.is_some() {
+                status = REFUSED;
+            }
+            text
+        }
+        View::Timeline => timeline(&tell(recording)?),
+        View::Picture => picture(&tell(recording)?),
+    };
+    Ok(Answer { out, err: String::new(), status })
+}

@@ -1,0 +1,123 @@
+//! The text of `desk timeline`.
+
+use crate::story::{Kind, Message, Round, Story, Turn};
+use crate::trucks::{counted, TruckSet};
+use crate::verdict::{sentences, Breaks};
+
+/// The whole run in words: openings, each round truck by truck, and the verdict.
+pub fn timeline(story: &Story) -> String {
+    let (trucks, rounds) = (story.openings.len(), story.rounds.len());
+    let mut text = format!("{}, {}\n\n", counted(trucks, "truck"), counted(rounds, "round"));
+    for (truck, opening) in story.openings.iter().enumerate() {
+        text += &format!("truck {truck} opens with crusher {opening}\n");
+    }
+    if rounds > 0 {
+        text += "\n";
+    }
+    let mut next = 0;
+    while let Some(round) = story.rounds.get(next) {
+        let idle = story.rounds[next..].iter().take_while(|round| is_idle(round)).count();
+        if idle == 0 {
+            text += &round_text(round);
+        } else {
+            text += &idle_text(round.number, idle);
+        }
+        next += idle.max(1);
+    }
+    text += "\nverdict\n";
+    for sentence in sentences(story) {
+        text += &format!("  {sentence}\n");
+    }
+    text
+}
+
+/// Whether no truck runs or stops in a round.
+fn is_idle(round: &Round) -> bool {
+    round.running().is_empty() && round.stopping().is_empty()
+}
+
+/// Rounds in a row in which no truck runs.
+fn idle_text(first: u16, count: usize) -> String {
+    match count {
+        1 => format!("round {first}: no truck runs\n"),
+        _ => format!("rounds {first} to {}: no truck runs\n", usize::from(first) + count - 1),
+    }
+}
+
+/// A line for the round and one for each truck that runs or stops in it.
+fn round_text(round: &Round) -> String {
+    let kind = match round.kind() {
+        Kind::Proposal => "proposal",
+        Kind::Veto => "veto",
+    };
+    let mut text = format!(
+        "round {} ({kind}): {} of {} running, {} sent",
+        round.number,
+        round.running().count(),
+        round.turns.len(),
+        counted(round.senders.count(), kind)
+    );
+    if !round.senders.is_empty() {
+        text += &format!(" ({})", round.senders.named());
+    }
+    text += "\n";
+    let width = (round.turns.len() - 1).to_string().len();
+    for (truck, turn) in round.turns.iter().enumerate().filter(|(_, turn)| turn.runs || turn.stops)
+    {
+        text += &format!("  truck {truck:<width$}  {}\n", turn_text(round, turn));
+    }
+    text
+}
+
+/// What a truck did in a round and what came of it.
+fn turn_text(round: &Round, turn: &Turn) -> String {
+    let estimate = if turn.after == turn.before {
+        turn.before.to_string()
+    } else {
+        format!("{} -> {}", turn.before, turn.after)
+    };
+    if turn.stops {
+        return format!("{:<7}  estimate {estimate}", "stopped");
+    }
+    format!("{:<7}  estimate {estimate:<8}  {}", sent_text(turn.sent), fate_text(round, turn))
+}
+
+/// What a truck sent.
+pub fn sent_text(sent: Option<Message>) -> String {
+    match sent {
+        None => "silent".to_string(),
+        Some(Message::Value(value)) => format!("sent {value}"),
+        Some(Message::Veto) => "vetoed".to_string(),
+    }
+}
+
+/// What a running truck heard and missed, its mark, which classes it breaks, and its decision.
+pub fn fate_text(round: &Round, turn: &Turn) -> String {
+    let mut parts = vec![heard_text(round.senders, turn)];
+    if turn.false_mark {
+        parts.push("false mark".to_string());
+    } else if turn.marked {
+        parts.push("mark".to_string());
+    }
+    let broken = Breaks::of(turn, round.senders.count()).names();
+    if !broken.is_empty() {
+        parts.push(format!("breaks {}", broken.join(", ")));
+    }
+    if turn.decides {
+        parts.push(format!("decided {}", turn.after));
+    }
+    parts.join("; ")
+}
+
+/// What a running truck heard of the senders.
+fn heard_text(senders: TruckSet, turn: &Turn) -> String {
+    match (senders.count(), turn.heard.count()) {
+        (0, _) => "nothing to hear".to_string(),
+        (sent, heard) if heard == sent => format!("heard {heard} of {sent}"),
+        (sent, 0) => format!("heard 0 of {sent}, missed {}", turn.missed.named()),
+        (sent, heard) => {
+            let (from, missed) = (turn.heard.named(), turn.missed.named());
+            format!("heard {heard} of {sent} ({from}), missed {missed}")
+        }
+    }
+}

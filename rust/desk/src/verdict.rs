@@ -1,0 +1,252 @@
+//! What a run came to: grades, calm, counts and the closing sentences.
+
+use rajvokshul::{Grades, State};
+
+use crate::story::{hold, Failure, Kind, Message, Round, Story, Turn};
+use crate::trucks::{counted, TruckSet};
+
+/// The classes of marks that one truck breaks in one round.
+#[derive(Clone, Copy, Debug, PartialEq, Eq)]
+pub struct Breaks {
+    /// It missed a message without a mark.
+    pub complete: bool,
+    /// It heard at most half of the messages without a mark.
+    pub majority: bool,
+    /// It heard none of the messages without a mark.
+    pub zero: bool,
+    /// Its mark is false.
+    pub accurate: bool,
+}
+
+impl Breaks {
+    /// What a turn breaks in a round with `sent` messages. Only running trucks are judged.
+    pub fn of(turn: &Turn, sent: usize) -> Breaks {
+        let owes = turn.runs && !turn.marked && sent > 0;
+        let heard = turn.heard.count();
+        Breaks {
+            complete: owes && heard < sent,
+            majority: owes && 2 * heard <= sent,
+            zero: owes && heard == 0,
+            accurate: turn.false_mark,
+        }
+    }
+
+    /// The broken classes by name.
+    pub fn names(self) -> Vec<&'static str> {
+        let all = [
+            (self.complete, "complete"),
+            (self.majority, "majority complete"),
+            (self.zero, "zero complete"),
+            (self.accurate, "accurate"),
+        ];
+        all.into_iter().filter(|(broken, _)| *broken).map(|(_, name)| name).collect()
+    }
+}
+
+/// The first round that breaks each class, or 0, by the turns of the rounds.
+pub fn grades_of(rounds: &[Round]) -> Grades {
+    let first = |broken: fn(Breaks) -> bool| {
+        let breaks = |round: &&Round| {
+            let sent = round.senders.count();
+            round.turns.iter().any(|turn| broken(Breaks::of(turn, sent)))
+        };
+        rounds.iter().find(breaks).map_or(0, |round| round.number)
+    };
+    Grades {
+        complete: first(|b| b.complete),
+        majority: first(|b| b.majority),
+        zero: first(|b| b.zero),
+        accurate: first(|b| b.accurate),
+    }
+}
+
+/// Five rounds that are calm from `from` with `senders` (the paper's S and b).
+#[derive(Clone, Copy, Debug, PartialEq, Eq)]
+pub struct Calm {
+    /// The first of the five rounds.
+    pub from: u16,
+    /// The least b for which they are calm.
+    pub senders: usize,
+}
+
+impl Calm {
+    /// The last of the five rounds.
+    pub fn last(self) -> u16 {
+        self.from + 4
+    }
+}
+
+/// The first five calm rounds, with the least b.
+pub fn first_calm(rounds: &[Round]) -> Option<Calm> {
+    rounds.windows(5).find_map(|five| {
+        let senders = calm_senders(five)?;
+        Some(Calm { from: five[0].number, senders })
+    })
+}
+
+/// The least b for which rounds are calm. A larger b asks for more rounds heard in full, so if any b will do, then the
+/// least one that lets the proposal rounds have their senders.
+fn calm_senders(rounds: &[Round]) -> Option<usize> {
+    let proposals =
+        rounds.iter().filter(|round| round.kind() == Kind::Proposal && !round.running().is_empty());
+    let senders: Vec<usize> = proposals.map(|round| round.senders.count()).collect();
+    let b = senders.iter().copied().max().unwrap_or(0);
+    let calm = |round: &Round| {
+        let few = (1..=b).contains(&round.senders.count());
+        round.turns.iter().all(|turn| !turn.false_mark && (!few || turn.missed.is_empty()))
+    };
+    (!senders.contains(&0) && rounds.iter().all(calm)).then_some(b)
+}
+
+/// Holds the derived grades against the proved ones, and the end against what is proved of every run: under majority
+/// complete marks decided trucks agree, and after five calm rounds no truck runs.
+pub fn hold_against_proofs(story: &Story) -> Result<(), Failure> {
+    let derived = grades_of(&story.rounds);
+    hold(derived == story.grades, || {
+        format!("the grades are derived as {derived:?}, but are {:?}", story.grades)
+    })?;
+    let crushers = decided_crushers(story);
+    hold(story.grades.majority != 0 || crushers.len() < 2, || {
+        "decided trucks differ under majority complete marks".to_string()
+    })?;
+    if let Some(calm) = first_calm(&story.rounds) {
+        let ended = story.end.iter().all(|truck| match truck.state {
+            State::Running => false,
+            State::Stopped(round) | State::Decided(round) => round <= calm.last(),
+        });
+        hold(ended, || format!("a truck runs on after the calm rounds from {}", calm.from))?;
+    }
+    Ok(())
+}
+
+/// How often each thing happened.
+#[derive(Clone, Copy, Debug, Default, PartialEq, Eq)]
+pub struct Counts {
+    /// Proposals sent.
+    pub proposals: usize,
+    /// Vetoes sent.
+    pub vetoes: usize,
+    /// Messages missed: one for each truck that misses it.
+    pub missed: usize,
+    /// Marks of running trucks, false ones included.
+    pub marks: usize,
+    /// False marks.
+    pub false_marks: usize,
+    /// Trucks that decided.
+    pub decided: usize,
+    /// Trucks that stopped.
+    pub stopped: usize,
+}
+
+/// Counts a story.
+pub fn counts(story: &Story) -> Counts {
+    let mut counts = Counts::default();
+    for turn in story.rounds.iter().flat_map(|round| &round.turns) {
+        match turn.sent {
+            Some(Message::Value(_)) => counts.proposals += 1,
+            Some(Message::Veto) => counts.vetoes += 1,
+            None => {}
+        }
+        counts.missed += turn.missed.count();
+        counts.marks += usize::from(turn.marked);
+        counts.false_marks += usize::from(turn.false_mark);
+        counts.decided += usize::from(turn.decides);
+        counts.stopped += usize::from(turn.stops);
+    }
+    counts
+}
+
+/// The crushers that were decided, least first, each with the trucks that decided it.
+pub fn decided_crushers(story: &Story) -> Vec<(u8, TruckSet)> {
+    let chosen = |crusher: u8| {
+        TruckSet::of(story.end.len(), |i| {
+            let truck = &story.end[i];
+            matches!(truck.state, State::Decided(_)) && truck.estimate == crusher
+        })
+    };
+    (0..16).map(|crusher| (crusher, chosen(crusher))).filter(|(_, set)| !set.is_empty()).collect()
+}
+
+/// The closing sentences: what the marks were worth, what was decided, and whether five rounds were calm.
+pub fn sentences(story: &Story) -> Vec<String> {
+    vec![marks_sentence(story), decided_sentence(story), calm_sentence(story)]
+}
+
+fn marks_sentence(story: &Story) -> String {
+    let Some(round) = story.rounds.iter().find(|round| round.number == story.grades.majority)
+    else {
+        return "Marks were majority complete in every round: no two decided trucks can differ."
+            .to_string();
+    };
+    let sent = round.senders.count();
+    let broke = |heard: usize| {
+        TruckSet::of(round.turns.len(), |i| {
+            let turn = &round.turns[i];
+            Breaks::of(turn, sent).majority && turn.heard.count() == heard
+        })
+    };
+    let parts: Vec<String> = (0..=sent)
+        .map(|heard| (heard, broke(heard)))
+        .filter(|(_, trucks)| !trucks.is_empty())
+        .map(|(heard, trucks)| {
+            format!("{} heard {heard} of {}", trucks.named(), counted(sent, "message"))
+        })
+        .collect();
+    format!(
+        "Marks were not majority complete: first in round {}, where without a mark {}; nothing rules out that decided trucks differ.",
+        round.number,
+        parts.join(", ")
+    )
+}
+
+fn decided_sentence(story: &Story) -> String {
+    let crushers = decided_crushers(story);
+    let (count, decided) = (story.end.len(), counts(story).decided);
+    let last = story.end.iter().filter_map(|truck| match truck.state {
+        State::Decided(round) => Some(round),
+        _ => None,
+    });
+    let last = last.max().unwrap_or(0);
+    let who = if decided == count {
+        "Every truck decided".to_string()
+    } else {
+        format!("{decided} of {} decided", counted(count, "truck"))
+    };
+    let what = match crushers.as_slice() {
+        [] => return format!("No truck decided.{}", others(story)),
+        [(crusher, _)] => format!(" crusher {crusher}, the last in round {last}"),
+        several => {
+            let each =
+                several.iter().map(|(c, trucks)| format!("crusher {c} by {}", trucks.named()));
+            format!(", but on different crushers: {}", each.collect::<Vec<_>>().join(", "))
+        }
+    };
+    format!("{who}{what}.{}", others(story))
+}
+
+/// The trucks that did not decide.
+fn others(story: &Story) -> String {
+    let set = |of: fn(State) -> bool| TruckSet::of(story.end.len(), |i| of(story.end[i].state));
+    let stopped = set(|state| matches!(state, State::Stopped(_)));
+    let running = set(|state| state == State::Running);
+    let mut said = String::new();
+    if !stopped.is_empty() {
+        said += &format!(" Stopped: {}.", stopped.named());
+    }
+    if !running.is_empty() {
+        said += &format!(" Still running: {}.", running.named());
+    }
+    said
+}
+
+fn calm_sentence(story: &Story) -> String {
+    let Some(calm) = first_calm(&story.rounds) else {
+        return "No five rounds in a row were calm.".to_string();
+    };
+    let how = match calm.senders {
+        0 => "as no truck runs in a proposal round of these".to_string(),
+        b => format!("with at most {} in a proposal round", counted(b, "sender")),
+    };
+    let (from, last) = (calm.from, calm.last());
+    format!("Rounds {from} to {last} are calm, {how}: every truck has decided or stopped by round {last}.")
+}

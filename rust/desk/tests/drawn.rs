@@ -1,0 +1,300 @@
+//! The picture: well-formed, complete within its frame, and with one element for each event that the independent reading
+//! counts, on cases worked by hand and on recordings from fixed seeds.
+
+use std::collections::BTreeMap;
+
+use desk::picture::picture;
+use desk::story::tell;
+use oracle::gen::{self, Rng, FULL, SMALL, TINY};
+use oracle::marks::{airs, round_is_calm};
+use oracle::steps::follow;
+use oracle::{Air, Header, Plain, State, Truck};
+
+const C1: [u8; 8] = [0x08, 0x04, 0x35, 0x30, 0x00, 0x03, 0x00, 0x00];
+const C2: [u8; 6] = [0x08, 0x02, 0x35, 0x31, 0x80, 0x00];
+const C3: [u8; 6] = [0x08, 0x02, 0x35, 0x3D, 0x80, 0x00];
+
+/// An element: its name and its attributes.
+struct Element {
+    name: String,
+    attributes: BTreeMap<String, String>,
+    text: String,
+}
+
+impl Element {
+    fn has(&self, class: &str) -> bool {
+        self.attributes.get("class").is_some_and(|all| all.split(' ').any(|one| one == class))
+    }
+
+    fn number(&self, attribute: &str) -> Option<i32> {
+        self.attributes.get(attribute).map(|value| value.parse().unwrap())
+    }
+}
+
+/// The attributes of a tag, each with its value in double quotes.
+fn attributes(mut rest: &str) -> BTreeMap<String, String> {
+    let mut all = BTreeMap::new();
+    while !rest.trim().is_empty() {
+        let (name, after) = rest.trim_start().split_once("=\"").expect("an attribute");
+        let (value, after) = after.split_once('"').expect("a closing quote");
+        assert!(name.chars().all(|c| c.is_ascii_alphanumeric() || c == '-'), "{name}");
+        assert!(!value.contains(['<', '&']), "{value}");
+        assert!(all.insert(name.to_string(), value.to_string()).is_none(), "{name} twice");
+        rest = after;
+    }
+    all
+}
+
+/// Reads a picture; panics unless it is well-formed.
+fn elements(svg: &str) -> Vec<Element> {
+    let mut all: Vec<Element> = Vec::new();
+    let mut open: Vec<String> = Vec::new();
+    let mut rest = svg;
+    while let Some((text, after)) = rest.split_once('<') {
+        assert!(!text.contains('&'), "{text}");
+        let (tag, after) = after.split_once('>').expect("a closing bracket");
+        if let Some(name) = tag.strip_prefix('/') {
+            assert_eq!(open.pop().as_deref(), Some(name));
+            if let Some(last) = all.last_mut().filter(|last| last.name == name) {
+                last.text = text.to_string();
+            }
+        } else {
+            let (tag, closed) = tag.strip_suffix('/').map_or((tag, false), |tag| (tag, true));
+            let (name, attributed) = tag.split_once(' ').unwrap_or((tag, ""));
+            if !closed {
+                open.push(name.to_string());
+            }
+            let attributes = attributes(attributed);
+            all.push(Element { name: name.to_string(), attributes, text: String::new() });
+        }
+        rest = after;
+    }
+    assert!(open.is_empty() && rest.trim().is_empty());
+    assert_eq!(all[0].name, "svg");
+    all
+}
+
+fn drawn(recording: &[u8]) -> Vec<Element> {
+    elements(&picture(&tell(recording).unwrap()))
+}
+
+fn count(elements: &[Element], class: &str) -> usize {
+    elements.iter().filter(|element| element.has(class)).count()
+}
+
+/// The events, in the order in which the tests write them down.
+const EVENTS: [&str; 8] = ["cell", "sent", "veto", "missed", "mark", "false", "stopped", "decided"];
+
+fn events(elements: &[Element]) -> [usize; 8] {
+    EVENTS.map(|class| count(elements, class))
+}
+
+#[test]
+fn cases_by_hand() {
+    // C1: two trucks run in four rounds, send twice each, veto once each and decide.
+    let c1 = drawn(&C1);
+    assert_eq!(events(&c1), [8, 4, 2, 0, 0, 0, 0, 2]);
+    // A number for each opening, for truck 1's change to 3, and for each decision.
+    assert_eq!(count(&c1, "number"), 5);
+    assert_eq!((count(&c1, "even"), count(&c1, "broken"), count(&c1, "calm")), (2, 0, 0));
+    // C2: each sends once, misses once and decides; majority completeness is broken.
+    let c2 = drawn(&C2);
+    assert_eq!(events(&c2), [4, 2, 0, 2, 0, 0, 0, 2]);
+    assert_eq!((count(&c2, "even"), count(&c2, "broken")), (1, 1));
+    // C3: with a mark each, both veto.
+    assert_eq!(events(&drawn(&C3)), [4, 2, 2, 2, 2, 0, 0, 0]);
+    // C5: no rounds, so nothing but openings.
+    let c5 = drawn(&[0x08, 0x00, 0x35]);
+    assert_eq!(events(&c5), [0; 8]);
+    assert_eq!((count(&c5, "opening"), count(&c5, "number")), (2, 2));
+}
+
+#[test]
+fn the_largest_recording_of_zeros_is_a_bar_for_each_truck() {
+    let mut recording = vec![0x81, 0x90];
+    recording.resize(56_018, 0);
+    let elements = drawn(&recording);
+    assert_eq!(events(&elements), [0; 8]);
+    assert_eq!((count(&elements, "bar"), count(&elements, "opening")), (32, 32));
+    assert_eq!(count(&elements, "even"), 200);
+    assert_eq!(count(&elements, "rest"), 0);
+}
+
+/// What the independent reading counts for a picture.
+#[derive(Debug, Default, PartialEq, Eq)]
+struct Counted {
+    events: [usize; 8],
+    /// Truck rounds after which the estimate is a crusher, for each crusher.
+    crushers: [usize; 16],
+    bars: usize,
+    changes: usize,
+    rests: usize,
+    broken: usize,
+    calm: usize,
+}
+
+/// What happens to truck i in a round, in the order of the events.
+fn happened(air: &Air, after: &Truck, i: usize) -> [bool; 8] {
+    let marked = air.running[i] && air.mark_bit[i];
+    [
+        air.running[i],
+        air.sends[i] && air.is_proposal(),
+        air.sends[i] && !air.is_proposal(),
+        air.running[i] && air.missed(i) > 0,
+        marked,
+        marked && air.missed(i) == 0,
+        after.state == State::Stopped(air.round),
+        after.state == State::Decided(air.round),
+    ]
+}
+
+fn counted(plain: &Plain) -> Counted {
+    let mut counted = Counted::default();
+    let (_, mut before) = oracle::start(plain.n as u64, &plain.openings);
+    let mut last = vec![None; plain.n];
+    let airs = airs(plain);
+    for air in &airs {
+        let after = follow(&before, plain.round(air.round as usize));
+        for (i, last) in last.iter_mut().enumerate() {
+            let (was, is) = (&before.trucks[i], &after.trucks[i]);
+            for (total, happened) in counted.events.iter_mut().zip(happened(air, is, i)) {
+                *total += usize::from(happened);
+            }
+            counted.changes += usize::from(was.estimate != is.estimate);
+            if air.running[i] {
+                counted.crushers[usize::from(is.estimate)] += 1;
+                counted.bars += usize::from(*last != Some(is.estimate));
+                *last = Some(is.estimate);
+            }
+        }
+        before = after;
+    }
+    let rests = |truck: &&Truck| match truck.state {
+        State::Running => false,
+        State::Stopped(round) | State::Decided(round) => usize::from(round) < plain.rounds,
+    };
+    counted.rests = before.trucks_below_n().iter().filter(rests).count();
+    counted.broken = usize::from(!oracle::marks::majority_complete(plain));
+    let calm = |b: u64| airs.windows(5).any(|five| five.iter().all(|air| round_is_calm(air, b)));
+    counted.calm = usize::from((0..=32).any(calm));
+    counted
+}
+
+/// A picture against what the independent reading counts, wide or narrow.
+fn hold(plain: &Plain) {
+    let elements = drawn(&gen::bytes_of(plain));
+    let expected = counted(plain);
+    let mut events = events(&elements);
+    let wide = plain.rounds <= 52;
+    if wide {
+        let numbers = plain.n + expected.changes + expected.events[7];
+        assert_eq!(count(&elements, "number"), numbers);
+        assert_eq!(count(&elements, "bar"), 0);
+        for crusher in 0..16 {
+            let class = format!("c{crusher}");
+            let cells = elements.iter().filter(|e| e.has("cell") && e.has(&class)).count();
+            assert_eq!(cells, expected.crushers[crusher], "crusher {crusher}");
+        }
+    } else {
+        assert_eq!(count(&elements, "bar"), expected.bars);
+        // Equal rounds are one bar, so there is no cell for each.
+        assert_eq!(events[0], 0);
+        events[0] = expected.events[0];
+    }
+    assert_eq!(events, expected.events, "{EVENTS:?}");
+    assert_eq!(count(&elements, "opening"), plain.n);
+    assert_eq!(count(&elements, "even"), plain.rounds / 2);
+    assert_eq!(count(&elements, "rest"), expected.rests);
+    assert_eq!(count(&elements, "broken"), expected.broken);
+    assert_eq!(count(&elements, "calm"), expected.calm);
+    within_the_frame(&elements);
+}
+
+/// The size of a text's face, by its class.
+fn face(element: &Element) -> i32 {
+    match () {
+        _ if element.has("title") => 20,
+        _ if element.has("verdict") => 14,
+        _ => 12,
+    }
+}
+
+/// No box and no text reaches out of the picture. A character is taken to be 6 tenths of its face wide.
+fn within_the_frame(elements: &[Element]) {
+    let (width, height) =
+        (elements[0].number("width").unwrap(), elements[0].number("height").unwrap());
+    for element in &elements[1..] {
+        let (x, y) = (element.number("x").unwrap_or(0), element.number("y").unwrap_or(0));
+        assert!(x >= 0 && y >= 0 && y <= height, "{:?}", element.attributes);
+        let (w, h) = (element.number("width").unwrap_or(0), element.number("height").unwrap_or(0));
+        assert!(x + w <= width && y + h <= height, "{:?}", element.attributes);
+        let anchored = element.attributes.get("text-anchor").map_or("start", String::as_str);
+        if element.name == "text" && anchored == "start" {
+            let long = element.text.chars().count() as i32 * face(element) * 6 / 10;
+            assert!(x + long <= width, "{} at {x} of {width}", element.text);
+        }
+    }
+}
+
+#[test]
+fn an_element_for_each_event() {
+    let mut rng = Rng::new(0x5176);
+    for k in 0..400 {
+        let limits = if k % 4 == 0 { SMALL } else { TINY };
+        let plain = match k % 3 {
+            0 => gen::plain(&mut rng, limits),
+            1 => gen::majority_complete(&mut rng, limits),
+            _ => gen::calm(&mut rng, limits, true).plain,
+        };
+        hold(&plain);
+    }
+    for _ in 0..6 {
+        hold(&gen::plain(&mut rng, FULL));
+    }
+}
+
+#[test]
+fn sizes_at_which_the_picture_changes_its_scale() {
+    let mut rng = Rng::new(0x512E);
+    for (n, rounds) in [
+        (12, 24),
+        (12, 25),
+        (13, 24),
+        (32, 24),
+        (1, 52),
+        (1, 53),
+        (32, 52),
+        (32, 53),
+        (1, 400),
+        (32, 400),
+        (32, 1),
+        (1, 1),
+    ] {
+        hold(&gen::plain_of_size(&mut rng, Header { n, rounds }));
+    }
+}
+
+#[test]
+fn nothing_from_elsewhere_and_a_title() {
+    let svg = picture(&tell(&C2).unwrap());
+    let elements = elements(&svg);
+    let root = &elements[0].attributes;
+    assert_eq!(root["role"], "img");
+    assert_eq!(root["aria-labelledby"], "title desc");
+    let named =
+        |id: &str| elements.iter().find(|e| e.attributes.get("id").is_some_and(|i| i == id));
+    assert_eq!(named("title").unwrap().text, "2 trucks, 2 rounds");
+    assert!(named("desc")
+        .unwrap()
+        .text
+        .contains("Marks were not majority complete: first in round 1"));
+    let known = ["svg", "title", "desc", "style", "g", "rect", "path", "text"];
+    assert!(elements.iter().all(|element| known.contains(&element.name.as_str())));
+    assert!(svg.contains("@media (prefers-color-scheme:dark)"));
+    for foreign in ["href", "url(", "@import", "script", "onload"] {
+        assert!(!svg.contains(foreign), "{foreign}");
+    }
+    // The name space is the only address.
+    assert_eq!(svg.matches("://").count(), 1);
+    assert_eq!(root["xmlns"], "http://www.w3.org/2000/svg");
+}

@@ -1,0 +1,317 @@
+//! What is told of a recording: against cases worked by hand from the scope paper, against the independent reading on
+//! recordings from fixed seeds, and that tampered answers are met with a contradiction.
+
+use desk::story::{tell, Answers, Failure, Message, Story, Turn};
+use desk::trucks::TruckSet;
+use desk::verdict::{
+    counts, decided_crushers, first_calm, grades_of, hold_against_proofs, Calm, Counts,
+};
+use oracle::gen::{self, Limits, Rng, FULL, SMALL, TINY};
+use oracle::marks::{airs, round_is_calm};
+use oracle::steps::follow;
+use rajvokshul::{Fleet, Grades, Refusal, State};
+
+const C1: [u8; 8] = [0x08, 0x04, 0x35, 0x30, 0x00, 0x03, 0x00, 0x00];
+const C2: [u8; 6] = [0x08, 0x02, 0x35, 0x31, 0x80, 0x00];
+const C3: [u8; 6] = [0x08, 0x02, 0x35, 0x3D, 0x80, 0x00];
+
+const BOTH: TruckSet = TruckSet(0b11);
+const NOBODY: TruckSet = TruckSet(0);
+
+/// A recording of plain rounds.
+fn recorded(openings: &[u8], rounds: &[&[u32]]) -> Vec<u8> {
+    let (n, r) = (openings.len() as u32, rounds.len() as u32);
+    rajvokshul::write(n, r, openings, &rounds.concat()).unwrap()
+}
+
+/// A running truck that misses nothing and has no mark.
+fn turn(before: u8, after: u8, sent: Option<Message>, heard: TruckSet) -> Turn {
+    Turn {
+        runs: true,
+        stops: false,
+        sent,
+        heard,
+        missed: NOBODY,
+        marked: false,
+        false_mark: false,
+        before,
+        after,
+        decides: false,
+    }
+}
+
+fn value(crusher: u8) -> Option<Message> {
+    Some(Message::Value(crusher))
+}
+
+fn grades(complete: u16, majority: u16, zero: u16, accurate: u16) -> Grades {
+    Grades { complete, majority, zero, accurate }
+}
+
+#[test]
+fn c1_two_values_then_one() {
+    let story = tell(&C1).unwrap();
+    assert_eq!(story.openings, [3, 5]);
+    let turns: Vec<&[Turn]> = story.rounds.iter().map(|round| round.turns.as_slice()).collect();
+    assert_eq!(turns[0], [turn(3, 3, value(3), BOTH), turn(5, 3, value(5), BOTH)]);
+    assert_eq!(turns[1], [turn(3, 3, Some(Message::Veto), BOTH); 2]);
+    assert_eq!(turns[2], [turn(3, 3, value(3), BOTH); 2]);
+    assert_eq!(turns[3], [Turn { decides: true, ..turn(3, 3, None, NOBODY) }; 2]);
+    assert_eq!(turns.len(), 4);
+    assert_eq!(story.grades, grades(0, 0, 0, 0));
+    assert_eq!(decided_crushers(&story), [(3, BOTH)]);
+    let counted = Counts { proposals: 4, vetoes: 2, decided: 2, ..Counts::default() };
+    assert_eq!(counts(&story), counted);
+}
+
+#[test]
+fn c2_each_misses_the_other() {
+    let story = tell(&C2).unwrap();
+    let missing = |i: u32, crusher: u8| Turn {
+        missed: TruckSet(0b11 & !(1 << i)),
+        ..turn(crusher, crusher, value(crusher), TruckSet(1 << i))
+    };
+    assert_eq!(story.rounds[0].turns, [missing(0, 3), missing(1, 5)]);
+    let decides = |crusher: u8| Turn { decides: true, ..turn(crusher, crusher, None, NOBODY) };
+    assert_eq!(story.rounds[1].turns, [decides(3), decides(5)]);
+    assert_eq!(story.grades, grades(1, 1, 0, 0));
+    assert_eq!(decided_crushers(&story), [(3, TruckSet(0b01)), (5, TruckSet(0b10))]);
+}
+
+#[test]
+fn c3_marks_hold_both_back() {
+    let story = tell(&C3).unwrap();
+    let marked = |i: u32, crusher: u8| Turn {
+        missed: TruckSet(0b11 & !(1 << i)),
+        marked: true,
+        ..turn(crusher, crusher, value(crusher), TruckSet(1 << i))
+    };
+    assert_eq!(story.rounds[0].turns, [marked(0, 3), marked(1, 5)]);
+    let vetoes = |crusher: u8| turn(crusher, crusher, Some(Message::Veto), BOTH);
+    assert_eq!(story.rounds[1].turns, [vetoes(3), vetoes(5)]);
+    assert_eq!(story.grades, grades(0, 0, 0, 0));
+    assert!(decided_crushers(&story).is_empty());
+}
+
+#[test]
+fn c4_one_truck_alone() {
+    let story = tell(&[0x04, 0x02, 0x74, 0x00]).unwrap();
+    assert_eq!(story.rounds[0].turns, [turn(7, 7, value(7), TruckSet(1))]);
+    assert_eq!(story.rounds[1].turns, [Turn { decides: true, ..turn(7, 7, None, NOBODY) }]);
+    // Never active: silent rounds decide nothing.
+    let story = tell(&[0x04, 0x02, 0x70, 0x00]).unwrap();
+    assert_eq!(story.rounds[0].turns, [turn(7, 7, None, NOBODY)]);
+    assert_eq!(story.rounds[1].turns, [turn(7, 7, None, NOBODY)]);
+}
+
+#[test]
+fn c13_two_of_three_is_a_majority() {
+    let story = tell(&recorded(&[4, 6, 9], &[&[0, 0b111, 0, 0, 0, 0b001]])).unwrap();
+    let all = TruckSet(0b111);
+    let third = Turn { missed: TruckSet(0b001), ..turn(9, 6, value(9), TruckSet(0b110)) };
+    assert_eq!(
+        story.rounds[0].turns,
+        [turn(4, 4, value(4), all), turn(6, 4, value(6), all), third]
+    );
+    assert_eq!(story.grades, grades(1, 0, 0, 0));
+}
+
+#[test]
+fn a_stop_and_a_false_mark() {
+    // Truck 0 stops in round 1; truck 1 sends and hears itself, has a false mark in round 2, and so runs on.
+    let rounds: [&[u32]; 2] = [&[0b01, 0b11, 0b01, 0, 0], &[0, 0, 0b10, 0, 0]];
+    let story = tell(&recorded(&[3, 5], &rounds)).unwrap();
+    let away = Turn { runs: false, ..turn(3, 3, None, NOBODY) };
+    let alone = turn(5, 5, value(5), TruckSet(0b10));
+    assert_eq!(story.rounds[0].turns, [Turn { stops: true, ..away }, alone]);
+    let held = Turn { marked: true, false_mark: true, ..turn(5, 5, None, NOBODY) };
+    assert_eq!(story.rounds[1].turns, [away, held]);
+    assert_eq!(story.end[0].state, State::Stopped(1));
+    assert_eq!(story.end[1].state, State::Running);
+    assert_eq!(story.grades, grades(0, 0, 0, 2));
+}
+
+#[test]
+fn a_refused_recording_has_no_story() {
+    assert_eq!(tell(&C1[..7]), Err(Failure::Refused(Refusal::RecordingLength)));
+    assert_eq!(tell(&[]), Err(Failure::Refused(Refusal::ShortRecording)));
+}
+
+/// Mostly tiny recordings, some small ones, now and then one of any size.
+fn mixed(k: usize) -> Limits {
+    match k {
+        k if k % 400 == 0 => FULL,
+        k if k % 8 == 0 => SMALL,
+        _ => TINY,
+    }
+}
+
+/// Every turn of a story against the independent reading.
+fn hold_turns(plain: &oracle::Plain, story: &Story) {
+    let (_, mut before) = oracle::start(plain.n as u64, &plain.openings);
+    for (index, air) in airs(plain).iter().enumerate() {
+        let after = follow(&before, plain.round(index + 1));
+        let round = &story.rounds[index];
+        assert_eq!(usize::from(round.number), index + 1);
+        for i in 0..plain.n {
+            let (was, is) = (&before.trucks[i], &after.trucks[i]);
+            let sent = match (air.sends[i], air.is_proposal()) {
+                (false, _) => None,
+                (true, true) => Some(Message::Value(was.estimate)),
+                (true, false) => Some(Message::Veto),
+            };
+            let missed = |j: usize| air.running[i] && air.sends[j] && !air.hears[i][j];
+            let marked = air.running[i] && air.mark_bit[i];
+            let expected = Turn {
+                runs: air.running[i],
+                stops: was.is_running() && is.state == oracle::State::Stopped(air.round),
+                sent,
+                heard: TruckSet::of(plain.n, |j| air.hears[i][j]),
+                missed: TruckSet::of(plain.n, missed),
+                marked,
+                false_mark: marked && air.missed(i) == 0,
+                before: was.estimate,
+                after: is.estimate,
+                decides: was.is_running() && is.state == oracle::State::Decided(air.round),
+            };
+            assert_eq!(round.turns[i], expected, "round {}, truck {i}", air.round);
+        }
+        before = after;
+    }
+}
+
+/// The counts by the independent reading.
+fn counts_of(plain: &oracle::Plain) -> Counts {
+    let mut counts = Counts::default();
+    for air in airs(plain) {
+        let sent = if air.is_proposal() { &mut counts.proposals } else { &mut counts.vetoes };
+        *sent += air.messages();
+        for i in air.running_trucks() {
+            counts.missed += air.missed(i);
+            counts.marks += usize::from(air.mark_bit[i]);
+            counts.false_marks += usize::from(air.mark_bit[i] && air.missed(i) == 0);
+        }
+    }
+    let (_, end) = oracle::run(&gen::bytes_of(plain));
+    for truck in end.trucks_below_n() {
+        match truck.state {
+            oracle::State::Running => {}
+            oracle::State::Stopped(_) => counts.stopped += 1,
+            oracle::State::Decided(_) => counts.decided += 1,
+        }
+    }
+    counts
+}
+
+/// The first calm stretch by trying every S and every b.
+fn calm_by_trying(plain: &oracle::Plain) -> Option<Calm> {
+    let airs = airs(plain);
+    for (index, five) in airs.windows(5).enumerate() {
+        for b in 0..=33 {
+            if five.iter().all(|air| round_is_calm(air, b)) {
+                return Some(Calm { from: index as u16 + 1, senders: b as usize });
+            }
+        }
+    }
+    None
+}
+
+#[test]
+fn told_as_the_independent_reading_tells_it() {
+    let mut rng = Rng::new(0xDE51);
+    let (mut calm, mut broken) = (0, 0);
+    for k in 0..4_000 {
+        let plain = match k % 4 {
+            0 => gen::plain(&mut rng, mixed(k)),
+            1 => gen::majority_complete(&mut rng, mixed(k)),
+            _ => gen::calm(&mut rng, mixed(k), k % 4 == 2).plain,
+        };
+        let story = tell(&gen::bytes_of(&plain)).unwrap();
+        assert_eq!(story.openings, plain.openings);
+        assert_eq!(story.rounds.len(), plain.rounds);
+        hold_turns(&plain, &story);
+        assert_eq!(counts(&story), counts_of(&plain));
+        let expected = oracle::grade(&gen::bytes_of(&plain)).unwrap();
+        let Grades { complete, majority, zero, accurate } = grades_of(&story.rounds);
+        assert_eq!([complete, majority, zero, accurate], expected);
+        assert_eq!(first_calm(&story.rounds), calm_by_trying(&plain));
+        calm += usize::from(first_calm(&story.rounds).is_some());
+        broken += usize::from(story.grades.majority != 0);
+    }
+    // The seeds make many of each kind.
+    assert!(calm > 500 && broken > 500, "{calm} calm, {broken} broken");
+}
+
+fn contradicted(answers: &Answers) -> bool {
+    matches!(answers.story(), Err(Failure::Contradiction(_)))
+}
+
+#[test]
+fn tampered_records_are_contradicted() {
+    for recording in [&C1[..], &C2, &C3] {
+        let answers = Answers::ask(recording).unwrap();
+        assert!(answers.story().is_ok());
+        for k in 0..answers.records.len() {
+            // n, the rounds done and the places of both trucks; places above n say nothing.
+            for at in 0..3 + 7 * 2 {
+                let mut bytes = *answers.records[k].as_bytes();
+                bytes[at] ^= 1;
+                let mut tampered = answers.clone();
+                tampered.records[k] = Fleet::from_bytes(bytes);
+                assert!(contradicted(&tampered), "record {k}, byte {at}");
+            }
+        }
+        let mut tampered = answers.clone();
+        tampered.ran = answers.records[0].clone();
+        assert!(contradicted(&tampered));
+        let mut tampered = answers.clone();
+        tampered.records.pop();
+        assert!(contradicted(&tampered));
+    }
+}
+
+#[test]
+fn tampered_grades_openings_and_words_are_contradicted() {
+    let answers = Answers::ask(&C2).unwrap();
+    for class in 0..4 {
+        let mut tampered = answers.clone();
+        let Grades { complete, majority, zero, accurate } = &mut tampered.grades;
+        *[complete, majority, zero, accurate][class] ^= 1;
+        assert!(contradicted(&tampered), "class {class}");
+    }
+    let mut tampered = answers.clone();
+    tampered.plain.openings[0] = 4;
+    assert!(contradicted(&tampered));
+    let mut tampered = answers.clone();
+    tampered.plain.rounds = 3;
+    assert!(contradicted(&tampered));
+    // In round 1 every word matters: stop, active and mark bits, and what each truck missed.
+    for word in 0..5 {
+        let mut tampered = answers.clone();
+        tampered.plain.words[word] ^= if word == 3 { 0b10 } else { 0b01 };
+        assert!(contradicted(&tampered), "word {word}");
+    }
+}
+
+/// A story that no recording has is held against what is proved of all of them.
+#[test]
+fn what_is_proved_of_every_run_is_asked_of_a_story() {
+    let contradicted =
+        |story: &Story| matches!(hold_against_proofs(story), Err(Failure::Contradiction(_)));
+    // Decided trucks that differ, though no round breaks anything.
+    let mut differ = tell(&C2).unwrap();
+    differ.rounds.clear();
+    differ.grades = grades(0, 0, 0, 0);
+    assert!(contradicted(&differ));
+    differ.end[1].estimate = differ.end[0].estimate;
+    assert!(!contradicted(&differ));
+    // A truck that runs on after five calm rounds, and one that decided later than they end.
+    let alone: [&[u32]; 6] = [&[0, 1, 0, 0], &[0; 4], &[0; 4], &[0; 4], &[0; 4], &[0; 4]];
+    let mut calm = tell(&recorded(&[7], &alone)).unwrap();
+    assert_eq!(first_calm(&calm.rounds), Some(Calm { from: 1, senders: 1 }));
+    assert_eq!(calm.end[0].state, State::Decided(2));
+    calm.end[0].state = State::Running;
+    assert!(contradicted(&calm));
+    calm.end[0].state = State::Decided(6);
+    assert!(contradicted(&calm));
+}

@@ -1,0 +1,145 @@
+//! The timeline, on recordings whose text follows from the rules of the scope paper by hand.
+
+use desk::story::tell;
+use desk::timeline::timeline;
+use desk::trucks::{counted, TruckSet};
+use desk::verdict::sentences;
+use oracle::gen::{self, Rng, SMALL, TINY};
+
+fn text(openings: &[u8], rounds: &[&[u32]]) -> String {
+    let (n, r) = (openings.len() as u32, rounds.len() as u32);
+    let recording = rajvokshul::write(n, r, openings, &rounds.concat()).unwrap();
+    timeline(&tell(&recording).unwrap())
+}
+
+#[test]
+fn c13_in_words() {
+    let said = text(&[4, 6, 9], &[&[0, 0b111, 0, 0, 0, 0b001]]);
+    let expected = "\
+3 trucks, 1 round
+
+truck 0 opens with crusher 4
+truck 1 opens with crusher 6
+truck 2 opens with crusher 9
+
+round 1 (proposal): 3 of 3 running, 3 proposals sent (trucks 0-2)
+  truck 0  sent 4   estimate 4         heard 3 of 3
+  truck 1  sent 6   estimate 6 -> 4    heard 3 of 3
+  truck 2  sent 9   estimate 9 -> 6    heard 2 of 3 (trucks 1, 2), missed truck 0; breaks complete
+
+verdict
+  Marks were majority complete in every round: no two decided trucks can differ.
+  No truck decided. Still running: trucks 0-2.
+  No five rounds in a row were calm.
+";
+    assert_eq!(said, expected);
+}
+
+#[test]
+fn stops_marks_calm_and_rounds_in_which_nobody_runs() {
+    // Truck 0 stops in round 2 after it sent; truck 1 has a false mark in round 2, sends alone in round 3 and decides in
+    // round 4. From round 3 on everything is calm with one sender.
+    let alone = [0, 0b10, 0, 0, 0];
+    let rounds: [&[u32]; 8] = [
+        &[0, 0b01, 0b10, 0, 0b01],
+        &[0b01, 0b11, 0b11, 0, 0],
+        &alone,
+        &[0; 5],
+        &[0b11, 0b11, 0b11, 0, 0],
+        &[0; 5],
+        &[0; 5],
+        &[0; 5],
+    ];
+    let expected = "\
+2 trucks, 8 rounds
+
+truck 0 opens with crusher 12
+truck 1 opens with crusher 5
+
+round 1 (proposal): 2 of 2 running, 1 proposal sent (truck 0)
+  truck 0  sent 12  estimate 12        heard 1 of 1
+  truck 1  silent   estimate 5         heard 0 of 1, missed truck 0; mark
+round 2 (veto): 1 of 2 running, 1 veto sent (truck 1)
+  truck 0  stopped  estimate 12
+  truck 1  vetoed   estimate 5         heard 1 of 1; false mark; breaks accurate
+round 3 (proposal): 1 of 2 running, 1 proposal sent (truck 1)
+  truck 1  sent 5   estimate 5         heard 1 of 1
+round 4 (veto): 1 of 2 running, 0 vetoes sent
+  truck 1  silent   estimate 5         nothing to hear; decided 5
+rounds 5 to 8: no truck runs
+
+verdict
+  Marks were majority complete in every round: no two decided trucks can differ.
+  1 of 2 trucks decided crusher 5, the last in round 4. Stopped: truck 0.
+  Rounds 3 to 7 are calm, with at most 1 sender in a proposal round: every truck has decided or stopped by round 7.
+";
+    assert_eq!(text(&[12, 5], &rounds), expected);
+}
+
+#[test]
+fn a_breach_names_the_trucks_by_what_they_heard() {
+    // Five send; truck 0 hears itself alone, trucks 1 and 2 hear two, truck 3 hears three, truck 4 all.
+    let words = [0, 0b11111, 0, 0b11110, 0b11100, 0b11001, 0b00011, 0];
+    let recording = rajvokshul::write(5, 1, &[6; 5], &words).unwrap();
+    let said = sentences(&tell(&recording).unwrap());
+    assert_eq!(
+        said[0],
+        "Marks were not majority complete: first in round 1, where without a mark truck 0 heard 1 of 5 messages, \
+         trucks 1, 2 heard 2 of 5 messages; nothing rules out that decided trucks differ."
+    );
+}
+
+#[test]
+fn no_rounds() {
+    let expected = "\
+1 truck, 0 rounds
+
+truck 0 opens with crusher 15
+
+verdict
+  Marks were majority complete in every round: no two decided trucks can differ.
+  No truck decided. Still running: truck 0.
+  No five rounds in a row were calm.
+";
+    assert_eq!(text(&[15], &[]), expected);
+}
+
+#[test]
+fn sets_and_numbers_in_words() {
+    assert_eq!(TruckSet(0b1).named(), "truck 0");
+    assert_eq!(TruckSet(0b11).named(), "trucks 0, 1");
+    assert_eq!(TruckSet(0b1110_1101).named(), "trucks 0, 2, 3, 5-7");
+    assert_eq!(TruckSet(u32::MAX).named(), "trucks 0-31");
+    assert_eq!(TruckSet(1 << 31).to_string(), "31");
+    assert_eq!(TruckSet(0).to_string(), "");
+    assert_eq!(counted(1, "veto"), "1 veto");
+    assert_eq!(counted(0, "veto"), "0 vetoes");
+    assert_eq!(counted(56_018, "byte"), "56,018 bytes");
+    assert_eq!(counted(12_003, "mark"), "12,003 marks");
+}
+
+/// The verdict's first sentence follows the independent reading, and so do the lines of rounds.
+#[test]
+fn lines_as_the_independent_reading_counts_them() {
+    let mut rng = Rng::new(0x71E5);
+    for k in 0..600 {
+        let plain = gen::plain(&mut rng, if k % 10 == 0 { SMALL } else { TINY });
+        let said = timeline(&tell(&gen::bytes_of(&plain)).unwrap());
+        let complete = oracle::marks::majority_complete(&plain);
+        assert_eq!(said.contains("Marks were majority complete in every round"), complete);
+        let airs = oracle::marks::airs(&plain);
+        let sent: usize = airs.iter().map(|air| air.messages()).sum();
+        let turns = said.lines().filter(|line| line.starts_with("  truck ")).collect::<Vec<_>>();
+        let senders =
+            turns.iter().filter(|line| line.contains("  sent ") || line.contains("  vetoed "));
+        assert_eq!(senders.count(), sent);
+        let (_, end) = oracle::run(&gen::bytes_of(&plain));
+        let ended = |is: fn(oracle::State) -> bool| {
+            end.trucks_below_n().iter().filter(|truck| is(truck.state)).count()
+        };
+        let decided = turns.iter().filter(|line| line.contains("; decided ")).count();
+        assert_eq!(decided, ended(|state| matches!(state, oracle::State::Decided(_))));
+        let stopped = turns.iter().filter(|line| line.contains("  stopped ")).count();
+        assert_eq!(stopped, ended(|state| matches!(state, oracle::State::Stopped(_))));
+    }
+}

@@ -1,0 +1,65 @@
+# The desk program (rust/desk) on the cases of document 01: what it prints, its statuses and its pictures. What is expected is written by hand from the paper's rules (tests/desk).
+desk=rust/target/release/desk
+build_desk() { (cd rust && cargo build --offline --release -q -p desk); }
+expect "the desk program" build_desk
+said=$(mktemp -d)
+# STATUS COMMAND..: the program on standard input; what it prints is kept in out and err
+desk_ends() {
+    local status=$1
+    shift
+    "$desk" "$@" > "$said/out" 2> "$said/err"
+    [ $? -eq "$status" ]
+}
+
+# each case is listed as the program replay lists it; a refused one has status 1 and says why
+desk_lists() { # CASE
+    local refused
+    refused=$(sed -n 's/^refused //p' "${1%.hex}.out")
+    if [ -z "$refused" ]; then
+        desk_ends 0 list < <(bytes_of "$1") && cmp -s "$said/out" "${1%.hex}.out" && [ ! -s "$said/err" ]
+    else
+        desk_ends 1 list < <(bytes_of "$1") && [ ! -s "$said/out" ] && grep -q "^desk: refused $refused: " "$said/err"
+    fi
+}
+desk_explains() { # CASE
+    case $(cat "${1%.hex}.out") in
+        refused*) desk_ends 1 explain < <(bytes_of "$1") && grep -q "^$(cat "${1%.hex}.out"): " "$said/out" && [ "$(wc -l < "$said/out")" -eq 2 ] ;;
+        *) desk_ends 0 explain < <(bytes_of "$1") && grep -q '^accepted: ' "$said/out" ;;
+    esac
+}
+for case in tests/cases/*.hex; do
+    expect "desk list of $case" desk_lists "$case"
+    expect "desk explain of $case" desk_explains "$case"
+done
+desk_says() { # EXPECTED, named CASE.COMMAND.txt
+    local name
+    name=$(basename "$1" .txt)
+    "$desk" "${name#*.}" < <(bytes_of "tests/cases/${name%.*}.hex") | cmp -s - "$1"
+}
+for expected in tests/desk/*.txt; do
+    expect "the desk program says $expected" desk_says "$expected"
+done
+expect "desk grade of C2" test "$(bytes_of tests/cases/c02.hex | "$desk" grade | paste -sd ' ')" = "complete 1 majority 1 zero 0 accurate 0"
+
+# other statuses
+expect "desk without a command" desk_ends 2
+expect "desk with an unknown command" desk_ends 2 draw
+expect "desk with an unknown option" desk_ends 2 list --all
+expect "desk with a file that is not there" desk_ends 3 list tests/desk/none
+desk_full() { "$desk" list < <(bytes_of tests/cases/c01.hex) > /dev/full 2> "$said/err"; [ $? -eq 3 ] && [ -s "$said/err" ]; }
+expect "desk on a full device" desk_full
+desk_cut() { "$desk" timeline < <(printf '\x81\x90'; head -c 56016 /dev/zero) 2> "$said/err" | head -n 1 > "$said/out"; [ ! -s "$said/err" ] && [ "$(cat "$said/out")" = "32 trucks, 400 rounds" ]; }
+expect "desk into a pipe that is closed early" desk_cut
+
+# pictures: read as XML, with one element for each event; the largest recording of zeros has nothing but a bar for each truck
+events="cell bar sent veto missed mark false stopped decided opening even broken"
+draws() { # COUNTS: the picture of standard input has them, in the order of the events
+    "$desk" picture > "$said/svg" && [ "$(python3 tests/desk/classes.py $events < "$said/svg")" = "$1" ]
+}
+expect "the picture of C1" draws "8 0 4 2 0 0 0 0 2 2 2 0" < <(bytes_of tests/cases/c01.hex)
+expect "the picture of C1 is the one in docs" cmp -s "$said/svg" docs/pictures/c1.svg
+expect "the picture of C2" draws "4 0 2 0 2 0 0 0 2 2 1 1" < <(bytes_of tests/cases/c02.hex)
+expect "the picture of C3" draws "4 0 2 2 2 2 0 0 0 2 1 0" < <(bytes_of tests/cases/c03.hex)
+expect "the picture of the largest recording" draws "0 32 0 0 0 0 0 0 0 32 200 0" < <(printf '\x81\x90'; head -c 56016 /dev/zero)
+rm -rf "$said"
+finished=yes

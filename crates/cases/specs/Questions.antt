@@ -1,12 +1,13 @@
 -- What a row of the table asks, and what the definitions answer.
-use mathlib.Core.List.{List}
-use Prim.Native.Nat.{ℕ, _/_, _%_}
+use mathlib.Core.List.{List, _∷_}
+use Prim.Native.Nat.{ℕ, _-_, _/_, _%_}
 use Prim.Native.String.{String}
 use Rattle.basics.specs.Lists.{tab, who}
+use Rattle.radio.specs.Radio.{Radio, sent, heard}
 use Rattle.recording.specs.Packed.{trucksOf, openingsOf, roundAt}
 use Rattle.protocol.specs.declared.Grading.{Grading}
 use Rattle.protocol.specs.declared.Grading.the-variants.{Graded}
-use Rattle.protocol.specs.Rules.{truck}
+use Rattle.protocol.specs.Rules.{truck, valuesHeard}
 use Rattle.protocol.specs.Runs.{trucksAt, radioAt}
 use Rattle.protocol.specs.Fleets.{graded}
 use Rattle.listing.specs.Text.{text, printed}
@@ -21,6 +22,10 @@ pub data Question : Type 0 where
   estimates : ℕ → List ℕ → Question
   -- the trucks of a recording that send in round k
   senders : ℕ → List ℕ → Question
+  -- the values that truck i hears in round k of a recording
+  values : ℕ → ℕ → List ℕ → Question
+  -- how many messages are sent in round k of a recording, and how many of them each truck hears
+  messages : ℕ → List ℕ → Question
   -- the opening crusher of three lists
   opens : List ℕ → List ℕ → List ℕ → Question
   -- the exact seconds of a road of this length, metres and seconds, as quotient and remainder
@@ -33,6 +38,10 @@ pub data Reply : Type 0 where
   opening : ℕ × List ℕ → Reply
   exactly : ℕ × ℕ → Reply
 
+-- round k of a recording on the radio
+abbrev roundOf : List ℕ → ℕ → Radio
+roundOf s k = radioAt (trucksOf s) (openingsOf s) (roundAt s) k
+
 -- the reply that the definitions give
 unfoldable pub reply : Question → Reply
 reply (prints s) = bytes (printed s)
@@ -40,7 +49,9 @@ reply (grades s) = grading (graded s)
 reply (estimates k s) =
     let ts = trucksAt (trucksOf s) (openingsOf s) (roundAt s) k in
     numbers (tab (λ i. truck ts i .estimate) (trucksOf s))
-reply (senders k s) = numbers (who (radioAt (trucksOf s) (openingsOf s) (roundAt s) k .sends) (trucksOf s))
+reply (senders k s) = numbers (who (roundOf s k .sends) (trucksOf s))
+reply (values i k s) = numbers (valuesHeard (roundOf s k) (trucksAt (trucksOf s) (openingsOf s) (roundAt s) (k - 1)) i)
+reply (messages k s) = numbers (sent (roundOf s k) ∷ tab (heard (roundOf s k)) (trucksOf s))
 reply (opens lengths metres seconds) = opening (openingAnswer (openingOf lengths metres seconds))
 reply (takes length metres seconds) =
     let r : Road = record { length = length; metres = metres; seconds = seconds } in

@@ -2,7 +2,7 @@
 use mathlib.Core.List.{List, [], _∷_}
 use Prim.Native.Nat.{ℕ}
 use lib.ListN.{replicate}
-use Rattle.cases.specs.Questions.{Question, prints, grades, estimates, senders, opens, takes, Reply, numbers, opening, exactly, says, gradesAre}
+use Rattle.cases.specs.Questions.{Question, prints, grades, estimates, senders, values, messages, opens, takes, Reply, numbers, opening, exactly, says, gradesAre}
 
 pub record Row : Type 0 where
   pub asks : Question
@@ -25,11 +25,20 @@ c3 = 0x08 ∷ 0x02 ∷ 0x35 ∷ 0x3d ∷ 0x80 ∷ 0x00 ∷ []
 
 unfoldable pub table : List Row
 table =
-    -- C1: both decide 3 in round 4; round 1 gives both estimate 3, and both veto
+    -- C1: both decide 3 in round 4; both propose in rounds 1 and 3; round 1 gives both estimate 3 and two values, so both veto
     (prints c1 ⟶ says "trucks 2 rounds 4\n0 opened 3 decided 3 round 4\n1 opened 5 decided 3 round 4\n")
+    ∷ (senders 1 c1 ⟶ numbers (0 ∷ 1 ∷ []))
+    ∷ (senders 3 c1 ⟶ numbers (0 ∷ 1 ∷ []))
+    ∷ (messages 1 c1 ⟶ numbers (2 ∷ 2 ∷ 2 ∷ []))
+    ∷ (messages 3 c1 ⟶ numbers (2 ∷ 2 ∷ 2 ∷ []))
+    ∷ (values 0 1 c1 ⟶ numbers (3 ∷ 5 ∷ []))
+    ∷ (values 1 1 c1 ⟶ numbers (3 ∷ 5 ∷ []))
+    ∷ (grades c1 ⟶ gradesAre 0 0 0 0)
     ∷ (estimates 1 c1 ⟶ numbers (3 ∷ 3 ∷ []))
     ∷ (senders 2 c1 ⟶ numbers (0 ∷ 1 ∷ []))
-    -- C2: each misses the other without a mark, and they decide 3 and 5
+    -- C2: both send, each misses the other without a mark, so it hears 1 of 2, and they decide 3 and 5
+    ∷ (senders 1 c2 ⟶ numbers (0 ∷ 1 ∷ []))
+    ∷ (messages 1 c2 ⟶ numbers (2 ∷ 1 ∷ 1 ∷ []))
     ∷ (prints c2 ⟶ says "trucks 2 rounds 2\n0 opened 3 decided 3 round 2\n1 opened 5 decided 5 round 2\n")
     ∷ (grades c2 ⟶ gradesAre 1 1 0 0)
     -- C3: both keep their estimates, both veto, none decides

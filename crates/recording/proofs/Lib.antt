@@ -4,3 +4,4 @@ pub mod RoundTrip
 pub mod Rounds
 pub mod Sizes
 pub mod Searches
+pub mod Fronts

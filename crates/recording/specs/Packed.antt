@@ -1,11 +1,12 @@
 -- Document 01, 'Bits of a recording': where each field of the packed form stands, and the packed form of plain openings and words.
-use Prim.Native.Nat.{ℕ, _+_, _*_, _-_, _/_, _%_}
+use Prim.Native.Nat.{ℕ, _+_, _*_, _-_, _/_, _%_, min}
 use mathlib.Core.Bool.{cond}
 use mathlib.Core.List.{List, [], _∷_, _++_}
 use lib.Dec.{ltb}
-use lib.ListN.{getD}
+use lib.ListN.{getD, replicate}
 use Rattle.basics.specs.Bits.{digit}
-use Rattle.basics.specs.Lists.{tab}
+use Rattle.basics.specs.Lists.{tab, filled}
+use Rattle.recording.specs.declared.Front.{Front}
 unfoldable pub use Rattle.bitreader.specs.Bits.{bitAt, numAt, rowAt}
 
 -- truck count n: 6 bits
@@ -31,6 +32,14 @@ openingAt s i = numAt (bitAt s) (openingPlace i) 4
 -- n openings, truck 0 first
 unfoldable pub openingsOf : List ℕ → List ℕ
 openingsOf s = tab (openingAt s) (trucksOf s)
+
+-- what stands before the rounds: n, R, and the openings in a list of 32 places, 0 in those of other trucks
+unfoldable pub frontOf : List ℕ → Front
+frontOf s = record {
+  trucks = trucksOf s;
+  rounds = roundsOf s;
+  openings = filled (openingAt s) (min (trucksOf s) 32) (replicate 32 0);
+}
 
 -- the words of a round in plain form: stop, active, mark, and a row of loss bits for each truck
 abbrev pub roundWords : ℕ → ℕ

@@ -1,10 +1,10 @@
 // A packed recording: the counts of its header, its openings, and the check 1 to 6 that reading, running and grading share.
 ghost use mathlib.Core.Path.{_≡_};
-ghost use Prim.Native.Nat.{_+_, _*_, _-_, _<_, _≤_, _^_};
+ghost use Prim.Native.Nat.{_+_, _*_, _-_, _<_, _≤_, _^_, min};
 ghost use lib.Dec.{eqb};
 ghost use lib.ListN.{length};
 ghost use Rattle.basics.specs.Lists.{first, someBelow};
-ghost use Rattle.recording.specs.Packed.{bitAt, trucksOf, roundsOf, openingPlace, openingAt, wordPlace, wordAt, bitsFor, bytesFor};
+ghost use Rattle.recording.specs.Packed.{bitAt, trucksOf, roundsOf, frontOf, openingPlace, openingAt, wordPlace, wordAt, bitsFor, bytesFor};
 ghost use Rattle.recording.specs.Checks.{badTrucks, firstOwn, frameCheck, checkOf};
 use refusals::Outcome;
 use refusals::Refusal;
@@ -16,16 +16,49 @@ pub const HEADER_BITS: usize = 16;
 pub fn truck_count(s: &[u8]) -> u8
     ensures { λ r. ⌜ r ≡ trucksOf (now (s .entry)) ⌝ }
 {
-    let t = bitreader::read_at(s, 0, 6);
-    t.value as u8
+    bitreader::read_at(s, 0, 6) as u8
 }
 
 // The header's round count.
 pub fn round_count(s: &[u8]) -> u16
     ensures { λ r. ⌜ r ≡ roundsOf (now (s .entry)) ⌝ }
 {
-    let t = bitreader::read_at(s, 6, 10);
-    t.value as u16
+    bitreader::read_at(s, 6, 10) as u16
+}
+
+// How many of n trucks have a place in a list of 32.
+fn trucks_held(n: u8) -> usize
+    ensures { λ r. ⌜ r ≡ min n 32 ⌝ }
+{
+    if n < 32 { n as usize } else { 32 }
+}
+
+// What stands before the rounds. Of more than 32 trucks the first 32 openings; the places of other trucks hold 0.
+pub struct Front {
+    pub trucks: u8,
+    pub rounds: u16,
+    pub openings: [u8; 32],
+}
+
+// One reader from the first bit on: it reads the two counts, then opening after opening.
+pub fn read_front(s: &[u8]) -> Front
+    ensures { λ r. ⌜ r ≡ frontOf (now (s .entry)) ⌝ }
+{
+    let mut r = bitreader::new(s, 0);
+    let trucks = bitreader::take(&mut r, 6) as u8;
+    let rounds = bitreader::take(&mut r, 10) as u16;
+    let end = trucks_held(trucks);
+    let mut openings = [0u8; 32];
+    let mut i = 0;
+    while i < end {
+        openings[i] = bitreader::take(&mut r, 4) as u8;
+        i += 1;
+    }
+    Front {
+        trucks,
+        rounds,
+        openings,
+    }
 }
 
 // The place of opening i; after n openings, that of the first word.
@@ -46,8 +79,7 @@ pub fn word_place(trucks: u8, w: u16) -> usize
 pub fn opening(s: &[u8], i: u8) -> u8
     ensures { λ r. ⌜ r ≡ openingAt (now (s .entry)) i ⌝ }
 {
-    let t = bitreader::read_at(s, opening_place(i), 4);
-    t.value as u8
+    bitreader::read_at(s, opening_place(i), 4) as u8
 }
 
 // The bits of a recording of these counts.
@@ -76,9 +108,7 @@ fn end_bit(s: &[u8], total: usize) -> bool
     requires { ⌜ (length (now s) < 2 ^ 32) × ((total ≤ 8 * length (now s)) × (8 * length (now s) ≤ total + 7)) ⌝ }
     ensures { λ r. ⌜ r ≡ someBelow (λ j. eqb (bitAt (now (s .entry)) (total + j)) 1) (8 * length (now (s .entry)) - total) ⌝ }
 {
-    let t = bitreader::read_at(s, total, 8 * s.len() - total);
-    let v = t.value;
-    v != 0
+    bitreader::read_at(s, total, 8 * s.len() - total) != 0
 }
 
 // Refusals 1 to 5.
@@ -130,9 +160,7 @@ fn own_truck(s: &[u8], at: usize, n: usize) -> usize
     let mut i = 0;
     let mut p = at;
     while i < n {
-        let t = bitreader::read_at(s, p, 1);
-        let b = t.value;
-        if b == 1 {
+        if bitreader::read_at(s, p, 1) == 1 {
             return i;
         }
         p = p + (n + 1);

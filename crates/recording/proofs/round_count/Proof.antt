@@ -8,12 +8,12 @@ use Rattle.recording.proofs.round_count.Tie as tie
 
 cast-result : tie.Need-cast-result
 cast-result c =
-    let s = c .before .before .before .args .s .now in
-    omega (arith, c .before .read-at .ensures .0, numAt-lt (bitAt s) (bitAt-lt s) 6 10)
+    let s = c .before .before .args .s .now in
+    omega (arith, c .read-at .ensures, numAt-lt (bitAt s) (bitAt-lt s) 6 10)
 
 returns : tie.Need-returns
 unfolding roundsOf
-returns c = c .before .read-at .ensures .0
+returns c = c .read-at .ensures
 
 pub round-count-spec : {M : Type 1} → statement M
 round-count-spec = tie.close (tie.spec (λ c κs. search needs) cast-result returns)

@@ -1,0 +1,40 @@
+-- The reader that goes over what stands before the rounds: the places it comes to, and that what it reads fits; and what a caller of `front` has.
+use mathlib.Core.Path.{_≡_, refl, ap, ap₂, sym, _∙_}
+use mathlib.Core.List.{List}
+use Prim.Native.Nat.{ℕ, _+_, _*_, _<_, _≤_, min}
+use native.Mathlib.Nat.{min-eq-left}
+use native.Mathlib.Omega.{arith}
+use lib.ListN.{length, getD, replicate, length-replicate}
+use Rattle.basics.specs.Lists.{filled}
+use Rattle.basics.proofs.Laws.{getD-filled, length-filled}
+use Rattle.bitreader.specs.Bits.{placeAfter}
+use Rattle.bitreader.proofs.Digits.{bitAt-lt, numAt-lt}
+use Rattle.recording.specs.Packed.{bitAt, trucksOf, roundsOf, openingPlace, openingAt, frontOf}
+use Rattle.recording.specs.declared.Front.{Front}
+
+-- after the two counts comes the first opening
+pub after-counts : placeAfter (placeAfter 0 6) 10 ≡ openingPlace 0
+after-counts = refl
+
+-- after an opening comes the next one
+pub after-opening : (i : ℕ) → i < 32 → placeAfter (openingPlace i) 4 ≡ openingPlace (i + 1)
+after-opening i h = min-eq-left (omega arith) ∙ omega arith
+
+pub trucks-lt : (s : List ℕ) → trucksOf s < 64
+unfolding trucksOf
+trucks-lt s = numAt-lt (bitAt s) (bitAt-lt s) 0 6
+
+pub rounds-lt : (s : List ℕ) → roundsOf s < 1024
+unfolding roundsOf
+rounds-lt s = numAt-lt (bitAt s) (bitAt-lt s) 6 10
+
+pub opening-lt : (s : List ℕ) (i : ℕ) → openingAt s i < 16
+unfolding openingAt
+opening-lt s i = numAt-lt (bitAt s) (bitAt-lt s) (openingPlace i) 4
+
+-- the list of 32 places into which the openings are read, and with i of them
+pub length-none : length (replicate {A = ℕ} 32 0) ≡ 32
+length-none = length-replicate {A = ℕ} 32 0
+
+pub length-read : (s : List ℕ) (i : ℕ) → i ≤ 32 → length (filled (openingAt s) i (replicate 32 0)) ≡ 32
+length-read s i h = length-filled (openingAt s) i (replicate 32 0) (omega (arith, length-none)) ∙ length-none

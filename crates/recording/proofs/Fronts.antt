@@ -38,3 +38,22 @@ length-none = length-replicate {A = ℕ} 32 0
 
 pub length-read : (s : List ℕ) (i : ℕ) → i ≤ 32 → length (filled (openingAt s) i (replicate 32 0)) ≡ 32
 length-read s i h = length-filled (openingAt s) i (replicate 32 0) (omega (arith, length-none)) ∙ length-none
+
+-- ---- what a caller of `read_front` has
+module _ (s : List ℕ) (f : Front) (e : f ≡ frontOf s) where
+  pub front-trucks : f .trucks ≡ trucksOf s
+  unfolding frontOf
+  front-trucks = ap (λ (g : Front). g .trucks) e
+
+  pub front-rounds : f .rounds ≡ roundsOf s
+  unfolding frontOf
+  front-rounds = ap (λ (g : Front). g .rounds) e
+
+  pub front-places : length (f .openings) ≡ 32
+  unfolding frontOf
+  front-places = ap (λ (g : Front). length (g .openings)) e ∙ length-read s (min (trucksOf s) 32) (omega arith)
+
+  -- the openings of the trucks that there are, 32 at most
+  pub front-opening : (i : ℕ) → i < trucksOf s → i < 32 → getD (f .openings) i 0 ≡ openingAt s i
+  unfolding frontOf
+  front-opening i h l = ap (λ (g : Front). getD (g .openings) i 0) e ∙ getD-filled (openingAt s) (min (trucksOf s) 32) (replicate 32 0) i 0 (omega arith)

@@ -12,20 +12,6 @@ use refusals::Refusal;
 // The header: 6 bits of truck count, 10 bits of round count.
 pub const HEADER_BITS: usize = 16;
 
-// The header's truck count.
-pub fn truck_count(s: &[u8]) -> u8
-    ensures { λ r. ⌜ r ≡ trucksOf (now (s .entry)) ⌝ }
-{
-    bitreader::read_at(s, 0, 6) as u8
-}
-
-// The header's round count.
-pub fn round_count(s: &[u8]) -> u16
-    ensures { λ r. ⌜ r ≡ roundsOf (now (s .entry)) ⌝ }
-{
-    bitreader::read_at(s, 6, 10) as u16
-}
-
 // How many of n trucks have a place in a list of 32.
 fn trucks_held(n: u8) -> usize
     ensures { λ r. ⌜ r ≡ min n 32 ⌝ }
@@ -75,13 +61,6 @@ pub fn word_place(trucks: u8, w: u16) -> usize
     opening_place(trucks) + w as usize * (trucks as usize)
 }
 
-// The opening of a truck.
-pub fn opening(s: &[u8], i: u8) -> u8
-    ensures { λ r. ⌜ r ≡ openingAt (now (s .entry)) i ⌝ }
-{
-    bitreader::read_at(s, opening_place(i), 4) as u8
-}
-
 // The bits of a recording of these counts.
 pub fn bits_for(trucks: u8, rounds: u16) -> usize
     ensures { λ r. ⌜ r ≡ bitsFor trucks rounds ⌝ }
@@ -111,18 +90,17 @@ fn end_bit(s: &[u8], total: usize) -> bool
     bitreader::read_at(s, total, 8 * s.len() - total) != 0
 }
 
-// Refusals 1 to 5.
-pub fn check_frame(s: &[u8]) -> Outcome
+// Refusals 1 to 5, by the counts that the header has.
+fn check_frame(s: &[u8], n: u8, rounds: u16) -> Outcome
+    requires { ⌜ (n ≡ trucksOf (now s)) × (rounds ≡ roundsOf (now s)) ⌝ }
     ensures { λ r. ⌜ r ≡ frameCheck (now (s .entry)) ⌝ }
 {
     if s.len() < 2 {
         return Outcome::Refused(Refusal::ShortRecording);
     }
-    let n = truck_count(s);
     if bad_trucks(n) {
         return Outcome::Refused(Refusal::TruckCount);
     }
-    let rounds = round_count(s);
     if 400 < rounds {
         return Outcome::Refused(Refusal::RoundCount);
     }
@@ -205,12 +183,13 @@ fn own_place(s: &[u8], trucks: u8, rounds: usize) -> OwnPlace
 pub fn check(s: &[u8]) -> Outcome
     ensures { λ r. ⌜ r ≡ checkOf (now (s .entry)) ⌝ }
 {
-    let f = check_frame(s);
-    match f {
+    let f = read_front(s);
+    let frame = check_frame(s, f.trucks, f.rounds);
+    match frame {
         Outcome::Refused(r) => Outcome::Refused(r),
         Outcome::Accepted => {
-            let rounds = round_count(s) as usize;
-            let own = own_place(s, truck_count(s), rounds);
+            let rounds = f.rounds as usize;
+            let own = own_place(s, f.trucks, rounds);
             if own.round < rounds {
                 return Outcome::Refused(Refusal::OwnLoss);
             }

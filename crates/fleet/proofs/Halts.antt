@@ -20,8 +20,10 @@ use Rattle.basics.proofs.Laws.{or-left, or-right, odd-suc, first-unique, getD-f
 use Rattle.refusals.specs.declared.Outcome.the-variants.{Accepted}
 use Rattle.basics.proofs.Bits.{bit-and, bit-or}
 use Rattle.sets.proofs.Words.{bit-power, bit-zero, no-bits}
-use Rattle.recording.specs.Packed.{trucksOf, roundsOf, openingAt, openingsOf, wordPlace, roundPlace, roundAt}
+use Rattle.recording.specs.Packed.{trucksOf, roundsOf, frontOf, openingAt, openingsOf, wordPlace, roundPlace, roundAt}
+use Rattle.recording.specs.declared.Front.{Front}
 use Rattle.recording.specs.Checks.{frameCheck}
+use Rattle.recording.proofs.Fronts.{front-trucks, front-opening}
 use Rattle.recording.proofs.Accepted.{frame-good}
 use Rattle.protocol.specs.declared.Heard.{Heard}
 use Rattle.protocol.specs.declared.Heard.the-variants.{Nothing}
@@ -48,7 +50,7 @@ use Rattle.fleet.specs.Grading.{carriedBy, RadioSets}
 use Rattle.radio.specs.Radio.{Radio}
 use Rattle.protocol.specs.declared.Grades.{Grades}
 use Rattle.fleet.proofs.Graded.{radioAfter, grades-next, grades-idle}
-use Rattle.fleet.specs.Standing.{ReadsAs, nextTrucks, holds, trucksAfter, stateOf, memoryOf, standing, truckBy, Stands, Proposes, Vetoes, noted, Fresh, Due, Halted}
+use Rattle.fleet.specs.Standing.{ReadsAs, nextTrucks, holds, trucksAfter, stateOf, memoryOf, standing, truckBy, fleetBy, Stands, Proposes, Vetoes, noted, Fresh, Due, Halted}
 use Rattle.fleet.proofs.Reading.{word-here, place-small, place-next}
 use Rattle.fleet.proofs.Places.{read-bit, everyone, everyone-lt, everyone-in, everyone-out, turn-back}
 use Rattle.fleet.proofs.Stood.{runs-is, memory-back, proposal-stands, veto-stands, veto-ended, proposal-radio, veto-radio}
@@ -275,39 +277,39 @@ module _ {s : List ℕ} {last : ℕ} {by ends : List ℕ} {b : Sets} (h : Halted
       ∙ ap₂ (λ (e : ℕ) (x : Heard). record { opening = openingAt s j; estimate = e; mark = holds (b .running) j && holds (b .marked) j; heard = x; state = stateOf (holds (b .running) j) (holds (b .decided) j) (getD ends j 0) })
       (sym (estimate-is j l)) (heard-then j l (holds (b .running) j) refl))
 
-  -- the record, truck by truck
-  abbrev pub Filling : ℕ → Fleet → ℕ → Type 0
-  Filling n f i = f ≡ record { n = n; done = last; trucks = filled (truck (trucksAfter s last)) i (openedTrucks []) }
-
-  pub filling-starts : (n : ℕ) (f : Fleet) → f ≡ blank → Filling n (record { n = n; done = last; trucks = f .trucks }) 0
-  unfolding blank
-  filling-starts n f e =
-      ap (λ (l : List Truck). record { n = n; done = last; trucks = l }) (ap (λ (g : Fleet). g .trucks) e ∙ sym (filled-none (truck (trucksAfter s last)) (openedTrucks [])))
-
-  pub filling-more : (n : ℕ) (f : Fleet) (i : ℕ) (t : Truck) → Filling n f i → i < trucksOf s
-      → t ≡ truckBy b by (openingAt s i) (getD ends i 0) (31 - i)
-      → Filling n (record { n = f .n; done = f .done; trucks = set (f .trucks) i t }) (i + 1)
-  filling-more n f i t g l e =
-      ap₂ (λ (a : Fleet) (x : List Truck). record { n = a .n; done = a .done; trucks = x }) g
-      (fill-step (truck (trucksAfter s last)) (openedTrucks []) (f .trucks) i (ap (λ (a : Fleet). a .trucks) g) t (omega (arith, l, few s (h .good), length-opened [])) (e ∙ truck-ended i l))
-
-  pub filling-done : (n : ℕ) (f : Fleet) (i : ℕ) → Filling n f i → n ≡ trucksOf s → i ≡ n → f ≡ fleetAfter s last
+  -- the record is that of the run
+  pub fleet-ended : (front : Front) → front ≡ frontOf s → front .rounds ≡ last → fleetBy front b by ends ≡ fleetAfter s last
   unfolding fleetIn
-  filling-done n f i g count e =
-      g ∙ ap₂ (λ (m : ℕ) (x : List Truck). record { n = m; done = last; trucks = x }) count
-      (ap (λ (m : ℕ). filled (truck (trucksAfter s last)) m (openedTrucks [])) (e ∙ count)
-      ∙ ext-getD (opened 0) (filled (truck (trucksAfter s last)) (trucksOf s) (openedTrucks [])) (trucksAfter s last)
-      (length-filled (truck (trucksAfter s last)) (trucksOf s) (openedTrucks []) (omega (arith, few s (h .good), length-opened [])) ∙ length-opened []
+  fleet-ended front met done =
+      ap₂ (λ (m k : ℕ). record { n = m; done = k; trucks = filled built m (openedTrucks []) }) count done
+      ∙ ap (λ (x : List Truck). record { n = trucksOf s; done = last; trucks = x })
+      (ext-getD (opened 0) (filled built (trucksOf s) (openedTrucks [])) (trucksAfter s last)
+      (length-filled built (trucksOf s) (openedTrucks []) (omega (arith, few s (h .good), length-opened [])) ∙ length-opened []
       ∙ sym (places (trucksOf s) (openingsOf s) (roundAt s) (few s (h .good)) last)) (λ j o. each j (decLt j (trucksOf s))))
     where
-      each : (j : ℕ) → Dec (j < trucksOf s) → getD (filled (truck (trucksAfter s last)) (trucksOf s) (openedTrucks [])) j (opened 0) ≡ getD (trucksAfter s last) j (opened 0)
-      each j (yes l) = getD-filled (truck (trucksAfter s last)) (trucksOf s) (openedTrucks []) j (opened 0) l
+      count : front .trucks ≡ trucksOf s
+      count = front-trucks s front met
+
+      built : ℕ → Truck
+      built i = truckBy b by (getD (front .openings) i 0) (getD ends i 0) (31 - i)
+
+      each : (j : ℕ) → Dec (j < trucksOf s) → getD (filled built (trucksOf s) (openedTrucks [])) j (opened 0) ≡ getD (trucksAfter s last) j (opened 0)
+      each j (yes l) =
+          getD-filled built (trucksOf s) (openedTrucks []) j (opened 0) l
+          ∙ ap (λ (o : ℕ). truckBy b by o (getD ends j 0) (31 - j)) (front-opening s front met j l (omega (arith, few s (h .good))))
+          ∙ truck-ended j l
       each j (no l) =
-          getD-filled-past (truck (trucksAfter s last)) (trucksOf s) (openedTrucks []) j (opened 0) (omega arith)
+          getD-filled-past built (trucksOf s) (openedTrucks []) j (opened 0) (omega arith)
           ∙ truck-unopened [] j (omega arith) ∙ sym (unused s last j (omega arith))
 
 -- ---- before round 1
-module _ (s : List ℕ) (good : frameCheck s ≡ Accepted) (n : ℕ) (count : n ≡ trucksOf s) where
+module _ (s : List ℕ) (good : frameCheck s ≡ Accepted) (front : Front) (met : front ≡ frontOf s) where
+  abbrev n : ℕ
+  n = front .trucks
+
+  count : n ≡ trucksOf s
+  count = front-trucks s front met
+
   pub first-few : (n ≤ 32) × (roundsOf s ≤ 400)
   first-few = (omega (arith, count, frame-good s good .most), frame-good s good .rounds)
 
@@ -317,7 +319,7 @@ module _ (s : List ℕ) (good : frameCheck s ≡ Accepted) (n : ℕ) (count : n 
       opened-truck twoRules (trucksOf s) (openingsOf s) (roundAt s) j (omega (arith, frame-good s good .most)) ∙ ap opened (getD-tab (openingAt s) (trucksOf s) j 0 l)
 
   -- any number of rounds up to 400 may be asked for
-  pub first-due : {rounds : ℕ} (at all until : ℕ) (by : List ℕ) → at ≡ wordPlace n 0 → rounds ≤ 400 → all ≡ everyone n → Sorted by 32 all (λ p. openingAt s (31 - p)) × (length by ≡ 16)
+  pub first-due : {rounds : ℕ} (at all until : ℕ) (by : List ℕ) → at ≡ wordPlace n 0 → rounds ≤ 400 → all ≡ everyone n → Sorted by 32 all (λ p. getD (front .openings) (31 - p) 0) × (length by ≡ 16)
       → Due s at n rounds 0 by (replicate 32 0) all 0 0 0 0 until
   first-due {rounds} at all until by ep most ea (sorted, long) =
       record {
@@ -333,7 +335,7 @@ module _ (s : List ℕ) (good : frameCheck s ≡ Accepted) (n : ℕ) (count : n 
               ∙ bits j (truck (trucksAfter s 0) j .estimate) (truck (trucksAfter s 0) j .heard) (in-all j l);
           heard = λ j l r m. let e = ap (λ (t : Truck). t .heard) (opening-truck j l) in (ap isOne e ∙ sym (bit-zero (31 - j)), ap isSeveral e ∙ sym (bit-zero (31 - j)));
           sorted = λ c lc j l.
-              sorted c lc .each (31 - j) (omega arith) ∙ ap (λ (x : ℕ). holds all j && eqb (openingAt s x) c) (turn-back j l) ∙ go c j l (decLt j (trucksOf s));
+              sorted c lc .each (31 - j) (omega arith) ∙ ap (λ (x : ℕ). holds all j && eqb (getD (front .openings) x 0) c) (turn-back j l) ∙ go c j l (decLt j (trucksOf s));
         };
         most = omega arith;
         count = count;
@@ -347,9 +349,9 @@ module _ (s : List ℕ) (good : frameCheck s ≡ Accepted) (n : ℕ) (count : n 
       bits : (j e : ℕ) (x : Heard) → holds all j ≡ true → standing (openingAt s j) e x true false false 0 ≡ standing (openingAt s j) e x (holds all j) (holds 0 j) (holds 0 j) (getD (replicate 32 0) j 0)
       bits j e x i = rw (i, bit-zero (31 - j))
 
-      go : (c j : ℕ) → j < 32 → Dec (j < trucksOf s) → (holds all j && eqb (openingAt s j) c) ≡ (ltb j (trucksOf s) && eqb (truck (trucksAfter s 0) j .estimate) c)
+      go : (c j : ℕ) → j < 32 → Dec (j < trucksOf s) → (holds all j && eqb (getD (front .openings) j 0) c) ≡ (ltb j (trucksOf s) && eqb (truck (trucksAfter s 0) j .estimate) c)
       go c j l (yes o) =
-          ap₂ (λ (x : Bool) (y : ℕ). x && eqb y c) (in-all j o ∙ sym (lt-ltb j (trucksOf s) o)) (sym (ap (λ (t : Truck). t .estimate) (opening-truck j o)))
+          ap₂ (λ (x : Bool) (y : ℕ). x && eqb y c) (in-all j o ∙ sym (lt-ltb j (trucksOf s) o)) (front-opening s front met j o l ∙ sym (ap (λ (t : Truck). t .estimate) (opening-truck j o)))
       go c j l (no o) =
-          ap (λ (x : Bool). x && eqb (openingAt s j) c) (ap (λ (x : ℕ). holds x j) ea ∙ everyone-out n j (omega (arith, count)) l)
+          ap (λ (x : Bool). x && eqb (getD (front .openings) j 0) c) (ap (λ (x : ℕ). holds x j) ea ∙ everyone-out n j (omega (arith, count)) l)
           ∙ sym (ap (λ (x : Bool). x && eqb (truck (trucksAfter s 0) j .estimate) c) (le-ltb j (trucksOf s) (omega arith)))

@@ -9,7 +9,7 @@ struct Taken {
 }
 
 // By a reader in a local.
-fn taken(bytes: &[u8], at: usize, k: usize) -> Taken
+fn take_at(bytes: &[u8], at: usize, k: usize) -> Taken
     ensures { λ r. ⌜ (r .value ≡ numAt (bitAt (now (bytes .entry))) at (bitsRead k)) × (r .next ≡ placeAfter at k) ⌝ }
 {
     let mut r = bitreader::new(bytes, at);
@@ -22,7 +22,7 @@ fn taken(bytes: &[u8], at: usize, k: usize) -> Taken
 pub extern "C" fn bitcalls_take(bytes: &[u8], at: usize, k: usize, next: &mut usize) -> u32
     ensures { λ r. ⌜ (r ≡ numAt (bitAt (now (bytes .entry))) at (bitsRead k)) × (now (next .exit) ≡ placeAfter at k) ⌝ }
 {
-    let t = taken(bytes, at, k);
+    let t = take_at(bytes, at, k);
     *next = t.next;
     t.value
 }

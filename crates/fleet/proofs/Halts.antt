@@ -11,12 +11,12 @@ use borrow.Author.Tests.{eq-eqb, ne-eqb, eqb-true, eqb-false, lt-ltb, le-ltb, no
 use lib.Bits.{bitAnd, bitOr, and-le-l, and-zero-l, and-zero-r}
 use lib.Pow.{pow-lt}
 use lib.Dec.{eqb, ltb}
-use lib.ListN.{length, getD, set, replicate}
+use lib.ListN.{length, getD, replicate}
 use lib.Seq.{ext-getD}
 use Rattle.radio.specs.Runs.{stateAt}
 use Rattle.basics.specs.Bits.{bit, odd}
 use Rattle.basics.specs.Lists.{filled, first}
-use Rattle.basics.proofs.Laws.{or-left, or-right, odd-suc, first-unique, getD-filled, getD-filled-past, length-filled, length-tab, getD-tab, filled-none, fill-step}
+use Rattle.basics.proofs.Laws.{or-left, or-right, odd-suc, first-unique, getD-filled, getD-filled-past, length-filled, length-tab, getD-tab}
 use Rattle.refusals.specs.declared.Outcome.the-variants.{Accepted}
 use Rattle.basics.proofs.Bits.{bit-and, bit-or}
 use Rattle.sets.proofs.Words.{bit-power, bit-zero, no-bits}
@@ -28,11 +28,10 @@ use Rattle.recording.proofs.Accepted.{frame-good}
 use Rattle.protocol.specs.declared.Heard.{Heard}
 use Rattle.protocol.specs.declared.Heard.the-variants.{Nothing}
 use Rattle.protocol.specs.declared.Truck.{Truck}
-use Rattle.protocol.specs.declared.Fleet.{Fleet}
 use Rattle.protocol.specs.Cycles.{afterIn}
 use Rattle.protocol.specs.Rules.{opened, truck, after, isOne, isSeveral, twoRules}
 use Rattle.protocol.specs.Runs.{openedTrucks, trucksAt, trucksIn}
-use Rattle.protocol.specs.Fleets.{blank, fleetIn}
+use Rattle.protocol.specs.Fleets.{fleetIn}
 use Rattle.radio.specs.Round.{activeBit}
 use Rattle.fleetrecord.proofs.Records.{length-start}
 use Rattle.protocol.proofs.Opened.{length-opened, truck-unopened}

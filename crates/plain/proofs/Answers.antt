@@ -13,7 +13,7 @@ use Rattle.refusals.specs.declared.Outcome.{Outcome}
 use Rattle.refusals.specs.declared.Outcome.the-variants.{Accepted, Refused}
 use Rattle.refusals.specs.Outcomes.{refuse, andThen}
 use Rattle.basics.specs.Lists.{filled}
-use Rattle.recording.specs.Packed.{trucksOf, roundsOf, openingAt, frontOf, wordAt, bytesFor, pack, packed}
+use Rattle.recording.specs.Packed.{trucksOf, openingAt, frontOf, wordAt, bytesFor, pack, packed}
 use Rattle.recording.specs.Checks.{checkOf, plainCheck}
 use Rattle.basics.proofs.Laws.{or-left, or-right, filled-ext}
 use Rattle.recording.specs.declared.Front.{Front}

@@ -4,14 +4,14 @@
 --     Upto         its variant: i up to the number of openings, ordered (`Nearer`) by what is left
 --     goes-on, leaves      a turn that reads an opening, and the turn that leaves the loop, after which the array is whole again
 -- Assumes nothing.
-use mathlib.Core.Path.{_≡_, refl, sym, ap, ap₂, subst, _∙_}
+use mathlib.Core.Path.{_≡_, refl, sym, ap, subst, _∙_}
 use mathlib.Core.Bool.{Bool, true, false, not}
 use mathlib.Core.List.{[], _∷_, List, map}
 use mathlib.Core.WellFounded.{WellFounded, InvImage·wf}
-use Prim.Native.Nat.{ℕ, min, _+_, _-_, _*_, _<_, _≤_, _^_, zero-le}
+use Prim.Native.Nat.{ℕ, min, _+_, _-_, _<_, _≤_, zero-le}
 use native.Mathlib.Omega.{arith}
 use native.Mathlib.Numerals.{add-one-le, add-one-dec}
-use native.Mathlib.Nat.{le-antisymm, lt-of-lt-of-le}
+use native.Mathlib.Nat.{le-antisymm}
 use lib.Dec.{T, ltb, ltb→lt, nltb→le, lit<}
 use lib.ListN.{length, getD, set, replicate}
 use lib.WfN.{Nat·lt-wfRel}
@@ -27,7 +27,7 @@ use prog.Wp.{Heap, Out, Env, Calls, Loops, Wp, WpFn, Tables, afterSeq, afterBloc
 use ghost.Atoms.{Atoms, sem}
 use contract.Monad.{Fun, fact}
 use contract.Running.{givenOf, tables, tablesOf}
-use types.Kit.{Given, Item, ‵, raw, given, _⊛_, some, later, runs, anyQ, atRet, Sq, ⋆, _$_, _∵_, !, qed, by, move, keep, drop, use0, use1, use2, split, join, learn, pick, rewrite, fsplit, fjoin, fpick, fpack, feqL, feqI, suffices, frame, await, done}
+use types.Kit.{Given, Item, ‵, raw, _⊛_, some, later, runs, anyQ, atRet, Sq, ⋆, _$_, _∵_, !, qed, by, move, keep, drop, use0, use1, use2, split, join, learn, pick, rewrite, fsplit, fjoin, fpick, fpack, feqL, feqI, suffices, frame, await, done}
 use types.Part.{agg, rep}
 use types.Run.{look, init, store, store-raw, forget, stop, hop, from, lit, bin, un, addr, and-then, no-more, of-opd, assigns, assigns-last, first, stays, leaves-loop, blocks, land, returns, enter, alloc1, alloc0, params1, pass1, pass0, free1, free0, exec, Below, again, loops}
 use types.Share.{arr-parts}
@@ -36,13 +36,13 @@ use denote.RattleType.{RattleType, owns}
 use denote.Laws.{Is, shows}
 use denote.Memory.{mem, pointee, shares, cellAt, partAt, partOf}
 use denote.Plain.{uint-vals, uint-tells, uint-makes, uint-lawful, uint-copy}
-use denote.Builtin.{u8, u16, u32, usize}
+use denote.Builtin.{u8, u32, usize}
 use denote.Ref.{RefT, NamedLft, now}
 use denote.Signature.{plain}
 use denote.Slice.{sliceTy, sliceVal, ShrSlice, slice-vals, shr-slice-tells, shr-slice-lawful, shr-slice-copy}
 use denote.Array.{Array, arrayVal, array-vals, array-tells, array-lawful, array-repeat}
 use denote.ArrayMemory.{array-apart, array-whole}
-use denote.Index.{row, place, place-byte, elem-out, elem-put}
+use denote.Index.{row, place-byte, elem-out, elem-put}
 use denote.Steps.{only, owned, peeks, heard, nothing}
 use denote.Struct.Laws as LL
 use denote.Struct.Steps.{spelt}
@@ -58,11 +58,9 @@ use Rattle.basics.specs.Lists.{filled}
 use Rattle.basics.proofs.Laws.{filled-none, fill-step}
 use Rattle.basics.proofs.Locals.{here, held}
 use Rattle.bitreader.specs.declared.Reader.{Reader}
-use Rattle.bitreader.specs.Bits.{movedBy}
 use Rattle.bitreader.proofs.Reader as Reader-t
 use Rattle.bitreader.proofs.Reader.Laws as Reader-l
-use Rattle.bitreader.proofs.Lending.{R, bitsOf, Take, Lent, Back, to, lends, comes-back, lies, cell}
-use Rattle.bitreader.proofs.new as new
+use Rattle.bitreader.proofs.Lending.{R, reader, New, to-new, asks, Made, makes, Take, Lent, Back, to, lends, comes-back, lies, cell}
 use Rattle.bitreader.proofs.new.Symbol as new-def
 use Rattle.bitreader.proofs.new.Symbol.{name as #bitreader·new}
 use Rattle.bitreader.proofs.new.Met as new-thm
@@ -88,10 +86,7 @@ abbrev stayed : Stays (this.ended .signature .params) (this.ended .kept)
 stayed = (stay-none-slice (0 ∷ []) tt (plain (λ _. u8)) yes, tt)
 
 module _ {M : Type 1} (𝓤 : URA M) (H : Heap 𝓤) (A : Atoms 𝓤) (mem : Memory → SProp 𝓤) (run : Routine → Fun 𝓤) where
-  -- two of the functions called, by their contracts
-  abbrev New : Contract 𝓤
-  New = tripleOf 𝓤 H A new.signature (new.spec 𝓤 H A mem run)
-
+  -- `trucks_held` by its contract
   abbrev Count : Contract 𝓤
   Count = tripleOf 𝓤 H A trucks-held.signature (trucks-held.spec 𝓤 H A mem run)
 
@@ -143,10 +138,6 @@ module _ {M : Type 1} (𝓤 : URA M) (H : Heap 𝓤) (A : Atoms 𝓤) (W : Given
   abbrev f′ : Front
   f′ = record { trucks = n; rounds = rounds; openings = read m }
 
-  -- the reader at a place
-  abbrev reader : ℕ → Reader
-  reader p = record { bytes = s; at = p }
-
   exits : ent 𝓤 (⋆ 𝓤 H A (‵ (flft κ q) ∷ ‵ Own ∷ ‵ (Front-t.the-row .own f′ (frontVal f′ ∷ [])) ∷ [])) (Post (frontVal f′))
   unfolding frontOf
   exits =
@@ -196,7 +187,7 @@ module _ {M : Type 1} (𝓤 : URA M) (H : Heap 𝓤) (A : Atoms 𝓤) (W : Given
     -- [the openings; the token; the reader; the slice; _18 at 4; …; _7 at 26; _6's end at 28; _5 at 29; _4 at 31; _3 at 33; _2's end at 35; _1 at 36; _0 at 38]
     abbrev Held : List ℕ → ℕ → ℕ → List (Item 𝓤)
     Held xs p i =
-        ‵ (row u8 fullShare xs l6 0) ∷ ‵ (flft κ q) ∷ ‵ (partAt (R κ) fullShare (reader p) l2 0) ∷ ‵ Own ∷ ‵ (froom array l18 0) ∷ ‵ (fdies array l18) ∷ ‵ (froom tyPtr l17 0) ∷ ‵ (fdies tyPtr l17) ∷
+        ‵ (row u8 fullShare xs l6 0) ∷ ‵ (flft κ q) ∷ ‵ (partAt (R κ) fullShare (reader s p) l2 0) ∷ ‵ Own ∷ ‵ (froom array l18 0) ∷ ‵ (fdies array l18) ∷ ‵ (froom tyPtr l17 0) ∷ ‵ (fdies tyPtr l17) ∷
         ‵ (froom tyPtr l16 0) ∷ ‵ (fdies tyPtr l16) ∷ ‵ (froom (tyInt w8) l15 0) ∷ ‵ (fdies (tyInt w8) l15) ∷ ‵ (froom lent l14 0) ∷ ‵ (fdies lent l14) ∷ ‵ (froom (tyInt w32) l13 0) ∷ ‵ (fdies (tyInt w32) l13) ∷
         ‵ (froom tyBool l12 0) ∷ ‵ (fdies tyBool l12) ∷ ‵ (froom lent l11 0) ∷ ‵ (fdies lent l11) ∷ ‵ (froom lent l10 0) ∷ ‵ (fdies lent l10) ∷ ‵ (froom (tyInt w32) l9 0) ∷ ‵ (fdies (tyInt w32) l9) ∷
         ‵ (froom (Reader-l.mir erased) l8 0) ∷ ‵ (fdies (Reader-l.mir erased) l8) ∷ ‵ (fat fullShare (tyInt w64) l7 0 (vint w64 i)) ∷ ‵ (fdies (tyInt w64) l7) ∷ ‵ (fdies array l6) ∷
@@ -215,7 +206,7 @@ module _ {M : Type 1} (𝓤 : URA M) (H : Heap 𝓤) (A : Atoms 𝓤) (W : Given
     unfolding afterTurn openingAt
     goes-on i le test =
         let less : i < m = ltb→lt i m (subst T (sym test) tt) in
-        let r : Reader = reader (openingPlace i) in
+        let r : Reader = reader s (openingPlace i) in
         let o : ℕ = openingAt (now s) i in
         assigns ! (bin ! (held ! 26 refl) (held ! 29 refl) tt) (here !) (init ! 16 refl (tt, tt)) $
         rewrite ! 16 (λ (y : Bool). ‵ (fat fullShare tyBool l12 0 (vbool y))) test refl $ stays ! (held ! 16 refl) $
@@ -228,7 +219,7 @@ module _ {M : Type 1} (𝓤 : URA M) (H : Heap 𝓤) (A : Atoms 𝓤) (W : Given
         land ! (here !) (init ! 15 refl (uint-lawful 𝓤 H A W w32 .typed w _ is .0)) $ drop ! $
         -- [the token; the reader; the openings; the slice; _18 at 4; …]
         rewrite ! 14 (λ (y : Val). ‵ (fat fullShare (tyInt w32) l13 0 y)) (ap only (is .0) ∙ ap (vint w32) e) refl $
-        rewrite ! 1 (λ (p : ℕ). ‵ (partAt (R κ) fullShare (reader p) l2 0)) (after-opening i (omega arith)) refl $
+        rewrite ! 1 (λ (p : ℕ). ‵ (partAt (R κ) fullShare (reader s p) l2 0)) (after-opening i (omega arith)) refl $
         assigns ! (un ! (held ! 14 refl) (record { fits = omega (arith, opening-lt (now s) i) })) (here !) (init ! 10 refl (tt, record { fits = omega (arith, opening-lt (now s) i) })) $
         assigns ! (addr ! (here !)) (here !) (init ! 8 refl (tt, tt)) $ assigns ! (bin ! (held ! 8 refl) (held ! 26 refl) tt) (here !) (init ! 6 refl (tt, tt)) $
         -- the opening is put in its place
@@ -261,7 +252,7 @@ module _ {M : Type 1} (𝓤 : URA M) (H : Heap 𝓤) (A : Atoms 𝓤) (W : Given
         assigns ! (of-opd ! (held ! 1 refl)) (here !) (init ! 5 refl (array-lawful 𝓤 H A W u8 (uint-lawful 𝓤 H A W w8) 32 .typed (map (λ (y : ℕ). y) (read m)) _ are .0)) $
         assigns ! (agg ! (and-then ! (held ! 34 refl) (and-then ! (held ! 32 refl) (and-then ! (held ! 5 refl) (no-more !))))) (here !)
         (init ! 39 refl (LL.lawful Front-t.the-type Front-l.the-laws 𝓤 H A W .typed f′ _ f-is .0)) $
-        move ! (3 ∷ []) $ use1 W (‵ (fat fullShare (Reader-l.mir erased) l2 0 (Reader-l.lowered (reader (openingPlace i))))) (cell 𝓤 H A W κ (reader (openingPlace i)) l2) $
+        move ! (3 ∷ []) $ use1 W (‵ (fat fullShare (Reader-l.mir erased) l2 0 (Reader-l.lowered (reader s (openingPlace i))))) (cell 𝓤 H A W κ (reader s (openingPlace i)) l2) $
         -- [_2; what the openings own; _6; the token; the slice; _18 at 5; …]
         returns ! (look ! 39 refl) $ forget ! 0 refl $ forget ! 2 refl $ forget ! 5 refl $ forget ! 17 refl $ forget ! 27 refl $ forget ! 30 refl $ forget ! 32 refl $ forget ! 34 refl $ forget ! 37 refl $ forget ! 39 refl $
         move ! (39 ∷ 40 ∷ []) $ free1 ! $ move ! (37 ∷ 38 ∷ []) $ free1 ! $ move ! (0 ∷ 36 ∷ []) $ free1 ! $
@@ -282,17 +273,6 @@ module _ {M : Type 1} (𝓤 : URA M) (H : Heap 𝓤) (A : Atoms 𝓤) (W : Given
 
     looped : Sq W (At (0, zero-le)) (runs C Λ En body.t-12 (atRet En Post))
     looped = first ! $ blocks ! $ loops ! 𝓣 Nearer Nearer-wf At turns (0, zero-le)
-
-  -- `new` at the first bit
-  abbrev to-new : New 𝓤 H A at-mem run .Ghost
-  to-new = (((κ, tt), (q, tt), tt, (s, (0, tt)), (v ∷ [], (vint w64 0 ∷ [], tt))), tt)
-
-  goes-new : ent 𝓤 (⋆ 𝓤 H A ((‵ (flft κ q) ⊛ ‵ ftrue) ∷ ‵ Own ∷ [])) (New 𝓤 H A at-mem run .pre to-new)
-  goes-new =
-      qed W ((‵ (flft κ q) ⊛ ‵ ftrue) ∷ ‵ Own ∷ []) ∵ nothing ! $ owned ! usize (Is usize) (uint-makes 𝓤 H A W w64) 0 _ (refl, lit< tt) $ fjoin ! $ move ! (2 ∷ 0 ∷ []) $ fjoin ! $ move ! (1 ∷ 0 ∷ []) $ join ! $ frame ! $ done !
-
-  new-said : (r : Reader) → ent 𝓤 (ensured 𝓤 H A new.ended (new.clauses 𝓤 H A at-mem run) (κ, tt) (s, (0, tt)) tt r) (fact 𝓤 ((r .bytes ≡ s) × (r .at ≡ 0)))
-  new-said r = exE 𝓤 _ (λ ws. snd∗ 𝓤 (sem 𝓤 H A (lasts new.ended (κ, tt) (s, (0, tt)) ws)) (fact 𝓤 ((r .bytes ≡ s) × (r .at ≡ 0))))
 
   -- `trucks_held` of the truck count
   abbrev to-count : Count 𝓤 H A at-mem run .Ghost
@@ -319,29 +299,28 @@ module _ {M : Type 1} (𝓤 : URA M) (H : Heap 𝓤) (A : Atoms 𝓤) (W : Given
         alloc1 ! (λ l11. alloc1 ! (λ l12. alloc1 ! (λ l13. alloc1 ! (λ l14. alloc1 ! (λ l15. alloc1 ! (λ l16. alloc1 ! (λ l17. alloc1 ! (λ l18. alloc0 ! $ params1 ! $
         pass1 ! (init ! 34 refl (shr-slice-lawful 𝓤 H A W (named 0) κ u8 .typed s (v ∷ []) s-is .0)) $ pass0 ! $
         -- the slice is owned twice: once for the reader, once for the exit
-        move ! (39 ∷ []) $ fsplit ! $ use1 W (‵ Own ⊛ ‵ Own) (shr-slice-copy 𝓤 H A W (named 0) κ u8 .twice s (v ∷ [])) $ split ! $ move ! (41 ∷ 0 ∷ []) $ use2 W (raw (New 𝓤 H A at-mem run .pre to-new)) goes-new $
-        calls-at ! fm (New 𝓤 H A at-mem run) known-new to-new (and-then ! (held ! 37 refl) (and-then ! (lit ! tt) (no-more !))) (λ u.
-        use1 W (later (some (λ (r : Reader). ((‵ (flft κ q) ⊛ ‵ ftrue) ⊛ ‵ (R κ .own r (u ∷ []))) ⊛ raw (ensured 𝓤 H A new.ended (new.clauses 𝓤 H A at-mem run) (κ, tt) (s, (0, tt)) tt r)))) (id⊢ 𝓤 _) $ await ! tt $ pick ! (λ r.
-        split ! $ move ! (1 ∷ []) $ use1 W (raw (fact 𝓤 ((r .bytes ≡ s) × (r .at ≡ 0)))) (new-said r) $ heard ! ((r .bytes ≡ s) × (r .at ≡ 0)) (λ e. split ! $ move ! (1 ∷ []) $ peeks ! (R κ) (Is (R κ)) (shows 𝓤 H A (R κ)) r (u ∷ []) (λ is.
+        move ! (39 ∷ []) $ fsplit ! $ use1 W (‵ Own ⊛ ‵ Own) (shr-slice-copy 𝓤 H A W (named 0) κ u8 .twice s (v ∷ [])) $ split ! $ move ! (41 ∷ 0 ∷ []) $
+        use2 W (raw (New 𝓤 H A at-mem run .pre (to-new 𝓤 H A at-mem run W κ q s 0))) (asks 𝓤 H A at-mem run W κ q s 0 (refl, lit< tt)) $
+        calls-at ! fm (New 𝓤 H A at-mem run) known-new (to-new 𝓤 H A at-mem run W κ q s 0) (and-then ! (held ! 37 refl) (and-then ! (lit ! tt) (no-more !))) (λ u.
+        use1 W (later (Made 𝓤 H A at-mem run W κ q s 0 u)) (makes 𝓤 H A at-mem run W κ q s 0 u) $ await ! tt $ split ! $ peeks ! (R κ) (Is (R κ)) (shows 𝓤 H A (R κ)) (reader s 0) (u ∷ []) (λ is.
         -- [what the reader owns; the token; the slice; true; _18 at 4; …; _0 at 40]
-        land ! (here !) (init ! 24 refl (LL.lawful (Reader-t.the-type αᵉ) (Reader-l.the-laws αᵉ) 𝓤 H A W .typed r _ is .0)) $
-        assigns ! (of-opd ! (held ! 24 refl)) (here !) (init ! 36 refl (LL.lawful (Reader-t.the-type αᵉ) (Reader-l.the-laws αᵉ) 𝓤 H A W .typed r _ is .0)) $ forget ! 24 refl $
-        move ! (36 ∷ 0 ∷ []) $ use2 W (‵ (partAt (R κ) fullShare r l2 0)) (lies 𝓤 H A W κ r l2 u) $
-        rewrite ! 0 (λ (y : Reader). ‵ (partAt (R κ) fullShare y l2 0)) (ap₂ (λ (b : RefT (List ℕ)) (p : ℕ). record { bytes = b; at = p }) (e .0) (e .1)) refl $ move ! (1 ∷ []) $ split ! $ move ! (1 ∷ 4 ∷ []) $ drop ! $ drop ! $
+        land ! (here !) (init ! 24 refl (LL.lawful (Reader-t.the-type αᵉ) (Reader-l.the-laws αᵉ) 𝓤 H A W .typed (reader s 0) _ is .0)) $
+        assigns ! (of-opd ! (held ! 24 refl)) (here !) (init ! 36 refl (LL.lawful (Reader-t.the-type αᵉ) (Reader-l.the-laws αᵉ) 𝓤 H A W .typed (reader s 0) _ is .0)) $ forget ! 24 refl $
+        move ! (36 ∷ 0 ∷ []) $ use2 W (‵ (partAt (R κ) fullShare (reader s 0) l2 0)) (lies 𝓤 H A W κ (reader s 0) l2 u) $ move ! (3 ∷ []) $ drop ! $ move ! (1 ∷ []) $
         -- [the token; the reader; the slice; _18 at 3; …; _3 at 33; _2's end at 35; _1 at 36; _0 at 38]; six bits
         assigns ! (addr ! (here !)) (here !) (init ! 19 refl (tt, tt)) $
-        use2 W (later (Lent 𝓤 H A at-mem run W κ q (reader 0) l2 6)) (lends 𝓤 H A at-mem run W κ q (reader 0) l2 6 (refl, lit< tt)) $ await ! tt $ pick ! (λ ν₁. pick ! (λ δ₁. split ! $
-        calls-at ! fm (Take 𝓤 H A at-mem run) known-take (to 𝓤 H A at-mem run W κ q (reader 0) l2 6 ν₁ δ₁) (and-then ! (held ! 19 refl) (and-then ! (lit ! tt) (no-more !))) (λ u₁.
-        use2 W (later (Back 𝓤 H A at-mem run W κ q (reader 0) l2 6 u₁)) (comes-back 𝓤 H A at-mem run W κ q (reader 0) l2 6 ν₁ δ₁ u₁) $ await ! tt $ pick ! (λ w₁. learn ! (λ e₁.
+        use2 W (later (Lent 𝓤 H A at-mem run W κ q (reader s 0) l2 6)) (lends 𝓤 H A at-mem run W κ q (reader s 0) l2 6 (refl, lit< tt)) $ await ! tt $ pick ! (λ ν₁. pick ! (λ δ₁. split ! $
+        calls-at ! fm (Take 𝓤 H A at-mem run) known-take (to 𝓤 H A at-mem run W κ q (reader s 0) l2 6 ν₁ δ₁) (and-then ! (held ! 19 refl) (and-then ! (lit ! tt) (no-more !))) (λ u₁.
+        use2 W (later (Back 𝓤 H A at-mem run W κ q (reader s 0) l2 6 u₁)) (comes-back 𝓤 H A at-mem run W κ q (reader s 0) l2 6 ν₁ δ₁ u₁) $ await ! tt $ pick ! (λ w₁. learn ! (λ e₁.
         split ! $ move ! (1 ∷ []) $ split ! $ move ! (2 ∷ []) $ peeks ! u32 (Is u32) (shows 𝓤 H A u32) w₁ (u₁ ∷ []) (λ is₁.
         land ! (here !) (init ! 22 refl (uint-lawful 𝓤 H A W w32 .typed w₁ _ is₁ .0)) $ drop ! $ forget ! 19 refl $
         rewrite ! 21 (λ (y : Val). ‵ (fat fullShare (tyInt w32) l9 0 y)) (ap only (is₁ .0) ∙ ap (vint w32) e₁) refl $
         assigns ! (un ! (held ! 21 refl) (record { fits = omega (arith, trucks-lt (now s)) })) (here !) (init ! 33 refl (tt, record { fits = omega (arith, trucks-lt (now s)) })) $
         -- then ten
         assigns ! (addr ! (here !)) (here !) (init ! 17 refl (tt, tt)) $
-        use2 W (later (Lent 𝓤 H A at-mem run W κ q (reader 6) l2 10)) (lends 𝓤 H A at-mem run W κ q (reader 6) l2 10 (refl, lit< tt)) $ await ! tt $ pick ! (λ ν₂. pick ! (λ δ₂. split ! $
-        calls-at ! fm (Take 𝓤 H A at-mem run) known-take (to 𝓤 H A at-mem run W κ q (reader 6) l2 10 ν₂ δ₂) (and-then ! (held ! 17 refl) (and-then ! (lit ! tt) (no-more !))) (λ u₂.
-        use2 W (later (Back 𝓤 H A at-mem run W κ q (reader 6) l2 10 u₂)) (comes-back 𝓤 H A at-mem run W κ q (reader 6) l2 10 ν₂ δ₂ u₂) $ await ! tt $ pick ! (λ w₂. learn ! (λ e₂.
+        use2 W (later (Lent 𝓤 H A at-mem run W κ q (reader s 6) l2 10)) (lends 𝓤 H A at-mem run W κ q (reader s 6) l2 10 (refl, lit< tt)) $ await ! tt $ pick ! (λ ν₂. pick ! (λ δ₂. split ! $
+        calls-at ! fm (Take 𝓤 H A at-mem run) known-take (to 𝓤 H A at-mem run W κ q (reader s 6) l2 10 ν₂ δ₂) (and-then ! (held ! 17 refl) (and-then ! (lit ! tt) (no-more !))) (λ u₂.
+        use2 W (later (Back 𝓤 H A at-mem run W κ q (reader s 6) l2 10 u₂)) (comes-back 𝓤 H A at-mem run W κ q (reader s 6) l2 10 ν₂ δ₂ u₂) $ await ! tt $ pick ! (λ w₂. learn ! (λ e₂.
         split ! $ move ! (1 ∷ []) $ split ! $ move ! (2 ∷ []) $ peeks ! u32 (Is u32) (shows 𝓤 H A u32) w₂ (u₂ ∷ []) (λ is₂.
         land ! (here !) (store ! 22 refl (uint-lawful 𝓤 H A W w32 .typed w₂ _ is₂ .0)) $ drop ! $ forget ! 17 refl $
         rewrite ! 21 (λ (y : Val). ‵ (fat fullShare (tyInt w32) l9 0 y)) (ap only (is₂ .0) ∙ ap (vint w32) e₂) refl $
@@ -361,7 +340,7 @@ module _ {M : Type 1} (𝓤 : URA M) (H : Heap 𝓤) (A : Atoms 𝓤) (W : Given
         fpack ! (List Val) (λ us. fsep (cellAt fullShare (Openings .mir) us l6 0) (Openings .own (replicate 32 0) us)) (openingsVal (replicate 32 0) ∷ []) $
         use1 W (‵ (arr-parts (shares u8) 32 .part fullShare (replicate 32 0) l6 0)) (array-apart 𝓤 H A W u8 fullShare tt 32 (replicate 32 0) l6 0) $ fsplit ! $ feqL ! (λ _.
         rewrite ! 0 (λ (xs : List ℕ). ‵ (row u8 fullShare xs l6 0)) (sym (filled-none (openingAt (now s)) (replicate 32 0))) refl $
-        looped 𝓣 known-take l0 l1 l2 l3 l4 l5 l6 l7 l8 l9 l10 l11 l12 l13 l14 l15 l16 l17 l18)))))))))))))))))))))))))))))))))))))))))
+        looped 𝓣 known-take l0 l1 l2 l3 l4 l5 l6 l7 l8 l9 l10 l11 l12 l13 l14 l15 l16 l17 l18)))))))))))))))))))))))))))))))))))))))
 
 module _ {M : Type 1} (𝓤 : URA M) (H : Heap 𝓤) (A : Atoms 𝓤) (W : Given 𝓤 H A) (mem : Memory → SProp 𝓤) (run : Routine → Fun 𝓤) where
   walks : (𝓣 : Tables 𝓤 H) → Triple 𝓤 (𝓣 .C #bitreader·new) (New 𝓤 H A mem run) → Triple 𝓤 (𝓣 .C #bitreader·take) (Take 𝓤 H A mem run) → Triple 𝓤 (𝓣 .C #recording·trucks-held) (Count 𝓤 H A mem run)

@@ -33,17 +33,21 @@ abbrev μ-loop : tie.MeasureT-loop
 loop-holds : tie.Need-loop-holds Inv-loop μ-loop
 unfolding blank
 loop-holds c =
-    let a = c .before .args in
-    (search needs, ap (λ (g : Fleet). record { n = a .t1 .trucks; done = a .t1 .rounds; trucks = g .trucks }) (c .blank .ensures)
-    ∙ ap (λ (l : List Truck). record { n = a .t1 .trucks; done = a .t1 .rounds; trucks = l }) (sym (filled-none (built (a .t1) (a .b) (a .by .now) (a .ends .now)) (openedTrucks []))))
+    let a = c .before .args in (
+      search needs,
+      ap (λ (g : Fleet). record { n = a .t1 .trucks; done = a .t1 .rounds; trucks = g .trucks }) (c .blank .ensures)
+          ∙ ap (λ (l : List Truck). record { n = a .t1 .trucks; done = a .t1 .rounds; trucks = l }) (sym (filled-none (built (a .t1) (a .b) (a .by .now) (a .ends .now)) (openedTrucks []))),
+    )
 
 loop-again : tie.Need-loop-again Inv-loop μ-loop
 loop-again c =
     let z = c .before .before .before .before .before .before in
     let a = z .args in
-    let l = c .before .before .before .before .loop in
-    (search needs, ap₂ (λ (g : Fleet) (x : List Truck). record { n = g .n; done = g .done; trucks = x }) (l .inv .1)
-    (fill-step (built (a .t1) (a .b) (a .by .now) (a .ends .now)) (openedTrucks []) (l .f .trucks) (l .i) (ap (λ (g : Fleet). g .trucks) (l .inv .1)) (c .truck-of .result) (omega (arith, z .pre, length-opened [])) (c .truck-of .ensures)))
+    let l = c .before .before .before .before .loop in (
+      search needs,
+      ap₂ (λ (g : Fleet) (x : List Truck). record { n = g .n; done = g .done; trucks = x }) (l .inv .1)
+          (fill-step (built (a .t1) (a .b) (a .by .now) (a .ends .now)) (openedTrucks []) (l .f .trucks) (l .i) (ap (λ (g : Fleet). g .trucks) (l .inv .1)) (c .truck-of .result) (omega (arith, z .pre, length-opened [])) (c .truck-of .ensures)),
+    )
 
 returns : tie.Need-returns Inv-loop μ-loop
 returns c =

@@ -31,8 +31,7 @@ proposals-requires c κs =
     let r = c .before .before .before .before .before .before .before .read-front in
     let all = c .before .before .before .before .before .before .everyone in
     let by = c .before .before .before .openers in
-    let at = c .before .before .word-place in
-    (
+    let at = c .before .before .word-place in (
       first-due s (z .pre) (r .result) (r .ensures) (at .result) (all .result) 0 (by .result) (at .ensures)
           (omega (arith, front-rounds s (r .result) (r .ensures), first-few s (z .pre) (r .result) (r .ensures) .1)) (all .ensures) (by .ensures),
       (refl, grades-none s (z .args .judging)),

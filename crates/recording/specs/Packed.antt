@@ -1,12 +1,12 @@
 -- Document 01, 'Bits of a recording': where each field of the packed form stands, and the packed form of plain openings and words.
-use Prim.Native.Nat.{ℕ, _+_, _*_, _-_, _/_, _%_, min}
+use Prim.Native.Nat.{ℕ, _+_, _*_, _-_, _/_, _%_}
 use mathlib.Core.Bool.{cond}
 use mathlib.Core.List.{List, [], _∷_, _++_}
 use lib.Dec.{ltb}
-use lib.ListN.{getD, replicate}
+use lib.ListN.{getD}
 use Rattle.basics.specs.Bits.{digit}
-use Rattle.basics.specs.Lists.{tab, filled}
-use Rattle.recording.specs.declared.Front.{Front}
+use Rattle.basics.specs.Lists.{tab}
+use Rattle.recording.specs.declared.Counts.{Counts}
 unfoldable pub use Rattle.bitreader.specs.Bits.{bitAt, numAt, rowAt}
 
 -- truck count n: 6 bits
@@ -16,6 +16,10 @@ trucksOf s = numAt (bitAt s) 0 6
 -- rounds R: 10 bits
 unfoldable pub roundsOf : List ℕ → ℕ
 roundsOf s = numAt (bitAt s) 6 10
+
+-- the two counts
+abbrev pub countsOf : List ℕ → Counts
+countsOf s = record { trucks = trucksOf s; rounds = roundsOf s }
 
 -- the header: 6 bits of truck count, 10 bits of round count
 abbrev pub headerBits : ℕ
@@ -32,14 +36,6 @@ openingAt s i = numAt (bitAt s) (openingPlace i) 4
 -- n openings, truck 0 first
 unfoldable pub openingsOf : List ℕ → List ℕ
 openingsOf s = tab (openingAt s) (trucksOf s)
-
--- what stands before the rounds: n, R, and the openings in a list of 32 places, 0 in those of other trucks
-unfoldable pub frontOf : List ℕ → Front
-frontOf s = record {
-  trucks = trucksOf s;
-  rounds = roundsOf s;
-  openings = filled (openingAt s) (min (trucksOf s) 32) (replicate 32 0);
-}
 
 -- the words of a round in plain form: stop, active, mark, and a row of loss bits for each truck
 abbrev pub roundWords : ℕ → ℕ

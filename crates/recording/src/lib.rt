@@ -3,8 +3,8 @@ ghost use mathlib.Core.Path.{_≡_};
 ghost use Prim.Native.Nat.{_+_, _*_, _-_, _<_, _≤_, _^_, min};
 ghost use lib.Dec.{eqb};
 ghost use lib.ListN.{length};
-ghost use Rattle.basics.specs.Lists.{first, someBelow};
-ghost use Rattle.recording.specs.Packed.{bitAt, trucksOf, roundsOf, frontOf, openingPlace, openingAt, wordPlace, wordAt, bitsFor, bytesFor};
+ghost use Rattle.basics.specs.Lists.{first, someBelow, filled};
+ghost use Rattle.recording.specs.Packed.{bitAt, trucksOf, roundsOf, countsOf, openingPlace, openingAt, wordPlace, wordAt, bitsFor, bytesFor};
 ghost use Rattle.recording.specs.Checks.{badTrucks, firstOwn, frameCheck, checkOf};
 use refusals::Outcome;
 use refusals::Refusal;
@@ -12,39 +12,46 @@ use refusals::Refusal;
 // The header: 6 bits of truck count, 10 bits of round count.
 pub const HEADER_BITS: usize = 16;
 
-// How many of n trucks have a place in a list of 32.
-fn trucks_held(n: u8) -> usize
-    ensures { λ r. ⌜ r ≡ min n 32 ⌝ }
-{
-    if n < 32 { n as usize } else { 32 }
-}
-
-// What stands before the rounds. Of more than 32 trucks the first 32 openings; the places of other trucks hold 0.
-pub struct Front {
+// The header's truck count and round count.
+pub struct Counts {
     pub trucks: u8,
     pub rounds: u16,
-    pub openings: [u8; 32],
 }
 
-// One reader from the first bit on: it reads the two counts, then opening after opening.
-pub fn read_front(s: &[u8]) -> Front
-    ensures { λ r. ⌜ r ≡ frontOf (now (s .entry)) ⌝ }
+// How many openings of n trucks are read into so many places.
+fn openings_read(n: u8, places: usize) -> usize
+    ensures { λ r. ⌜ r ≡ min n places ⌝ }
+{
+    if (n as usize) < places {
+        n as usize
+    } else {
+        places
+    }
+}
+
+// One reader from the first bit on: over the two counts, then from opening to opening, each of which it puts into its place as long as places are lent.
+pub fn read_front(s: &[u8], openings: &mut [u8]) -> Counts
+    ensures { λ r. ⌜ (r ≡ countsOf (now (s .entry)))
+        × (now (openings .exit) ≡ filled (openingAt (now (s .entry))) (min (trucksOf (now (s .entry))) (length (now (openings .entry)))) (now (openings .entry))) ⌝ }
 {
     let mut r = bitreader::new(s, 0);
     let trucks = bitreader::take(&mut r, 6) as u8;
     let rounds = bitreader::take(&mut r, 10) as u16;
-    let end = trucks_held(trucks);
-    let mut openings = [0u8; 32];
+    let end = openings_read(trucks, openings.len());
     let mut i = 0;
     while i < end {
         openings[i] = bitreader::take(&mut r, 4) as u8;
         i += 1;
     }
-    Front {
-        trucks,
-        rounds,
-        openings,
-    }
+    Counts { trucks, rounds }
+}
+
+// The counts alone, with no place lent for an opening.
+pub fn read_counts(s: &[u8]) -> Counts
+    ensures { λ r. ⌜ r ≡ countsOf (now (s .entry)) ⌝ }
+{
+    let mut none = [0u8; 0];
+    read_front(s, &mut none)
 }
 
 // The place of opening i; after n openings, that of the first word.
@@ -183,13 +190,13 @@ fn own_place(s: &[u8], trucks: u8, rounds: usize) -> OwnPlace
 pub fn check(s: &[u8]) -> Outcome
     ensures { λ r. ⌜ r ≡ checkOf (now (s .entry)) ⌝ }
 {
-    let f = read_front(s);
-    let frame = check_frame(s, f.trucks, f.rounds);
+    let c = read_counts(s);
+    let frame = check_frame(s, c.trucks, c.rounds);
     match frame {
         Outcome::Refused(r) => Outcome::Refused(r),
         Outcome::Accepted => {
-            let rounds = f.rounds as usize;
-            let own = own_place(s, f.trucks, rounds);
+            let rounds = c.rounds as usize;
+            let own = own_place(s, c.trucks, rounds);
             if own.round < rounds {
                 return Outcome::Refused(Refusal::OwnLoss);
             }

@@ -2,23 +2,23 @@
 use mathlib.Core.Path.{_≡_, ap, ap₂, sym, _∙_}
 use mathlib.Core.Bool.{Bool, true, false, _||_}
 use mathlib.Core.List.{List}
-use Prim.Native.Nat.{ℕ, _+_, _*_, _≤_, _<_}
+use Prim.Native.Nat.{ℕ, _+_, _*_, _≤_, _<_, min}
+use native.Mathlib.Nat.{min-eq-left}
 use native.Mathlib.Omega.{arith}
 use borrow.Author.Tests.{ltb-false, lt-ltb, le-ltb}
 use lib.Dec.{ltb}
-use lib.ListN.{length, getD}
+use lib.ListN.{length}
 use Rattle.refusals.specs.declared.Refusal.{Refusal}
 use Rattle.refusals.specs.declared.Refusal.the-variants.{ShortBuffer}
 use Rattle.refusals.specs.declared.Outcome.{Outcome}
 use Rattle.refusals.specs.declared.Outcome.the-variants.{Accepted, Refused}
 use Rattle.refusals.specs.Outcomes.{refuse, andThen}
 use Rattle.basics.specs.Lists.{filled}
-use Rattle.recording.specs.Packed.{trucksOf, openingAt, frontOf, wordAt, bytesFor, pack, packed}
+use Rattle.recording.specs.Packed.{trucksOf, roundsOf, countsOf, openingAt, wordAt, bytesFor, pack, packed}
 use Rattle.recording.specs.Checks.{checkOf, plainCheck}
-use Rattle.basics.proofs.Laws.{or-left, or-right, filled-ext}
-use Rattle.recording.specs.declared.Front.{Front}
+use Rattle.basics.proofs.Laws.{or-left, or-right}
+use Rattle.recording.specs.declared.Counts.{Counts}
 use Rattle.recording.proofs.Accepted.{bytes-good}
-use Rattle.recording.proofs.Fronts.{front-trucks, front-rounds, front-opening}
 use Rattle.plain.specs.declared.ReadOutcome.the-variants.{Plain, Refused as NotRead}
 use Rattle.plain.specs.declared.WriteOutcome.the-variants.{Bytes, Refused as NotWritten}
 use Rattle.plain.specs.Forms.{afterRead, shortBuffers, readCheck, readAs, readPlain, afterWrite, writeCheck, writeAs, writePlain}
@@ -30,21 +30,15 @@ unfolding readPlain readCheck
 read-refused s openings words f r e h =
     ap (λ (o : Outcome). readAs (andThen o (refuse (shortBuffers s (length openings) (length words)) ShortBuffer Accepted)) s openings words) (sym h ∙ e)
 
-module _ (s openings words : List ℕ) (f : Outcome) (front : Front) (checked : f ≡ checkOf s) (kept : f ≡ Accepted) (met : front ≡ frontOf s) where
-  abbrev n : ℕ
-  n = front .trucks
-
-  abbrev R : ℕ
-  R = front .rounds
-
+module _ (s openings words : List ℕ) (f : Outcome) (n R : ℕ) (checked : f ≡ checkOf s) (kept : f ≡ Accepted) (counted : n ≡ trucksOf s) (played : R ≡ roundsOf s) where
   pub read-most : n ≤ 32
-  read-most = omega (arith, front-trucks s front met, bytes-good s (sym checked ∙ kept) .frame .most)
+  read-most = omega (arith, bytes-good s (sym checked ∙ kept) .frame .most)
 
   read-by : (b : Bool) → (ltb (length openings) n || ltb (length words) (R * (3 + n))) ≡ b → readAs (refuse b ShortBuffer Accepted) s openings words ≡ readPlain s openings words
   unfolding readPlain readCheck shortBuffers
   read-by b h =
       ap₂ (λ (o : Outcome) (x : Bool). readAs (andThen o (refuse x ShortBuffer Accepted)) s openings words) (sym kept ∙ checked)
-      (sym h ∙ ap₂ (λ (a c : ℕ). ltb (length openings) a || ltb (length words) (c * (3 + a))) (front-trucks s front met) (front-rounds s front met))
+      (sym h ∙ ap₂ (λ (a c : ℕ). ltb (length openings) a || ltb (length words) (c * (3 + a))) counted played)
 
   pub read-9 : (ltb (length openings) n || ltb (length words) (R * (3 + n))) ≡ true → afterRead (NotRead ShortBuffer) openings words ≡ readPlain s openings words
   read-9 h = read-by true h
@@ -56,11 +50,12 @@ module _ (s openings words : List ℕ) (f : Outcome) (front : Front) (checked : 
     pub words-room : R * (3 + n) ≤ length words
     words-room = ltb-false (length words) (R * (3 + n)) (or-right (ltb (length openings) n) (ltb (length words) (R * (3 + n))) room)
 
-    pub read-0 : (o w : List ℕ) → o ≡ filled (λ i. getD (front .openings) i 0) n openings → w ≡ filled (wordAt s) (R * (3 + n)) words → afterRead (Plain n R) o w ≡ readPlain s openings words
-    read-0 o w p q =
-        let counted : n ≡ trucksOf s = front-trucks s front met in
-        ap₂ (λ (a b : List ℕ). afterRead (Plain n R) a b) (p ∙ filled-ext (λ i. getD (front .openings) i 0) (openingAt s) n openings (λ i h. front-opening s front met i (omega arith) (omega (arith, read-most)))) q
-        ∙ ap₂ (λ (a c : ℕ). afterRead (Plain a c) (filled (openingAt s) a openings) (filled (wordAt s) (c * (3 + a)) words)) (front-trucks s front met) (front-rounds s front met)
+    pub read-0 : (front : Counts) (o w : List ℕ) → front ≡ countsOf s → o ≡ filled (openingAt s) (min (trucksOf s) (length openings)) openings → w ≡ filled (wordAt s) (R * (3 + n)) words
+        → afterRead (Plain (front .trucks) (front .rounds)) o w ≡ readPlain s openings words
+    read-0 front o w met p q =
+        ap (λ (c : Counts). afterRead (Plain (c .trucks) (c .rounds)) o w) met
+        ∙ ap₂ (λ (a b : List ℕ). afterRead (Plain (trucksOf s) (roundsOf s)) a b) (p ∙ ap (λ (k : ℕ). filled (openingAt s) k openings) (min-eq-left (omega (arith, openings-room)))) q
+        ∙ ap (λ (k : ℕ). afterRead (Plain (trucksOf s) (roundsOf s)) (filled (openingAt s) (trucksOf s) openings) (filled (wordAt s) k words)) (ap₂ (λ (a c : ℕ). c * (3 + a)) counted played)
         ∙ read-by false room
 
 -- ---- writing

@@ -145,18 +145,6 @@ pub fn check_plain(trucks: u8, rounds: u16, openings: &[u8], words: &[u32]) -> O
     check_rounds(trucks, rounds, words)
 }
 
-fn fill_openings(from: &[u8; 32], openings: &mut [u8], n: u8)
-    requires { ⌜ (n ≤ 32) × ((n ≤ length (now openings)) × (length (now from) ≡ 32)) ⌝ }
-    ensures { λ r. ⌜ now (openings .exit) ≡ filled (λ i. getD (now (from .entry)) i 0) n (now (openings .entry)) ⌝ }
-{
-    let end = n as usize;
-    let mut i = 0;
-    while i < end {
-        openings[i] = from[i];
-        i += 1;
-    }
-}
-
 fn swap_bytes(x: u32) -> u32
     ensures { λ r. ⌜ r ≡ swapped x ⌝ }
 {
@@ -215,17 +203,17 @@ pub fn read(s: &[u8], openings: &mut [u8], words: &mut [u32]) -> ReadOutcome
     match c {
         Outcome::Refused(r) => ReadOutcome::Refused(r),
         Outcome::Accepted => {
-            let f = recording::read_front(s);
-            let n = f.trucks as usize;
-            let count = f.rounds as usize * (3 + n);
+            let counts = recording::read_counts(s);
+            let n = counts.trucks as usize;
+            let count = counts.rounds as usize * (3 + n);
             if (openings.len() < n) | (words.len() < count) {
                 return ReadOutcome::Refused(Refusal::ShortBuffer);
             }
-            fill_openings(&f.openings, openings, f.trucks);
-            fill_words(s, words, f.trucks, count);
+            let front = recording::read_front(s, openings);
+            fill_words(s, words, front.trucks, count);
             ReadOutcome::Plain {
-                trucks: f.trucks,
-                rounds: f.rounds,
+                trucks: front.trucks,
+                rounds: front.rounds,
             }
         }
     }

@@ -12,7 +12,7 @@ use Rattle.radio.specs.Round.{activeBit}
 use Rattle.refusals.specs.declared.Outcome.the-variants.{Accepted}
 use Rattle.bitreader.specs.Bits.{bitAt, numAt}
 use Rattle.recording.specs.Packed.{trucksOf, openingAt, openingsOf, roundPlace, roundAt}
-use Rattle.recording.specs.declared.Front.{Front}
+use Rattle.recording.specs.declared.Counts.{Counts}
 use Rattle.recording.specs.Checks.{frameCheck}
 use Rattle.protocol.specs.declared.Heard.{Heard}
 use Rattle.protocol.specs.declared.Heard.the-variants.{Nothing, One, Several}
@@ -59,11 +59,11 @@ truckBy b by opening end p =
     (bit (b .running) p) (bit (b .decided) p) (bit (b .marked) p) end
 
 -- the record of the trucks by these sets, with all rounds done
-abbrev pub fleetBy : Front → Sets → List ℕ → List ℕ → Fleet
-fleetBy front b by ends = record {
-  n = front .trucks;
-  done = front .rounds;
-  trucks = filled (λ i. truckBy b by (getD (front .openings) i 0) (getD ends i 0) (31 - i)) (front .trucks) (openedTrucks []);
+abbrev pub fleetBy : Counts → List ℕ → Sets → List ℕ → List ℕ → Fleet
+fleetBy c openings b by ends = record {
+  n = c .trucks;
+  done = c .rounds;
+  trucks = filled (λ i. truckBy b by (getD openings i 0) (getD ends i 0) (31 - i)) (c .trucks) (openedTrucks []);
 }
 
 -- the sets say how n trucks with these openings stand after k rounds. What a truck with a mark heard is known after the last round only:

@@ -10,7 +10,7 @@ use protocol::Grades;
 use protocol::Heard;
 use protocol::State;
 use protocol::Truck;
-use recording::Front;
+use recording::Counts;
 ghost use mathlib.Core.Path.{_≡_};
 ghost use mathlib.Core.Bool.{false, true, cond};
 ghost use Prim.Native.Nat.{_+_, _*_, _-_, _<_, _≤_, _^_, ℕ};
@@ -301,17 +301,17 @@ fn truck_of(b: Sets, by: &[u32; 16], opening: u8, end: u16, p: usize) -> Truck
 }
 
 // The record of a run that has come to its end, with all rounds done.
-fn fleet_of(front: Front, b: Sets, by: &[u32; 16], ends: &[u16; 32]) -> Fleet
-    requires { ⌜ front .trucks ≤ 32 ⌝ }
-    ensures { λ r. ⌜ r ≡ fleetBy front b (now (by .entry)) (now (ends .entry)) ⌝ }
+fn fleet_of(c: Counts, openings: &[u8; 32], b: Sets, by: &[u32; 16], ends: &[u16; 32]) -> Fleet
+    requires { ⌜ c .trucks ≤ 32 ⌝ }
+    ensures { λ r. ⌜ r ≡ fleetBy c (now (openings .entry)) b (now (by .entry)) (now (ends .entry)) ⌝ }
 {
     let mut f = fleetrecord::blank();
-    f.n = front.trucks;
-    f.done = front.rounds;
-    let n = front.trucks as usize;
+    f.n = c.trucks;
+    f.done = c.rounds;
+    let n = c.trucks as usize;
     let mut i = 0;
     while i < n {
-        f.trucks[i] = truck_of(b, by, front.openings[i], ends[i], 31 - i);
+        f.trucks[i] = truck_of(b, by, openings[i], ends[i], 31 - i);
         i += 1;
     }
     f
@@ -347,10 +347,11 @@ pub(crate) fn replay(s: &[u8], judging: bool) -> Course
     ensures { λ r. ⌜ (r .fleet ≡ fleetAfter (now (s .entry)) (roundsOf (now (s .entry))))
         × (r .grades ≡ gradesAfter (now (s .entry)) judging (roundsOf (now (s .entry)))) ⌝ }
 {
-    let front = recording::read_front(s);
-    let n = front.trucks as usize;
+    let mut openings = [0u8; 32];
+    let c = recording::read_front(s, &mut openings);
+    let n = c.trucks as usize;
     let all = everyone(n);
-    let mut by = openers(&front.openings, all);
+    let mut by = openers(&openings, all);
     let mut ends = [0u16; 32];
     let none = Grades {
         complete: 0,
@@ -360,9 +361,9 @@ pub(crate) fn replay(s: &[u8], judging: bool) -> Course
     };
     let b = proposals(
         s,
-        recording::word_place(front.trucks, 0),
+        recording::word_place(c.trucks, 0),
         n,
-        front.rounds,
+        c.rounds,
         0,
         &mut by,
         &mut ends,
@@ -373,6 +374,6 @@ pub(crate) fn replay(s: &[u8], judging: bool) -> Course
         none,
     );
     let grades = b.grades;
-    let fleet = fleet_of(front, b, &by, &ends);
+    let fleet = fleet_of(c, &openings, b, &by, &ends);
     Course { fleet, grades }
 }

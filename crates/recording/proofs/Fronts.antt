@@ -1,9 +1,13 @@
 -- The reader that goes over what stands before the rounds: the places that it comes to, and that what it reads fits.
 use mathlib.Core.Path.{_≡_, refl, ap, _∙_}
 use mathlib.Core.List.{List}
-use Prim.Native.Nat.{ℕ, _+_, _<_}
+use Prim.Native.Nat.{ℕ, _+_, _<_, min}
 use native.Mathlib.Nat.{min-eq-left}
+use native.Mathlib.Decide.{decLt}
 use native.Mathlib.Omega.{arith}
+use lib.ListN.{length, getD}
+use Rattle.basics.specs.Lists.{filled}
+use Rattle.basics.proofs.Laws.{getD-filled, getD-filled-past}
 use Rattle.bitreader.specs.Bits.{placeAfter}
 use Rattle.bitreader.proofs.Digits.{bitAt-lt, numAt-lt}
 use Rattle.recording.specs.Packed.{bitAt, trucksOf, roundsOf, countsOf, openingPlace, openingAt}
@@ -36,3 +40,16 @@ module _ (s : List ℕ) (c : Counts) (e : c ≡ countsOf s) where
 
   pub counts-rounds : c .rounds ≡ roundsOf s
   counts-rounds = ap (λ (d : Counts). d .rounds) e
+
+-- the places o that were lent as xs and into which the openings were read
+module _ (s xs o : List ℕ) (e : o ≡ filled (openingAt s) (min (trucksOf s) (length xs)) xs) where
+  pub front-opening : (i : ℕ) → i < trucksOf s → i < length xs → getD o i 0 ≡ openingAt s i
+  front-opening i h l = ap (λ (l : List ℕ). getD l i 0) e ∙ getD-filled (openingAt s) (min (trucksOf s) (length xs)) xs i 0 (omega arith)
+
+  -- each holds four bits, if it did so before
+  pub front-small : ((i : ℕ) → getD xs i 0 < 16) → (i : ℕ) → getD o i 0 < 16
+  front-small was i = rw (ap (λ (l : List ℕ). getD l i 0) e) (at (decLt i (min (trucksOf s) (length xs))))
+    where
+      at : Dec (i < min (trucksOf s) (length xs)) → getD (filled (openingAt s) (min (trucksOf s) (length xs)) xs) i 0 < 16
+      at (yes h) = rw (getD-filled (openingAt s) (min (trucksOf s) (length xs)) xs i 0 h) (opening-lt s i)
+      at (no h) = rw (getD-filled-past (openingAt s) (min (trucksOf s) (length xs)) xs i 0 (omega arith)) (was i)

@@ -4,13 +4,11 @@ use mathlib.Core.List.{List, []}
 use Prim.Native.Nat.{ℕ, _≤_, _-_}
 use native.Mathlib.Omega.{arith}
 use borrow.Author.Needs.{needs}
-use lib.ListN.{getD}
+use lib.ListN.{length, getD}
 use Rattle.basics.specs.Lists.{filled}
 use Rattle.basics.proofs.Laws.{filled-none, fill-step}
-use Rattle.recording.specs.declared.Front.{Front}
 use Rattle.protocol.specs.declared.Fleet.{Fleet}
 use Rattle.protocol.specs.declared.Truck.{Truck}
-use Rattle.protocol.specs.Runs.{openedTrucks}
 use Rattle.protocol.specs.Fleets.{blank}
 use Rattle.protocol.proofs.Opened.{length-opened}
 use Rattle.fleet.specs.declared.replay.Sets.{Sets}
@@ -18,42 +16,47 @@ use Rattle.fleet.specs.Standing.{truckBy}
 use Rattle.fleet.proofs.replay.fleet_of.Statement.{statement}
 use Rattle.fleet.proofs.replay.fleet_of.Tie as tie
 
-abbrev built : Front → Sets → List ℕ → List ℕ → ℕ → Truck
-built front b by ends i = truckBy b by (getD (front .openings) i 0) (getD ends i 0) (31 - i)
+abbrev built : List ℕ → Sets → List ℕ → List ℕ → ℕ → Truck
+built openings b by ends i = truckBy b by (getD openings i 0) (getD ends i 0) (31 - i)
 
-abbrev upTo : Front → Sets → List ℕ → List ℕ → ℕ → Fleet
-upTo front b by ends i = record { n = front .trucks; done = front .rounds; trucks = filled (built front b by ends) i (openedTrucks []) }
+-- the record f₀ with its first i trucks so
+abbrev upTo : Fleet → List ℕ → Sets → List ℕ → List ℕ → ℕ → Fleet
+upTo f₀ openings b by ends i = record { n = f₀ .n; done = f₀ .done; trucks = filled (built openings b by ends) i (f₀ .trucks) }
 
 abbrev Inv-loop : tie.InvT-loop
-Inv-loop b by ends front f₀ n i₀ f i = (i ≤ n) × (f ≡ upTo front b by ends i)
+Inv-loop openings b by ends f₀ n i₀ f i = (i ≤ n) × (f ≡ upTo f₀ openings b by ends i)
 
 abbrev μ-loop : tie.MeasureT-loop
-μ-loop b by ends front f₀ n i₀ f i = n - i
+μ-loop openings b by ends f₀ n i₀ f i = n - i
 
 loop-holds : tie.Need-loop-holds Inv-loop μ-loop
-unfolding blank
 loop-holds c =
-    let a = c .before .args in (
+    let a = c .before .before .args in (
       search needs,
-      ap (λ (g : Fleet). record { n = a .t1 .trucks; done = a .t1 .rounds; trucks = g .trucks }) (c .blank .ensures)
-          ∙ ap (λ (l : List Truck). record { n = a .t1 .trucks; done = a .t1 .rounds; trucks = l }) (sym (filled-none (built (a .t1) (a .b) (a .by .now) (a .ends .now)) (openedTrucks []))),
+      ap (λ (l : List Truck). record { n = a .c .trucks; done = a .c .rounds; trucks = l }) (sym (filled-none (built (a .openings .now) (a .b) (a .by .now) (a .ends .now)) (c .before .blank .result .trucks))),
     )
 
 loop-again : tie.Need-loop-again Inv-loop μ-loop
+unfolding blank
 loop-again c =
-    let z = c .before .before .before .before .before .before in
+    let z = c .before .before .before .before .before .before .before in
     let a = z .args in
+    let g = c .before .before .before .before .before .before .blank in
     let l = c .before .before .before .before .loop in (
       search needs,
-      ap₂ (λ (g : Fleet) (x : List Truck). record { n = g .n; done = g .done; trucks = x }) (l .inv .1)
-          (fill-step (built (a .t1) (a .b) (a .by .now) (a .ends .now)) (openedTrucks []) (l .f .trucks) (l .i) (ap (λ (g : Fleet). g .trucks) (l .inv .1)) (c .truck-of .result) (omega (arith, z .pre, length-opened [])) (c .truck-of .ensures)),
+      ap₂ (λ (f : Fleet) (x : List Truck). record { n = f .n; done = f .done; trucks = x }) (l .inv .1)
+          (fill-step (built (a .openings .now) (a .b) (a .by .now) (a .ends .now)) (g .result .trucks) (l .f .trucks) (l .i) (ap (λ (f : Fleet). f .trucks) (l .inv .1)) (c .truck-of .result)
+          (omega (arith, z .pre, ap (λ (f : Fleet). length (f .trucks)) (g .ensures), length-opened [])) (c .truck-of .ensures)),
     )
 
 returns : tie.Need-returns Inv-loop μ-loop
+unfolding blank
 returns c =
-    let a = c .before .before .before .args in
+    let a = c .before .before .before .before .args in
     let l = c .before .loop in
-    l .inv .1 ∙ ap (upTo (a .t1) (a .b) (a .by .now) (a .ends .now)) (omega (arith, l .inv .0, c .loop-test .left))
+    l .inv .1
+    ∙ ap₂ (λ (i : ℕ) (x : List Truck). record { n = a .c .trucks; done = a .c .rounds; trucks = filled (built (a .openings .now) (a .b) (a .by .now) (a .ends .now)) i x })
+    (omega (arith, l .inv .0, c .loop-test .left)) (ap (λ (f : Fleet). f .trucks) (c .before .before .before .blank .ensures))
 
 pub fleet-of-spec : {M : Type 1} → statement M
 fleet-of-spec =

@@ -186,29 +186,18 @@ pub fn take<'s, 'a>(r: &'s mut Reader<'a>, k: usize) -> u32
     v
 }
 
-// What was read, and the place of the bit after it.
-pub struct Taken {
-    pub value: u32,
-    pub next: usize,
-}
-
-// A reader in a local: whoever reads on plain parameters reads by this one.
-pub fn read_at(s: &[u8], at: usize, k: usize) -> Taken
-    ensures { λ r. ⌜ (r .value ≡ numAt (bitAt (now (s .entry))) at (bitsRead k)) × (r .next ≡ placeAfter at k) ⌝ }
+// A reader in a local: what is read at a place of its own, on plain parameters, is read by this one.
+pub fn read_at(s: &[u8], at: usize, k: usize) -> u32
+    ensures { λ r. ⌜ r ≡ numAt (bitAt (now (s .entry))) at (bitsRead k) ⌝ }
 {
     let mut r = new(s, at);
-    let v = take(&mut r, k);
-    Taken {
-        value: v,
-        next: r.at,
-    }
+    take(&mut r, k)
 }
 
 // The same bits as a word of plain form, out of the word of 32 bits: a fixed number of them is faster to gather and to turn.
 pub fn row_at(s: &[u8], at: usize, k: usize) -> u32
     ensures { λ r. ⌜ r ≡ rowAt (bitAt (now (s .entry))) at (bitsRead k) ⌝ }
 {
-    let t = read_at(s, at, 32);
-    let all = mirror(t.value, 32) as u64;
+    let all = mirror(read_at(s, at, 32), 32) as u64;
     low_bits(all, bits_read(k)) as u32
 }

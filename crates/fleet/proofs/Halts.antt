@@ -2,7 +2,7 @@
 use mathlib.Core.Path.{_≡_, refl, ap, ap₂, sym, subst, subst₂, _∙_}
 use mathlib.Core.Bool.{Bool, true, false, cond, not, _&&_, _||_, and-false, true≢false, false≢true}
 use mathlib.Core.List.{List, []}
-use Prim.Native.Nat.{ℕ, suc, _+_, _*_, _-_, _^_, _≤_, _<_}
+use Prim.Native.Nat.{ℕ, zero, suc, min, _+_, _*_, _-_, _^_, _≤_, _<_}
 use native.Mathlib.Nat.{mul-le-mul}
 use native.Mathlib.Numerals.{add-one}
 use native.Mathlib.Decide.{decLt, ℕ-discrete}
@@ -10,27 +10,28 @@ use native.Mathlib.Omega.{arith}
 use borrow.Author.Tests.{eq-eqb, ne-eqb, eqb-true, eqb-false, lt-ltb, le-ltb, not-false}
 use lib.Bits.{bitAnd, bitOr, and-le-l, and-zero-l, and-zero-r}
 use lib.Pow.{pow-lt}
-use lib.Dec.{eqb, ltb}
-use lib.ListN.{length, getD, set, replicate}
+use lib.Dec.{eqb, ltb, lit<}
+use lib.ListN.{length, getD, replicate}
 use lib.Seq.{ext-getD}
 use Rattle.radio.specs.Runs.{stateAt}
 use Rattle.basics.specs.Bits.{bit, odd}
 use Rattle.basics.specs.Lists.{filled, first}
-use Rattle.basics.proofs.Laws.{or-left, or-right, odd-suc, first-unique, getD-filled, getD-filled-past, length-filled, length-tab, getD-tab, filled-none, fill-step}
+use Rattle.basics.proofs.Laws.{or-left, or-right, odd-suc, first-unique, getD-filled, getD-filled-past, length-filled, length-tab, getD-tab}
 use Rattle.refusals.specs.declared.Outcome.the-variants.{Accepted}
 use Rattle.basics.proofs.Bits.{bit-and, bit-or}
 use Rattle.sets.proofs.Words.{bit-power, bit-zero, no-bits}
-use Rattle.recording.specs.Packed.{trucksOf, roundsOf, openingAt, openingsOf, wordPlace, roundPlace, roundAt}
+use Rattle.recording.specs.Packed.{trucksOf, roundsOf, countsOf, openingAt, openingsOf, wordPlace, roundPlace, roundAt}
+use Rattle.recording.specs.declared.Counts.{Counts}
 use Rattle.recording.specs.Checks.{frameCheck}
+use Rattle.recording.proofs.Fronts.{counts-trucks, front-opening, front-small}
 use Rattle.recording.proofs.Accepted.{frame-good}
 use Rattle.protocol.specs.declared.Heard.{Heard}
 use Rattle.protocol.specs.declared.Heard.the-variants.{Nothing}
 use Rattle.protocol.specs.declared.Truck.{Truck}
-use Rattle.protocol.specs.declared.Fleet.{Fleet}
 use Rattle.protocol.specs.Cycles.{afterIn}
 use Rattle.protocol.specs.Rules.{opened, truck, after, isOne, isSeveral, twoRules}
 use Rattle.protocol.specs.Runs.{openedTrucks, trucksAt, trucksIn}
-use Rattle.protocol.specs.Fleets.{blank, fleetIn}
+use Rattle.protocol.specs.Fleets.{fleetIn}
 use Rattle.radio.specs.Round.{activeBit}
 use Rattle.fleetrecord.proofs.Records.{length-start}
 use Rattle.protocol.proofs.Opened.{length-opened, truck-unopened}
@@ -48,7 +49,7 @@ use Rattle.fleet.specs.Grading.{carriedBy, RadioSets}
 use Rattle.radio.specs.Radio.{Radio}
 use Rattle.protocol.specs.declared.Grades.{Grades}
 use Rattle.fleet.proofs.Graded.{radioAfter, grades-next, grades-idle}
-use Rattle.fleet.specs.Standing.{ReadsAs, nextTrucks, holds, trucksAfter, stateOf, memoryOf, standing, truckBy, Stands, Proposes, Vetoes, noted, Fresh, Due, Halted}
+use Rattle.fleet.specs.Standing.{ReadsAs, nextTrucks, holds, trucksAfter, stateOf, memoryOf, standing, truckBy, fleetBy, Stands, Proposes, Vetoes, noted, Fresh, Due, Halted}
 use Rattle.fleet.proofs.Reading.{word-here, place-small, place-next}
 use Rattle.fleet.proofs.Places.{read-bit, everyone, everyone-lt, everyone-in, everyone-out, turn-back}
 use Rattle.fleet.proofs.Stood.{runs-is, memory-back, proposal-stands, veto-stands, veto-ended, proposal-radio, veto-radio}
@@ -226,9 +227,6 @@ unused s k j h =
     (λ i l e. getD-filled-past _ (trucksOf s) (trucksAfter s i) j (opened 0) h ∙ e) k (omega arith)
 
 module _ {s : List ℕ} {last : ℕ} {by ends : List ℕ} {b : Sets} (h : Halted s last by ends 0 b) where
-  pub halted-few : trucksOf s ≤ 32
-  halted-few = few s (h .good)
-
   abbrev then : List Truck
   then = trucksAfter s (b .done)
 
@@ -275,38 +273,45 @@ module _ {s : List ℕ} {last : ℕ} {by ends : List ℕ} {b : Sets} (h : Halted
       ∙ ap₂ (λ (e : ℕ) (x : Heard). record { opening = openingAt s j; estimate = e; mark = holds (b .running) j && holds (b .marked) j; heard = x; state = stateOf (holds (b .running) j) (holds (b .decided) j) (getD ends j 0) })
       (sym (estimate-is j l)) (heard-then j l (holds (b .running) j) refl))
 
-  -- the record, truck by truck
-  abbrev pub Filling : ℕ → Fleet → ℕ → Type 0
-  Filling n f i = f ≡ record { n = n; done = last; trucks = filled (truck (trucksAfter s last)) i (openedTrucks []) }
-
-  pub filling-starts : (n : ℕ) (f : Fleet) → f ≡ blank → Filling n (record { n = n; done = last; trucks = f .trucks }) 0
-  unfolding blank
-  filling-starts n f e =
-      ap (λ (l : List Truck). record { n = n; done = last; trucks = l }) (ap (λ (g : Fleet). g .trucks) e ∙ sym (filled-none (truck (trucksAfter s last)) (openedTrucks [])))
-
-  pub filling-more : (n : ℕ) (f : Fleet) (i : ℕ) (t : Truck) → Filling n f i → i < trucksOf s
-      → t ≡ truckBy b by (openingAt s i) (getD ends i 0) (31 - i)
-      → Filling n (record { n = f .n; done = f .done; trucks = set (f .trucks) i t }) (i + 1)
-  filling-more n f i t g l e =
-      ap₂ (λ (a : Fleet) (x : List Truck). record { n = a .n; done = a .done; trucks = x }) g
-      (fill-step (truck (trucksAfter s last)) (openedTrucks []) (f .trucks) i (ap (λ (a : Fleet). a .trucks) g) t (omega (arith, l, few s (h .good), length-opened [])) (e ∙ truck-ended i l))
-
-  pub filling-done : (n : ℕ) (f : Fleet) (i : ℕ) → Filling n f i → n ≡ trucksOf s → i ≡ n → f ≡ fleetAfter s last
+  -- the record is that of the run
+  pub fleet-ended : (c : Counts) (openings : List ℕ) → c ≡ countsOf s → ((j : ℕ) → j < trucksOf s → getD openings j 0 ≡ openingAt s j) → c .rounds ≡ last → fleetBy c openings b by ends ≡ fleetAfter s last
   unfolding fleetIn
-  filling-done n f i g count e =
-      g ∙ ap₂ (λ (m : ℕ) (x : List Truck). record { n = m; done = last; trucks = x }) count
-      (ap (λ (m : ℕ). filled (truck (trucksAfter s last)) m (openedTrucks [])) (e ∙ count)
-      ∙ ext-getD (opened 0) (filled (truck (trucksAfter s last)) (trucksOf s) (openedTrucks [])) (trucksAfter s last)
-      (length-filled (truck (trucksAfter s last)) (trucksOf s) (openedTrucks []) (omega (arith, few s (h .good), length-opened [])) ∙ length-opened []
+  fleet-ended c openings met opens done =
+      ap₂ (λ (m k : ℕ). record { n = m; done = k; trucks = filled built m (openedTrucks []) }) count done
+      ∙ ap (λ (x : List Truck). record { n = trucksOf s; done = last; trucks = x })
+      (ext-getD (opened 0) (filled built (trucksOf s) (openedTrucks [])) (trucksAfter s last)
+      (length-filled built (trucksOf s) (openedTrucks []) (omega (arith, few s (h .good), length-opened [])) ∙ length-opened []
       ∙ sym (places (trucksOf s) (openingsOf s) (roundAt s) (few s (h .good)) last)) (λ j o. each j (decLt j (trucksOf s))))
     where
-      each : (j : ℕ) → Dec (j < trucksOf s) → getD (filled (truck (trucksAfter s last)) (trucksOf s) (openedTrucks [])) j (opened 0) ≡ getD (trucksAfter s last) j (opened 0)
-      each j (yes l) = getD-filled (truck (trucksAfter s last)) (trucksOf s) (openedTrucks []) j (opened 0) l
+      count : c .trucks ≡ trucksOf s
+      count = counts-trucks s c met
+
+      built : ℕ → Truck
+      built i = truckBy b by (getD openings i 0) (getD ends i 0) (31 - i)
+
+      each : (j : ℕ) → Dec (j < trucksOf s) → getD (filled built (trucksOf s) (openedTrucks [])) j (opened 0) ≡ getD (trucksAfter s last) j (opened 0)
+      each j (yes l) =
+          getD-filled built (trucksOf s) (openedTrucks []) j (opened 0) l
+          ∙ ap (λ (o : ℕ). truckBy b by o (getD ends j 0) (31 - j)) (opens j l)
+          ∙ truck-ended j l
       each j (no l) =
-          getD-filled-past (truck (trucksAfter s last)) (trucksOf s) (openedTrucks []) j (opened 0) (omega arith)
+          getD-filled-past built (trucksOf s) (openedTrucks []) j (opened 0) (omega arith)
           ∙ truck-unopened [] j (omega arith) ∙ sym (unused s last j (omega arith))
 
 -- ---- before round 1
+zeros : (m i : ℕ) → getD {A = ℕ} (replicate m 0) i 0 ≡ 0
+zeros zero i = refl
+zeros (suc m) zero = refl
+zeros (suc m) (suc i) = zeros m i
+
+-- the openings as they were read
+module _ (s : List ℕ) (good : frameCheck s ≡ Accepted) (openings : List ℕ) (read : openings ≡ filled (openingAt s) (min (trucksOf s) 32) (replicate 32 0)) where
+  pub openings-are : (j : ℕ) → j < trucksOf s → getD openings j 0 ≡ openingAt s j
+  openings-are j l = front-opening s (replicate 32 0) openings read j l (omega (arith, frame-good s good .most))
+
+  pub openings-small : (i : ℕ) → getD openings i 0 < 16
+  openings-small = front-small s (replicate 32 0) openings read (λ i. rw (zeros 32 i) (lit< tt))
+
 module _ (s : List ℕ) (good : frameCheck s ≡ Accepted) (n : ℕ) (count : n ≡ trucksOf s) where
   pub first-few : (n ≤ 32) × (roundsOf s ≤ 400)
   first-few = (omega (arith, count, frame-good s good .most), frame-good s good .rounds)
@@ -317,9 +322,9 @@ module _ (s : List ℕ) (good : frameCheck s ≡ Accepted) (n : ℕ) (count : n 
       opened-truck twoRules (trucksOf s) (openingsOf s) (roundAt s) j (omega (arith, frame-good s good .most)) ∙ ap opened (getD-tab (openingAt s) (trucksOf s) j 0 l)
 
   -- any number of rounds up to 400 may be asked for
-  pub first-due : {rounds : ℕ} (at all until : ℕ) (by : List ℕ) → at ≡ wordPlace n 0 → rounds ≤ 400 → all ≡ everyone n → Sorted by 32 all (λ p. openingAt s (31 - p)) × (length by ≡ 16)
+  pub first-due : {rounds : ℕ} (openings : List ℕ) → ((j : ℕ) → j < trucksOf s → getD openings j 0 ≡ openingAt s j) → (at all until : ℕ) (by : List ℕ) → at ≡ wordPlace n 0 → rounds ≤ 400 → all ≡ everyone n → Sorted by 32 all (λ p. getD openings (31 - p) 0) × (length by ≡ 16)
       → Due s at n rounds 0 by (replicate 32 0) all 0 0 0 0 until
-  first-due {rounds} at all until by ep most ea (sorted, long) =
+  first-due {rounds} openings opens at all until by ep most ea (sorted, long) =
       record {
         good = good;
         stands = record {
@@ -333,7 +338,7 @@ module _ (s : List ℕ) (good : frameCheck s ≡ Accepted) (n : ℕ) (count : n 
               ∙ bits j (truck (trucksAfter s 0) j .estimate) (truck (trucksAfter s 0) j .heard) (in-all j l);
           heard = λ j l r m. let e = ap (λ (t : Truck). t .heard) (opening-truck j l) in (ap isOne e ∙ sym (bit-zero (31 - j)), ap isSeveral e ∙ sym (bit-zero (31 - j)));
           sorted = λ c lc j l.
-              sorted c lc .each (31 - j) (omega arith) ∙ ap (λ (x : ℕ). holds all j && eqb (openingAt s x) c) (turn-back j l) ∙ go c j l (decLt j (trucksOf s));
+              sorted c lc .each (31 - j) (omega arith) ∙ ap (λ (x : ℕ). holds all j && eqb (getD openings x 0) c) (turn-back j l) ∙ go c j l (decLt j (trucksOf s));
         };
         most = omega arith;
         count = count;
@@ -347,9 +352,9 @@ module _ (s : List ℕ) (good : frameCheck s ≡ Accepted) (n : ℕ) (count : n 
       bits : (j e : ℕ) (x : Heard) → holds all j ≡ true → standing (openingAt s j) e x true false false 0 ≡ standing (openingAt s j) e x (holds all j) (holds 0 j) (holds 0 j) (getD (replicate 32 0) j 0)
       bits j e x i = rw (i, bit-zero (31 - j))
 
-      go : (c j : ℕ) → j < 32 → Dec (j < trucksOf s) → (holds all j && eqb (openingAt s j) c) ≡ (ltb j (trucksOf s) && eqb (truck (trucksAfter s 0) j .estimate) c)
+      go : (c j : ℕ) → j < 32 → Dec (j < trucksOf s) → (holds all j && eqb (getD openings j 0) c) ≡ (ltb j (trucksOf s) && eqb (truck (trucksAfter s 0) j .estimate) c)
       go c j l (yes o) =
-          ap₂ (λ (x : Bool) (y : ℕ). x && eqb y c) (in-all j o ∙ sym (lt-ltb j (trucksOf s) o)) (sym (ap (λ (t : Truck). t .estimate) (opening-truck j o)))
+          ap₂ (λ (x : Bool) (y : ℕ). x && eqb y c) (in-all j o ∙ sym (lt-ltb j (trucksOf s) o)) (opens j o ∙ sym (ap (λ (t : Truck). t .estimate) (opening-truck j o)))
       go c j l (no o) =
-          ap (λ (x : Bool). x && eqb (openingAt s j) c) (ap (λ (x : ℕ). holds x j) ea ∙ everyone-out n j (omega (arith, count)) l)
+          ap (λ (x : Bool). x && eqb (getD openings j 0) c) (ap (λ (x : ℕ). holds x j) ea ∙ everyone-out n j (omega (arith, count)) l)
           ∙ sym (ap (λ (x : Bool). x && eqb (truck (trucksAfter s 0) j .estimate) c) (le-ltb j (trucksOf s) (omega arith)))

@@ -16,8 +16,7 @@ use Rattle.basics.specs.Lists.{filled}
 use Rattle.sets.proofs.Words.{bit-high, bit-mod, bit-zero, same-bits}
 use Rattle.sets.proofs.Mirror.{mirror-bit, mirror-xor, mirror-power, mirror-zero}
 use Rattle.bitreader.specs.Bits.{bitAt, rowAt, mirrored}
-use Rattle.bitreader.proofs.Digits.{digit-zero, digit-suc, bitAt-lt, numAt-lt, one-shifted, numAt-digit, rowAt-digit, mirrored-lt}
-use Rattle.recording.specs.Packed.{openingPlace, openingAt}
+use Rattle.bitreader.proofs.Digits.{digit-zero, digit-suc, bitAt-lt, one-shifted, numAt-digit, rowAt-digit, mirrored-lt}
 use Rattle.sets.specs.Sets.{Members}
 use Rattle.fleet.specs.Standing.{holds, wordFrom, noted}
 use Rattle.sets.proofs.Members.{replaced, replaced-all, replaced-none, replaced-more, within-removed}
@@ -90,10 +89,6 @@ everyone-out n j o l =
 
 pub everyone-is : (n : ℕ) → n ≤ 32 → (1 * 2 ^ n % 2 ^ 64 - 1) * 2 ^ (32 - n) % 2 ^ 64 ≡ everyone n
 everyone-is n m = ap (λ (x : ℕ). (x - 1) * 2 ^ (32 - n) % 2 ^ 64) (one-shifted n (omega arith)) ∙ shl-exact n (32 - n) 64 (ones-lt n) (omega arith)
-
-pub opening-lt : (s : List ℕ) (i : ℕ) → openingAt s i < 16
-unfolding openingAt
-opening-lt s i = numAt-lt (bitAt s) (bitAt-lt s) (openingPlace i) 4
 
 -- ---- the ends of those of a set are noted one by one
 pub record Noting (ends₀ : List ℕ) (who k : ℕ) (ends : List ℕ) (left : ℕ) : Type 0 where

@@ -2,7 +2,7 @@
 use Prim.Native.Nat.{ℕ, suc, _+_, _*_, _-_, _<_, _≤_, _^_}
 use mathlib.Core.Path.{_≡_}
 use mathlib.Core.Bool.{Bool, true, false, cond, _&&_}
-use mathlib.Core.List.{List}
+use mathlib.Core.List.{List, []}
 use lib.Bits.{bitAnd, bitOr, bitXor}
 use lib.Dec.{eqb, ltb}
 use lib.ListN.{length, getD}
@@ -12,14 +12,16 @@ use Rattle.radio.specs.Round.{activeBit}
 use Rattle.refusals.specs.declared.Outcome.the-variants.{Accepted}
 use Rattle.bitreader.specs.Bits.{bitAt, numAt}
 use Rattle.recording.specs.Packed.{trucksOf, openingAt, openingsOf, roundPlace, roundAt}
+use Rattle.recording.specs.declared.Counts.{Counts}
 use Rattle.recording.specs.Checks.{frameCheck}
 use Rattle.protocol.specs.declared.Heard.{Heard}
 use Rattle.protocol.specs.declared.Heard.the-variants.{Nothing, One, Several}
 use Rattle.protocol.specs.declared.State.{State}
 use Rattle.protocol.specs.declared.State.the-variants.{Running, Stopped, Decided}
 use Rattle.protocol.specs.declared.Truck.{Truck}
+use Rattle.protocol.specs.declared.Fleet.{Fleet}
 use Rattle.protocol.specs.Rules.{truck, isOne, isSeveral, after}
-use Rattle.protocol.specs.Runs.{trucksAt}
+use Rattle.protocol.specs.Runs.{openedTrucks, trucksAt}
 use Rattle.fleet.specs.declared.replay.Proposed.{Proposed}
 use Rattle.fleet.specs.declared.replay.Vetoed.{Vetoed}
 use Rattle.fleet.specs.declared.replay.Sets.{Sets}
@@ -55,6 +57,14 @@ abbrev pub truckBy : Sets → List ℕ → ℕ → ℕ → ℕ → Truck
 truckBy b by opening end p =
     standing opening (first (wasHeard by (2 ^ p)) 16) (memoryOf (bit (b .one) p) (bit (b .several) p))
     (bit (b .running) p) (bit (b .decided) p) (bit (b .marked) p) end
+
+-- the record of the trucks by these sets, with all rounds done
+abbrev pub fleetBy : Counts → List ℕ → Sets → List ℕ → List ℕ → Fleet
+fleetBy c openings b by ends = record {
+  n = c .trucks;
+  done = c .rounds;
+  trucks = filled (λ i. truckBy b by (getD openings i 0) (getD ends i 0) (31 - i)) (c .trucks) (openedTrucks []);
+}
 
 -- the sets say how n trucks with these openings stand after k rounds. What a truck with a mark heard is known after the last round only:
 -- it sends a veto whatever it heard

@@ -57,8 +57,8 @@ fn missing(s: &[u8], at: usize, n: usize, senders: u32, wanted: u32) -> Missed
     while left != 0 {
         let p = sets::lowest(left);
         let own = sets::only_lowest(left);
-        let t = bitreader::read_at(s, at + (31 - p) * n, 32);
-        let heard = heard_by(senders, t.value, own);
+        let row = bitreader::read_at(s, at + (31 - p) * n, 32);
+        let heard = heard_by(senders, row, own);
         m = with_truck(m, own, heard, senders, sent);
         left = sets::rest(left);
     }

@@ -22,11 +22,11 @@ pub(crate) fn deciding(s: &[u8], at: usize, n: usize, senders: u32, wanted: u32)
     let mut left = wanted;
     while left != 0 {
         let p = sets::lowest(left);
-        let t = bitreader::read_at(s, at + (31 - p) * n, 32);
+        let row = bitreader::read_at(s, at + (31 - p) * n, 32);
         out = sets::union_where(
             out,
             sets::only_lowest(left),
-            sets::without(senders, t.value) == 0,
+            sets::without(senders, row) == 0,
         );
         left = sets::rest(left);
     }
@@ -63,8 +63,8 @@ pub(crate) fn hear(
     while left != 0 {
         let p = sets::lowest(left);
         let own = sets::only_lowest(left);
-        let t = bitreader::read_at(s, at + (31 - p) * n, 32);
-        let heard = heard_by(senders, t.value, own);
+        let row = bitreader::read_at(s, at + (31 - p) * n, 32);
+        let heard = heard_by(senders, row, own);
         let c = first_heard(by, heard, low);
         if c < 16 {
             let lone = sets::without(heard, by[c]) == 0;

@@ -10,20 +10,21 @@ use protocol::Grades;
 use protocol::Heard;
 use protocol::State;
 use protocol::Truck;
+use recording::Counts;
 ghost use mathlib.Core.Path.{_≡_};
 ghost use mathlib.Core.Bool.{false, true, cond};
-ghost use Prim.Native.Nat.{_+_, _*_, _-_, _<_, _≤_, _^_};
+ghost use Prim.Native.Nat.{_+_, _*_, _-_, _<_, _≤_, _^_, ℕ};
 ghost use lib.Dec.{eqb};
-ghost use lib.ListN.{length};
+ghost use lib.ListN.{length, getD};
 ghost use Rattle.basics.specs.Bits.{bit, odd};
 ghost use Rattle.basics.specs.Lists.{filled, first};
 ghost use Rattle.refusals.specs.declared.Outcome.the-variants.{Accepted};
-ghost use Rattle.recording.specs.Packed.{trucksOf, roundsOf, openingAt};
+ghost use Rattle.recording.specs.Packed.{roundsOf};
 ghost use Rattle.recording.specs.Checks.{frameCheck};
 ghost use Rattle.protocol.specs.declared.Heard.the-variants.{Nothing};
 ghost use Rattle.fleet.specs.Sets.{Sorted};
 ghost use Rattle.fleet.specs.Replays.{fleetAfter, gradesAfter};
-ghost use Rattle.fleet.specs.Standing.{stateOf, memoryOf, truckBy, unreadOf, Proposes, Vetoes, noted, Due, Halted};
+ghost use Rattle.fleet.specs.Standing.{stateOf, memoryOf, truckBy, fleetBy, unreadOf, Proposes, Vetoes, noted, Due, Halted};
 
 // Those that go on after a proposal round's stops, its senders and marks, and who heard one value and who several.
 pub struct Proposed {
@@ -300,32 +301,32 @@ fn truck_of(b: Sets, by: &[u32; 16], opening: u8, end: u16, p: usize) -> Truck
 }
 
 // The record of a run that has come to its end, with all rounds done.
-fn fleet_of(s: &[u8], n: u8, rounds: u16, b: Sets, by: &[u32; 16], ends: &[u16; 32]) -> Fleet
-    requires { ⌜ Halted (now s) rounds (now by) (now ends) 0 b × (n ≡ trucksOf (now s)) ⌝ }
-    ensures { λ r. ⌜ r ≡ fleetAfter (now (s .entry)) rounds ⌝ }
+fn fleet_of(c: Counts, openings: &[u8; 32], b: Sets, by: &[u32; 16], ends: &[u16; 32]) -> Fleet
+    requires { ⌜ c .trucks ≤ 32 ⌝ }
+    ensures { λ r. ⌜ r ≡ fleetBy c (now (openings .entry)) b (now (by .entry)) (now (ends .entry)) ⌝ }
 {
     let mut f = fleetrecord::blank();
-    f.n = n;
-    f.done = rounds;
-    let mut i: u8 = 0;
+    f.n = c.trucks;
+    f.done = c.rounds;
+    let n = c.trucks as usize;
+    let mut i = 0;
     while i < n {
-        let k = i as usize;
-        let o = recording::opening(s, i);
-        f.trucks[k] = truck_of(b, by, o, ends[k], 31 - k);
+        f.trucks[i] = truck_of(b, by, openings[i], ends[i], 31 - i);
         i += 1;
     }
     f
 }
 
 // The trucks of each opening.
-fn openers(s: &[u8], all: u32) -> [u32; 16]
-    ensures { λ r. ⌜ Sorted r 32 all (λ p. openingAt (now (s .entry)) (31 - p)) × (length r ≡ 16) ⌝ }
+fn openers(openings: &[u8; 32], all: u32) -> [u32; 16]
+    requires { ⌜ ((i : ℕ) → getD (now openings) i 0 < 16) ⌝ }
+    ensures { λ r. ⌜ Sorted r 32 all (λ p. getD (now (openings .entry)) (31 - p) 0) × (length r ≡ 16) ⌝ }
 {
     let mut by = [0u32; 16];
     let mut left = all;
     while left != 0 {
         let p = sets::lowest(left);
-        let c = recording::opening(s, (31 - p) as u8) as usize;
+        let c = openings[31 - p] as usize;
         by[c] = by[c] | sets::only(p);
         left = sets::rest(left);
     }
@@ -346,11 +347,11 @@ pub(crate) fn replay(s: &[u8], judging: bool) -> Course
     ensures { λ r. ⌜ (r .fleet ≡ fleetAfter (now (s .entry)) (roundsOf (now (s .entry))))
         × (r .grades ≡ gradesAfter (now (s .entry)) judging (roundsOf (now (s .entry)))) ⌝ }
 {
-    let trucks = recording::truck_count(s);
-    let rounds = recording::round_count(s);
-    let n = trucks as usize;
+    let mut openings = [0u8; 32];
+    let c = recording::read_front(s, &mut openings);
+    let n = c.trucks as usize;
     let all = everyone(n);
-    let mut by = openers(s, all);
+    let mut by = openers(&openings, all);
     let mut ends = [0u16; 32];
     let none = Grades {
         complete: 0,
@@ -360,9 +361,9 @@ pub(crate) fn replay(s: &[u8], judging: bool) -> Course
     };
     let b = proposals(
         s,
-        recording::word_place(trucks, 0),
+        recording::word_place(c.trucks, 0),
         n,
-        rounds,
+        c.rounds,
         0,
         &mut by,
         &mut ends,
@@ -373,6 +374,6 @@ pub(crate) fn replay(s: &[u8], judging: bool) -> Course
         none,
     );
     let grades = b.grades;
-    let fleet = fleet_of(s, trucks, rounds, b, &by, &ends);
+    let fleet = fleet_of(c, &openings, b, &by, &ends);
     Course { fleet, grades }
 }

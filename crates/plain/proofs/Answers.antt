@@ -2,7 +2,8 @@
 use mathlib.Core.Path.{_≡_, ap, ap₂, sym, _∙_}
 use mathlib.Core.Bool.{Bool, true, false, _||_}
 use mathlib.Core.List.{List}
-use Prim.Native.Nat.{ℕ, _+_, _*_, _≤_, _<_}
+use Prim.Native.Nat.{ℕ, _+_, _*_, _≤_, _<_, min}
+use native.Mathlib.Nat.{min-eq-left}
 use native.Mathlib.Omega.{arith}
 use borrow.Author.Tests.{ltb-false, lt-ltb, le-ltb}
 use lib.Dec.{ltb}
@@ -13,9 +14,10 @@ use Rattle.refusals.specs.declared.Outcome.{Outcome}
 use Rattle.refusals.specs.declared.Outcome.the-variants.{Accepted, Refused}
 use Rattle.refusals.specs.Outcomes.{refuse, andThen}
 use Rattle.basics.specs.Lists.{filled}
-use Rattle.recording.specs.Packed.{trucksOf, roundsOf, openingAt, wordAt, bytesFor, pack, packed}
+use Rattle.recording.specs.Packed.{trucksOf, roundsOf, countsOf, openingAt, wordAt, bytesFor, pack, packed}
 use Rattle.recording.specs.Checks.{checkOf, plainCheck}
 use Rattle.basics.proofs.Laws.{or-left, or-right}
+use Rattle.recording.specs.declared.Counts.{Counts}
 use Rattle.recording.proofs.Accepted.{bytes-good}
 use Rattle.plain.specs.declared.ReadOutcome.the-variants.{Plain, Refused as NotRead}
 use Rattle.plain.specs.declared.WriteOutcome.the-variants.{Bytes, Refused as NotWritten}
@@ -48,10 +50,12 @@ module _ (s openings words : List ℕ) (f : Outcome) (n R : ℕ) (checked : f �
     pub words-room : R * (3 + n) ≤ length words
     words-room = ltb-false (length words) (R * (3 + n)) (or-right (ltb (length openings) n) (ltb (length words) (R * (3 + n))) room)
 
-    pub read-0 : (o w : List ℕ) → o ≡ filled (openingAt s) n openings → w ≡ filled (wordAt s) (R * (3 + n)) words → afterRead (Plain n R) o w ≡ readPlain s openings words
-    read-0 o w p q =
-        ap₂ (λ (a b : List ℕ). afterRead (Plain n R) a b) p q
-        ∙ ap₂ (λ (a c : ℕ). afterRead (Plain a c) (filled (openingAt s) a openings) (filled (wordAt s) (c * (3 + a)) words)) counted played
+    pub read-0 : (front : Counts) (o w : List ℕ) → front ≡ countsOf s → o ≡ filled (openingAt s) (min (trucksOf s) (length openings)) openings → w ≡ filled (wordAt s) (R * (3 + n)) words
+        → afterRead (Plain (front .trucks) (front .rounds)) o w ≡ readPlain s openings words
+    read-0 front o w met p q =
+        ap (λ (c : Counts). afterRead (Plain (c .trucks) (c .rounds)) o w) met
+        ∙ ap₂ (λ (a b : List ℕ). afterRead (Plain (trucksOf s) (roundsOf s)) a b) (p ∙ ap (λ (k : ℕ). filled (openingAt s) k openings) (min-eq-left (omega (arith, openings-room)))) q
+        ∙ ap (λ (k : ℕ). afterRead (Plain (trucksOf s) (roundsOf s)) (filled (openingAt s) (trucksOf s) openings) (filled (wordAt s) k words)) (ap₂ (λ (a c : ℕ). c * (3 + a)) counted played)
         ∙ read-by false room
 
 -- ---- writing

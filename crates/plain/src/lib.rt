@@ -7,7 +7,7 @@ ghost use lib.ListN.{length, getD};
 ghost use Rattle.refusals.specs.declared.Outcome.the-variants.{Accepted};
 ghost use Rattle.basics.specs.Bits.{bit};
 ghost use Rattle.basics.specs.Lists.{someBelow, filled};
-ghost use Rattle.recording.specs.Packed.{trucksOf, openingPlace, openingAt, wordAt, bytesFor, packBit};
+ghost use Rattle.recording.specs.Packed.{trucksOf, openingPlace, wordAt, bytesFor, packBit};
 ghost use Rattle.recording.specs.Checks.{highBit, badOpenings, badWords, ownLoss, roundsCheck, roundCheck, plainCheck};
 ghost use Rattle.plain.specs.Forms.{afterRead, readPlain, afterWrite, writePlain};
 ghost use Rattle.plain.specs.Steps.{swapped, gatheredWord, turnedWord, over, byteOf, packedByte, added, BitsPut};
@@ -145,17 +145,6 @@ pub fn check_plain(trucks: u8, rounds: u16, openings: &[u8], words: &[u32]) -> O
     check_rounds(trucks, rounds, words)
 }
 
-fn fill_openings(s: &[u8], openings: &mut [u8], n: u8)
-    requires { ⌜ n ≤ length (now openings) ⌝ }
-    ensures { λ r. ⌜ now (openings .exit) ≡ filled (openingAt (now (s .entry))) n (now (openings .entry)) ⌝ }
-{
-    let mut i: u8 = 0;
-    while i < n {
-        openings[i as usize] = recording::opening(s, i);
-        i += 1;
-    }
-}
-
 fn swap_bytes(x: u32) -> u32
     ensures { λ r. ⌜ r ≡ swapped x ⌝ }
 {
@@ -171,8 +160,7 @@ fn gather_words(s: &[u8], words: &mut [u32], trucks: u8, count: usize)
     let mut at = recording::word_place(trucks, 0);
     let mut w = 0;
     while w < count {
-        let t = bitreader::read_at(s, at, 32);
-        words[w] = swap_bytes(t.value);
+        words[w] = swap_bytes(bitreader::read_at(s, at, 32));
         at = at + n;
         w += 1;
     }
@@ -215,16 +203,18 @@ pub fn read(s: &[u8], openings: &mut [u8], words: &mut [u32]) -> ReadOutcome
     match c {
         Outcome::Refused(r) => ReadOutcome::Refused(r),
         Outcome::Accepted => {
-            let trucks = recording::truck_count(s);
-            let rounds = recording::round_count(s);
-            let n = trucks as usize;
-            let count = rounds as usize * (3 + n);
+            let counts = recording::read_counts(s);
+            let n = counts.trucks as usize;
+            let count = counts.rounds as usize * (3 + n);
             if (openings.len() < n) | (words.len() < count) {
                 return ReadOutcome::Refused(Refusal::ShortBuffer);
             }
-            fill_openings(s, openings, trucks);
-            fill_words(s, words, trucks, count);
-            ReadOutcome::Plain { trucks, rounds }
+            let front = recording::read_front(s, openings);
+            fill_words(s, words, front.trucks, count);
+            ReadOutcome::Plain {
+                trucks: front.trucks,
+                rounds: front.rounds,
+            }
         }
     }
 }

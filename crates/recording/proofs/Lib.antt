@@ -5,3 +5,4 @@ pub mod Rounds
 pub mod Sizes
 pub mod Limit
 pub mod Searches
+pub mod Fronts

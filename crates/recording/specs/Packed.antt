@@ -6,6 +6,7 @@ use lib.Dec.{ltb}
 use lib.ListN.{getD}
 use Rattle.basics.specs.Bits.{digit}
 use Rattle.basics.specs.Lists.{tab}
+use Rattle.recording.specs.declared.Counts.{Counts}
 unfoldable pub use Rattle.bitreader.specs.Bits.{bitAt, numAt, rowAt}
 
 -- truck count n: 6 bits
@@ -15,6 +16,14 @@ trucksOf s = numAt (bitAt s) 0 6
 -- rounds R: 10 bits
 unfoldable pub roundsOf : List ℕ → ℕ
 roundsOf s = numAt (bitAt s) 6 10
+
+-- the two counts in the header's bits, the first worth most
+abbrev pub countsIn : ℕ → Counts
+countsIn header = record { trucks = header / 1024; rounds = header % 1024 }
+
+-- the two counts
+abbrev pub countsOf : List ℕ → Counts
+countsOf s = record { trucks = trucksOf s; rounds = roundsOf s }
 
 -- the header: 6 bits of truck count, 10 bits of round count
 abbrev pub headerBits : ℕ

@@ -1,31 +1,66 @@
 // A packed recording: the counts of its header, its openings, and the check 1 to 6 that reading, running and grading share.
 ghost use mathlib.Core.Path.{_≡_};
-ghost use Prim.Native.Nat.{_+_, _*_, _-_, _<_, _≤_, _^_};
+ghost use Prim.Native.Nat.{_+_, _*_, _-_, _<_, _≤_, _^_, min};
 ghost use lib.Dec.{eqb};
 ghost use lib.ListN.{length};
-ghost use Rattle.basics.specs.Lists.{first, someBelow};
-ghost use Rattle.recording.specs.Packed.{bitAt, trucksOf, roundsOf, openingPlace, openingAt, wordPlace, wordAt, bitsFor, bytesFor};
+ghost use Rattle.basics.specs.Lists.{first, someBelow, filled};
+ghost use Rattle.recording.specs.Packed.{bitAt, trucksOf, roundsOf, headerBits, countsIn, countsOf, openingPlace, openingAt, wordPlace, wordAt, bitsFor, bytesFor};
 ghost use Rattle.recording.specs.Checks.{badTrucks, firstOwn, frameCheck, checkOf};
 use refusals::Outcome;
 use refusals::Refusal;
 
-// The header: 6 bits of truck count, 10 bits of round count.
+// The bits before the openings.
 pub const HEADER_BITS: usize = 16;
 
-// The header's truck count.
-pub fn truck_count(s: &[u8]) -> u8
-    ensures { λ r. ⌜ r ≡ trucksOf (now (s .entry)) ⌝ }
-{
-    let t = bitreader::read_at(s, 0, 6);
-    t.value as u8
+// The header's truck count and round count.
+pub struct Counts {
+    pub trucks: u8,
+    pub rounds: u16,
 }
 
-// The header's round count.
-pub fn round_count(s: &[u8]) -> u16
-    ensures { λ r. ⌜ r ≡ roundsOf (now (s .entry)) ⌝ }
+// The counts out of the header's bits: 6 of truck count, 10 of round count.
+fn counts_of(header: u32) -> Counts
+    requires { ⌜ header < 2 ^ headerBits ⌝ }
+    ensures { λ r. ⌜ r ≡ countsIn header ⌝ }
 {
-    let t = bitreader::read_at(s, 6, 10);
-    t.value as u16
+    Counts {
+        trucks: (header / 1024) as u8,
+        rounds: (header % 1024) as u16,
+    }
+}
+
+// The counts alone.
+pub fn read_counts(s: &[u8]) -> Counts
+    ensures { λ r. ⌜ r ≡ countsOf (now (s .entry)) ⌝ }
+{
+    counts_of(bitreader::read_at(s, 0, HEADER_BITS))
+}
+
+// How many openings of n trucks are read into so many places.
+fn openings_read(n: u8, places: usize) -> usize
+    ensures { λ r. ⌜ r ≡ min n places ⌝ }
+{
+    if (n as usize) < places {
+        n as usize
+    } else {
+        places
+    }
+}
+
+// One reader from the first bit on: over the header, then from opening to opening, each of which it puts into its place as long as places are lent.
+pub fn read_front(s: &[u8], openings: &mut [u8]) -> Counts
+    ensures { λ r. ⌜ (r ≡ countsOf (now (s .entry)))
+        × (now (openings .exit) ≡ filled (openingAt (now (s .entry))) (min (trucksOf (now (s .entry))) (length (now (openings .entry)))) (now (openings .entry))) ⌝ }
+{
+    let mut r = bitreader::new(s, 0);
+    let c = counts_of(bitreader::take(&mut r, HEADER_BITS));
+    let end = openings_read(c.trucks, openings.len());
+    let mut i = 0;
+    while i < end {
+        openings[i] = bitreader::take(&mut r, 4) as u8;
+        i += 1;
+    }
+    c
 }
 
 // The place of opening i; after n openings, that of the first word.
@@ -40,14 +75,6 @@ pub fn word_place(trucks: u8, w: u16) -> usize
     ensures { λ r. ⌜ r ≡ wordPlace trucks w ⌝ }
 {
     opening_place(trucks) + w as usize * (trucks as usize)
-}
-
-// The opening of a truck.
-pub fn opening(s: &[u8], i: u8) -> u8
-    ensures { λ r. ⌜ r ≡ openingAt (now (s .entry)) i ⌝ }
-{
-    let t = bitreader::read_at(s, opening_place(i), 4);
-    t.value as u8
 }
 
 // The bits of a recording of these counts.
@@ -76,23 +103,20 @@ fn end_bit(s: &[u8], total: usize) -> bool
     requires { ⌜ (length (now s) < 2 ^ 32) × ((total ≤ 8 * length (now s)) × (8 * length (now s) ≤ total + 7)) ⌝ }
     ensures { λ r. ⌜ r ≡ someBelow (λ j. eqb (bitAt (now (s .entry)) (total + j)) 1) (8 * length (now (s .entry)) - total) ⌝ }
 {
-    let t = bitreader::read_at(s, total, 8 * s.len() - total);
-    let v = t.value;
-    v != 0
+    bitreader::read_at(s, total, 8 * s.len() - total) != 0
 }
 
-// Refusals 1 to 5.
-pub fn check_frame(s: &[u8]) -> Outcome
+// Refusals 1 to 5, by the counts that the header has.
+fn check_frame(s: &[u8], n: u8, rounds: u16) -> Outcome
+    requires { ⌜ (n ≡ trucksOf (now s)) × (rounds ≡ roundsOf (now s)) ⌝ }
     ensures { λ r. ⌜ r ≡ frameCheck (now (s .entry)) ⌝ }
 {
     if s.len() < 2 {
         return Outcome::Refused(Refusal::ShortRecording);
     }
-    let n = truck_count(s);
     if bad_trucks(n) {
         return Outcome::Refused(Refusal::TruckCount);
     }
-    let rounds = round_count(s);
     if 400 < rounds {
         return Outcome::Refused(Refusal::RoundCount);
     }
@@ -130,9 +154,7 @@ fn own_truck(s: &[u8], at: usize, n: usize) -> usize
     let mut i = 0;
     let mut p = at;
     while i < n {
-        let t = bitreader::read_at(s, p, 1);
-        let b = t.value;
-        if b == 1 {
+        if bitreader::read_at(s, p, 1) == 1 {
             return i;
         }
         p = p + (n + 1);
@@ -177,12 +199,13 @@ fn own_place(s: &[u8], trucks: u8, rounds: usize) -> OwnPlace
 pub fn check(s: &[u8]) -> Outcome
     ensures { λ r. ⌜ r ≡ checkOf (now (s .entry)) ⌝ }
 {
-    let f = check_frame(s);
-    match f {
+    let c = read_counts(s);
+    let frame = check_frame(s, c.trucks, c.rounds);
+    match frame {
         Outcome::Refused(r) => Outcome::Refused(r),
         Outcome::Accepted => {
-            let rounds = round_count(s) as usize;
-            let own = own_place(s, truck_count(s), rounds);
+            let rounds = c.rounds as usize;
+            let own = own_place(s, c.trucks, rounds);
             if own.round < rounds {
                 return Outcome::Refused(Refusal::OwnLoss);
             }

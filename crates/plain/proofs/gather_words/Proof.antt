@@ -41,7 +41,7 @@ loop-again c =
     let s = c .before .before .before .before .before .before .before in
     let a = s .args in
     let l = c .before .before .before .loop in
-    (omega arith, omega (arith, l .inv .1), fill-step (gatheredWord (a .s .now) (a .trucks)) (a .words .now) (l .words) (l .w) (l .inv .2) (c .swap-bytes .result) (omega arith) (c .swap-bytes .ensures ∙ ap swapped (c .before .read-at .ensures .0 ∙ ap (λ (p : ℕ). numAt (bitAt (a .s .now)) p 32) (l .inv .1))))
+    (omega arith, omega (arith, l .inv .1), fill-step (gatheredWord (a .s .now) (a .trucks)) (a .words .now) (l .words) (l .w) (l .inv .2) (c .swap-bytes .result) (omega arith) (c .swap-bytes .ensures ∙ ap swapped (c .before .read-at .ensures ∙ ap (λ (p : ℕ). numAt (bitAt (a .s .now)) p 32) (l .inv .1))))
 
 same-length : tie.Need-same-length Inv-loop μ-loop
 same-length c =

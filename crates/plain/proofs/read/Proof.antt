@@ -1,13 +1,14 @@
 -- `read` meets its contract: one law for each return.
 use borrow.Author.Needs.{needs}
 use native.Mathlib.Omega.{arith}
-use Rattle.plain.proofs.Answers.{read-refused, read-most, read-9, openings-room, words-room, read-0}
+use Rattle.recording.proofs.Fronts.{counts-trucks, counts-rounds}
+use Rattle.plain.proofs.Answers.{read-refused, read-most, read-9, words-room, read-0}
 use Rattle.plain.proofs.Tests.{words-small}
 use Rattle.plain.proofs.read.Statement.{statement}
 use Rattle.plain.proofs.read.Tie as tie
 
 mul-count : tie.Need-mul-count
-mul-count c = omega (arith, words-small (c .before .truck-count .result) (c .round-count .result) (omega arith) (omega arith))
+mul-count c = omega (arith, words-small (c .before .before .read-counts .result .trucks) (c .before .before .read-counts .result .rounds) (omega arith) (omega arith))
 
 pub read-spec : {M : Type 1} → statement M
 read-spec =
@@ -17,15 +18,14 @@ read-spec =
     (λ c. search needs)
     (λ c. search needs)
     (λ c κs. search needs)
-    (λ c κs. search needs)
     (λ c. search needs)
     (λ c. search needs)
     (λ c. search needs)
     mul-count
-    (λ c. search read-9)
-    (λ c κs. search openings-room)
-    (λ c κs. search (read-most, words-room, words-small))
+    (λ c. search (read-9, counts-trucks, counts-rounds))
+    (λ c κs. search needs)
+    (λ c κs. search (counts-trucks, counts-rounds, read-most, words-room, words-small))
     (λ c. search read-refused)
     (λ c. search needs)
     (λ c. search needs)
-    (λ c. search read-0))
+    (λ c. search (read-0, counts-trucks, counts-rounds)))

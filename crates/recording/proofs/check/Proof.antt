@@ -1,5 +1,6 @@
 -- `check` meets its contract: one law for each return.
 use borrow.Author.Needs.{needs}
+use Rattle.recording.proofs.Fronts.{counts-trucks, counts-rounds}
 use Rattle.recording.proofs.Searches.{trucks-some, trucks-fit, rounds-fit, bits-fit, check-refused, check-6, check-0}
 use Rattle.recording.proofs.check.Statement.{statement}
 use Rattle.recording.proofs.check.Tie as tie
@@ -9,12 +10,11 @@ check-spec =
     tie.close
     (tie.spec
     (λ c κs. search needs)
+    (λ c κs. search (counts-trucks, counts-rounds))
     (λ c. search needs)
     (λ c. search needs)
-    (λ c κs. search needs)
     (λ c. search needs)
-    (λ c κs. search needs)
-    (λ c κs. search (trucks-some, trucks-fit, rounds-fit, bits-fit))
-    (λ c. search check-6)
+    (λ c κs. search (counts-trucks, counts-rounds, trucks-some, trucks-fit, rounds-fit, bits-fit))
+    (λ c. search (check-6, counts-trucks, counts-rounds))
     (λ c. search check-refused)
-    (λ c. search check-0))
+    (λ c. search (check-0, counts-trucks, counts-rounds)))

@@ -7,12 +7,11 @@ use Rattle.recording.proofs.check_frame.Tie as tie
 end-bit-requires : tie.Need-end-bit-requires
 end-bit-requires c κs =
     let sized = c .before .before in
-    let counted = sized .before .before in
-    let tested = counted .before .before in
-    let read = tested .before in
-    end-fits (read .before .before .before .args .s .now) (read .truck-count .result) (tested .bad-trucks .result) (read .before .if1 .left)
-    (read .truck-count .ensures) (tested .bad-trucks .ensures) (counted .round-count .result) (counted .before .if2 .left) (counted .round-count .ensures)
-    (sized .bytes-for .result) (sized .before .if3 .left) (sized .bytes-for .ensures) (c .bits-for .result) (c .before .if4 .left) (c .bits-for .ensures)
+    let tested = sized .before .before .before in
+    let start = tested .before .before .before in
+    end-fits (start .args .s .now) (start .args .n) (tested .bad-trucks .result) (tested .before .if1 .left) (start .pre .0) (tested .bad-trucks .ensures)
+    (start .args .rounds) (sized .before .before .if2 .left) (start .pre .1) (sized .bytes-for .result) (sized .before .if3 .left) (sized .bytes-for .ensures)
+    (c .bits-for .result) (c .before .if4 .left) (c .bits-for .ensures)
 
 pub check-frame-spec : {M : Type 1} → statement M
 check-frame-spec =
@@ -20,9 +19,7 @@ check-frame-spec =
     (tie.spec
     (λ c. search frame-1)
     (λ c κs. search needs)
-    (λ c κs. search needs)
     (λ c. search frame-2)
-    (λ c κs. search needs)
     (λ c. search frame-3)
     (λ c κs. search needs)
     (λ c. search frame-4)

@@ -16,8 +16,8 @@ returns c =
     let a = c .before .before .args in
     let s = a .s .now in
     let k = 8 * length s - a .total in
-    number-tests (bitAt s) (bitAt-lt s) (a .total) k (c .read-at .result .value)
-    (c .read-at .ensures .0 ∙ ap (numAt (bitAt s) (a .total)) (min-eq-left (omega arith)))
+    number-tests (bitAt s) (bitAt-lt s) (a .total) k (c .read-at .result)
+    (c .read-at .ensures ∙ ap (numAt (bitAt s) (a .total)) (min-eq-left (omega arith)))
 
 pub end-bit-spec : {M : Type 1} → statement M
 end-bit-spec = tie.close (tie.spec (λ c. search needs) (λ c. search needs) (λ c κs. search needs) returns)

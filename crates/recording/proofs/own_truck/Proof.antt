@@ -24,11 +24,11 @@ loop-holds c =
 
 -- what the bit read says of the round's bit
 read : (c : tie.After-read-at Inv-loop μ-loop)
-    → eqb (c .read-at .result .value) 1 ≡ ownPacked (c .before .before .before .before .args .s .now) (c .before .before .before .before .args .at) (c .before .before .before .before .args .n) (c .before .before .loop .i)
+    → eqb (c .read-at .result) 1 ≡ ownPacked (c .before .before .before .before .args .s .now) (c .before .before .before .before .args .at) (c .before .before .before .before .args .n) (c .before .before .loop .i)
 read c =
     let a = c .before .before .before .before .args in
     let l = c .before .before .loop in
-    bit-read (a .s .now) (l .p) (a .at + l .i * (a .n + 1)) (c .read-at .result .value) (c .read-at .ensures .0) (l .inv .0)
+    bit-read (a .s .now) (l .p) (a .at + l .i * (a .n + 1)) (c .read-at .result) (c .read-at .ensures) (l .inv .0)
 
 returns : tie.Need-returns Inv-loop μ-loop
 returns c =
@@ -36,7 +36,7 @@ returns c =
     let l = c .before .before .before .loop in
     sym
     (first-found (ownPacked (a .s .now) (a .at) (a .n)) (a .n) (l .i) (omega arith) (l .inv .2)
-    (sym (read (c .before)) ∙ eq-eqb (c .before .read-at .result .value) 1 (c .if1 .taken)))
+    (sym (read (c .before)) ∙ eq-eqb (c .before .read-at .result) 1 (c .if1 .taken)))
 
 add-p-2 : tie.Need-add-p-2 Inv-loop μ-loop
 add-p-2 c =
@@ -48,7 +48,7 @@ loop-again : tie.Need-loop-again Inv-loop μ-loop
 loop-again c =
     let a = c .before .before .before .before .before .args in
     let l = c .before .before .before .loop in
-    (omega (arith, l .inv .0), omega arith, first-step (ownPacked (a .s .now) (a .at) (a .n)) (l .i) (l .inv .2) (sym (read (c .before)) ∙ ne-eqb (c .before .read-at .result .value) 1 (c .if1 .left)))
+    (omega (arith, l .inv .0), omega arith, first-step (ownPacked (a .s .now) (a .at) (a .n)) (l .i) (l .inv .2) (sym (read (c .before)) ∙ ne-eqb (c .before .read-at .result) 1 (c .if1 .left)))
 
 returns-2 : tie.Need-returns-2 Inv-loop μ-loop
 returns-2 c =

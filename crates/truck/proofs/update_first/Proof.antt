@@ -62,6 +62,7 @@ use denote.Triple.Table.{entered, cited}
 use denote.Triple.Walked.{says, Stays, stay-none, walkOf, AllGo, goes-none, Walks, ends-at, walked, walk-meets}
 use denote.Exit.{yes}
 use Rattle.basics.specs.Lists.{filled}
+use Rattle.basics.proofs.Locals.{here, held}
 use Rattle.basics.proofs.Laws.{filled-none, length-filled, getD-filled-past, fill-step}
 use Rattle.protocol.specs.Rules.{opened, truck}
 use Rattle.protocol.specs.declared.Fleet.{Fleet}
@@ -83,7 +84,7 @@ use Rattle.truck.proofs.update_first as this
 use Rattle.truck.proofs.update_first.Statement as stated
 use Rattle.truck.proofs.update_first.Code as code
 use Rattle.truck.proofs.update_first.Code.Mir as body
-use Rattle.truck.proofs.Values.{eventVal, fleetVal, Events, eventsVal, owns-event, owns-fleet, owns-events, owns-round, held, here}
+use Rattle.truck.proofs.Values.{eventVal, fleetVal, Events, eventsVal, owns-event, owns-fleet, owns-events, owns-round}
 
 abbrev stayed : Stays (this.ended .signature .params) (this.ended .kept)
 stayed = (stay-none (λ _. Fleet-t.the-row) yes, (stay-none (λ _. usize) yes, (stay-none (λ _. u16) yes, (stay-none (λ _. Events) yes, tt))))

@@ -76,7 +76,7 @@ loop-again c =
     let t = taken-out some (i .ensures) (c .rest .ensures) in
     let own : o .result ≡ 2 ^ p = own-out some (i .ensures .0) (o .ensures) in
     let is : h .result ≡ heardAt (a .s .now) (a .at) (a .n) (a .senders) p =
-    heard-by-own (a .senders) (r .result .value) p (o .result) (h .result) (h .ensures) own ∙ ap (λ (x : ℕ). heardSet (a .senders) x p) (r .ensures .0) in
+    heard-by-own (a .senders) (r .result) p (o .result) (h .result) (h .ensures) own ∙ ap (λ (x : ℕ). heardSet (a .senders) x p) (r .ensures) in
     let joins : (f : ℕ → Bool) (set set′ : ℕ) → set′ ≡ cond (f (h .result)) (bitOr set (o .result)) set
     → Members set 32 (seen (l .left) (of-wanted f (a .s .now) (a .at) (a .n) (a .senders) (a .wanted)))
     → Members set′ 32 (seen (c .rest .result) (of-wanted f (a .s .now) (a .at) (a .n) (a .senders) (a .wanted)))

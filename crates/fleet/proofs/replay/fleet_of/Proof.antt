@@ -1,49 +1,62 @@
--- `fleet_of` meets its contract.
-use mathlib.Core.Path.{_≡_}
-use Prim.Native.Nat.{_≤_, _-_}
+-- `fleet_of` meets its contract: the loop holds the record with the trucks so far.
+use mathlib.Core.Path.{_≡_, ap, ap₂, sym, _∙_}
+use mathlib.Core.List.{List, []}
+use Prim.Native.Nat.{ℕ, _≤_, _-_}
 use native.Mathlib.Omega.{arith}
 use borrow.Author.Needs.{needs}
-use mathlib.Core.List.{[]}
+use lib.ListN.{length, getD}
 use Rattle.basics.specs.Lists.{filled}
-use Rattle.protocol.specs.Rules.{truck}
-use Rattle.protocol.specs.Runs.{openedTrucks}
-use Rattle.fleet.specs.Standing.{trucksAfter}
-use Rattle.fleet.proofs.Halts.{halted-few, filling-starts, filling-more, filling-done}
+use Rattle.basics.proofs.Laws.{filled-none, fill-step}
+use Rattle.protocol.specs.declared.Fleet.{Fleet}
+use Rattle.protocol.specs.declared.Truck.{Truck}
+use Rattle.protocol.specs.Fleets.{blank}
+use Rattle.protocol.proofs.Opened.{length-opened}
+use Rattle.fleet.specs.declared.replay.Sets.{Sets}
+use Rattle.fleet.specs.Standing.{truckBy}
 use Rattle.fleet.proofs.replay.fleet_of.Statement.{statement}
 use Rattle.fleet.proofs.replay.fleet_of.Tie as tie
 
+abbrev built : List ℕ → Sets → List ℕ → List ℕ → ℕ → Truck
+built openings b by ends i = truckBy b by (getD openings i 0) (getD ends i 0) (31 - i)
+
+-- the record f₀ with its first i trucks so
+abbrev upTo : Fleet → List ℕ → Sets → List ℕ → List ℕ → ℕ → Fleet
+upTo f₀ openings b by ends i = record { n = f₀ .n; done = f₀ .done; trucks = filled (built openings b by ends) i (f₀ .trucks) }
+
 abbrev Inv-loop : tie.InvT-loop
-Inv-loop s n rounds b by ends f₀ i₀ f i = (i ≤ n) × (f ≡ record { n = n; done = rounds; trucks = filled (truck (trucksAfter s rounds)) i (openedTrucks []) })
+Inv-loop openings b by ends f₀ n i₀ f i = (i ≤ n) × (f ≡ upTo f₀ openings b by ends i)
 
 abbrev μ-loop : tie.MeasureT-loop
-μ-loop s n rounds b by ends f₀ i₀ f i = n - i
+μ-loop openings b by ends f₀ n i₀ f i = n - i
 
 loop-holds : tie.Need-loop-holds Inv-loop μ-loop
-loop-holds c = let z = c .before .before in (search needs, filling-starts (z .pre .0) (z .args .n) (c .blank .result) (c .blank .ensures))
-
-element-copy-out-truck-of : tie.Need-element-copy-out-truck-of Inv-loop μ-loop
-element-copy-out-truck-of c = let z = c .before .before .before .before .before in omega (arith, halted-few (z .pre .0), z .pre .1, c .before .loop-test .taken)
-
-sub-truck-of : tie.Need-sub-truck-of Inv-loop μ-loop
-sub-truck-of c = let z = c .before .before .before .before .before .before in omega (arith, halted-few (z .pre .0), z .pre .1, c .before .before .loop-test .taken)
-
-truck-of-requires : tie.Need-truck-of-requires Inv-loop μ-loop
-truck-of-requires c κs = omega arith
-
-element-set-from-f : tie.Need-element-set-from-f Inv-loop μ-loop
-element-set-from-f c = let z = c .before .before .before .before .before .before .before in omega (arith, halted-few (z .pre .0), z .pre .1, c .before .before .before .loop-test .taken)
+loop-holds c =
+    let a = c .before .before .args in (
+      search needs,
+      ap (λ (l : List Truck). record { n = a .c .trucks; done = a .c .rounds; trucks = l }) (sym (filled-none (built (a .openings .now) (a .b) (a .by .now) (a .ends .now)) (c .before .blank .result .trucks))),
+    )
 
 loop-again : tie.Need-loop-again Inv-loop μ-loop
+unfolding blank
 loop-again c =
     let z = c .before .before .before .before .before .before .before in
-    let l = c .before .before .before .before .loop in
-    (search needs, filling-more (z .pre .0) (z .args .n) (l .f) (l .i) (c .truck-of .result) (l .inv .1) (omega (arith, z .pre .1, c .before .before .before .loop-test .taken)) (rw (c .before .before .opening .ensures) at (c .truck-of .ensures)))
+    let a = z .args in
+    let g = c .before .before .before .before .before .before .blank in
+    let l = c .before .before .before .before .loop in (
+      search needs,
+      ap₂ (λ (f : Fleet) (x : List Truck). record { n = f .n; done = f .done; trucks = x }) (l .inv .1)
+          (fill-step (built (a .openings .now) (a .b) (a .by .now) (a .ends .now)) (g .result .trucks) (l .f .trucks) (l .i) (ap (λ (f : Fleet). f .trucks) (l .inv .1)) (c .truck-of .result)
+          (omega (arith, z .pre, ap (λ (f : Fleet). length (f .trucks)) (g .ensures), length-opened [])) (c .truck-of .ensures)),
+    )
 
 returns : tie.Need-returns Inv-loop μ-loop
+unfolding blank
 returns c =
-    let z = c .before .before .before .before in
+    let a = c .before .before .before .before .args in
     let l = c .before .loop in
-    filling-done (z .pre .0) (z .args .n) (l .f) (l .i) (l .inv .1) (z .pre .1) (omega (arith, l .inv .0, c .loop-test .left))
+    l .inv .1
+    ∙ ap₂ (λ (i : ℕ) (x : List Truck). record { n = a .c .trucks; done = a .c .rounds; trucks = filled (built (a .openings .now) (a .b) (a .by .now) (a .ends .now)) i x })
+    (omega (arith, l .inv .0, c .loop-test .left)) (ap (λ (f : Fleet). f .trucks) (c .before .before .before .blank .ensures))
 
 pub fleet-of-spec : {M : Type 1} → statement M
 fleet-of-spec =
@@ -52,15 +65,15 @@ fleet-of-spec =
     Inv-loop
     μ-loop
     (λ c κs. search needs)
+    (λ c. search needs)
     loop-holds
+    (λ c. search needs)
+    (λ c. search needs)
+    (λ c. search needs)
     (λ c. search needs)
     (λ c κs. search needs)
     (λ c. search needs)
-    element-copy-out-truck-of
-    sub-truck-of
-    truck-of-requires
     (λ c. search needs)
-    element-set-from-f
     (λ c. search needs)
     (λ c. search needs)
     loop-again

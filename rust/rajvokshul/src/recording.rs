@@ -30,10 +30,12 @@ pub struct Plain {
 }
 
 impl Plain {
-    /// The words of round `k`, counted from 1.
+    /// The words of round `k`, counted from 1. There is none past the last round, nor a round 0.
     pub fn round(&self, k: usize) -> Option<&[u32]> {
         let size = 3 + self.openings.len();
-        self.words.get(k.checked_sub(1)? * size..k * size)
+        // A product that wraps would answer an early round for a late number.
+        let end = k.checked_mul(size)?;
+        self.words.get(end.checked_sub(size)?..end)
     }
 }
 

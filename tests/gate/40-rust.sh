@@ -16,13 +16,24 @@ expect "cargo test's exit status" test "$status" -eq 0
 [ "$status" -eq 0 ] || grep -E '^error|FAILED|panicked' "$log" | head -n 20
 rm -f "$log"
 
-# The examples print case C1's listing, and the opening of case C12.
+# Layout, clippy and the pages of the documentation, without a warning, in the whole workspace.
+quiet() { # COMMAND..: in rust/; what it says is shown where it fails
+    local said
+    said=$(cd rust && "$@" 2>&1) || { tail -n 20 <<< "$said"; return 1; }
+}
+expect "rustfmt" quiet cargo fmt --all --check
+expect "clippy" quiet cargo clippy --offline --release --workspace --all-targets -- -D warnings
+expect "cargo doc" quiet env RUSTDOCFLAGS='-D warnings' cargo doc --offline --release --workspace --no-deps
+
+# The examples print case C1's listing, and the opening of case C12; what the recorder's prints is worked out by hand.
 shows_c1() { # OUTPUT
     grep -qx 'opening 1' "$1" && grep -A 2 -x 'trucks 2 rounds 4' "$1" | cmp -s - tests/cases/c01.out
 }
 out=$(mktemp -d)
 (cd rust && cargo run --offline --release -q -p rajvokshul --example quarry) > "$out/rust" 2>&1
 expect "the Rust example" shows_c1 "$out/rust"
+(cd rust && cargo run --offline --release -q -p rajvokshul --example recorder) > "$out/recorder" 2>&1
+expect "the recorder's example" cmp -s "$out/recorder" tests/examples/recorder.txt
 cc -std=c99 -Wall -Wextra -Werror -Ic c/example.c target/staticlib/libffi.a -o "$out/example" && "$out/example" > "$out/c"
 expect "the C example" shows_c1 "$out/c"
 

@@ -154,14 +154,14 @@ fn counts_that_fit_no_record() {
 fn refused_steps_leave_the_record() {
     let mut fleet = Fleet::start(2, &[3, 5]).unwrap();
     let before = fleet.clone();
-    assert_eq!(fleet.step(&[0; 4]), Err(Refusal::PlainRound));
-    assert_eq!(fleet.step(&[0, 0b100, 0, 0, 0]), Err(Refusal::PlainRound));
-    assert_eq!(fleet.step(&[0, 0, 0, 0b01, 0]), Err(Refusal::OwnLoss));
+    assert_eq!(fleet.step([0; 4]), Err(Refusal::PlainRound));
+    assert_eq!(fleet.step([0, 0b100, 0, 0, 0]), Err(Refusal::PlainRound));
+    assert_eq!(fleet.step([0, 0, 0, 0b01, 0]), Err(Refusal::OwnLoss));
     assert_eq!(fleet, before);
     for _ in 0..400 {
-        fleet.step(&[0; 5]).unwrap();
+        fleet.step([0; 5]).unwrap();
     }
-    assert_eq!(fleet.step(&[0; 4]), Err(Refusal::RoundsDone));
+    assert_eq!(fleet.step([0; 4]), Err(Refusal::RoundsDone));
     assert_eq!(fleet.rounds_done(), 400);
 }
 
@@ -171,12 +171,12 @@ fn bytes_that_are_no_record() {
     // Places of trucks that aren't there are neither judged nor changed.
     bytes[17..].fill(0xee);
     let mut fleet = Fleet::from_bytes(bytes);
-    fleet.step(&[0; 5]).unwrap();
+    fleet.step([0; 5]).unwrap();
     assert_eq!(fleet.as_bytes()[17..], bytes[17..]);
     // A state that no truck has.
     bytes[7] = 3;
     let mut fleet = Fleet::from_bytes(bytes);
     assert_eq!(fleet.truck(0), None);
-    assert_eq!(fleet.step(&[0; 5]), Err(Refusal::Record));
+    assert_eq!(fleet.step([0; 5]), Err(Refusal::Record));
     assert_eq!(fleet.as_bytes(), &bytes);
 }

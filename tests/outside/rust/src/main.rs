@@ -1,21 +1,21 @@
-//! A project of its own in Rust: a recording from standard input is listed, and played as a live fleet.
+//! A project of its own in Rust: a recording from standard input is listed, and recorded again as a live fleet.
 
 use std::error::Error;
 use std::io::{self, Read};
 
-use rajvokshul::{list, read, Fleet};
+use rajvokshul::{list, read, Fleet, Recorder};
 
 fn main() -> Result<(), Box<dyn Error>> {
     let mut recording = Vec::new();
     io::stdin().read_to_end(&mut recording)?;
     print!("{}", list(&recording)?);
     let plain = read(&recording)?;
-    let mut fleet = Fleet::start(plain.openings.len() as u32, &plain.openings)?;
-    for words in plain.words.chunks_exact(3 + plain.openings.len()) {
-        fleet.step(words)?;
+    let mut recorder = Recorder::start(&plain.openings)?;
+    for words in plain.rounds() {
+        recorder.step(words)?;
     }
-    if fleet != Fleet::run(&recording)? {
-        return Err("the fleet is not the one of the run".into());
+    if recorder.recording() != recording || recorder.fleet() != &Fleet::run(&recording)? {
+        return Err("the recording is not the same".into());
     }
     Ok(())
 }

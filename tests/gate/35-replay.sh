@@ -46,6 +46,7 @@ cat > "$box/bin/rt" << END
 #!/bin/sh
 echo "\$PWD: \$*" >> "$box/asked"
 echo "rt: at work"
+echo "error: none of note" >&2
 . "$box/then"
 mkdir -p target/bin && cp "$PWD/target/bin/replay" target/bin
 END
@@ -60,7 +61,7 @@ asks() { # TIMES STATUS OUTPUT ERROR: how often a call of the tree's script asks
     [ "$(wc -l < "$box/asked")" -eq "$times" ] && [ "$(grep -cvxF "$tree: check replay" "$box/asked")" -eq 0 ]
 }
 expect "replay builds the first time, and says so" asks 1 0 "$listing" "replay: proving and building"
-expect "replay says what rt says" grep -qx 'rt: at work' "$box/err"
+expect "replay says what rt is at, and no more" test "$(grep -vc '^replay: ' "$box/err") $(grep -cx 'rt: at work' "$box/err")" = "1 1"
 expect "replay does not build again" asks 0 0 "$listing" ""
 touch "$tree/crates/one/src/lib.rt"
 expect "replay builds after a change" asks 1 0 "$listing" "replay: proving and building"
@@ -80,6 +81,7 @@ expect "replay builds while a file changes" asks 1 0 "$listing" "replay: proving
 expect "replay builds again after that" asks 1 0 "$listing" "replay: proving and building"
 echo 'exit 1' > "$box/then"
 expect "replay ends where the build fails" asks 1 3 "" "replay: the program could not be built"
+expect "replay says all of it then" grep -qx 'error: none of note' "$box/err"
 echo 'rm target/bin/replay; exit 0' > "$box/then"
 expect "replay ends where no program is built" asks 1 3 "" "replay: the program could not be built"
 mkdir "$box/tools"

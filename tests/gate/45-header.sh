@@ -29,5 +29,6 @@ expect "the header's version $version is made of its numbers $numbers" test "$ve
 for crate in rajvokshul desk; do
     expect "crate $crate has the header's version" grep -qx "version = \"$version\"" "rust/$crate/Cargo.toml"
 done
+expect "CHANGELOG.md has the header's version" grep -qE "^## \[$version\]" CHANGELOG.md
 rm -rf "$out"
 finished=yes

@@ -117,21 +117,49 @@ impl Round {
     }
 
     /// Whether a truck's stop bit is set; of a truck that is not there it is not.
+    ///
+    /// ```
+    /// # use rajvokshul::{Refusal, Round};
+    /// let round = Round::new(2)?.stopped(0)?;
+    /// assert_eq!([0, 1, 2].map(|truck| round.is_stopped(truck)), [true, false, false]);
+    /// # Ok::<(), Refusal>(())
+    /// ```
     pub fn is_stopped(&self, truck: usize) -> bool {
         self.has(STOP, truck)
     }
 
     /// Whether a truck's active bit is set; of a truck that is not there it is not.
+    ///
+    /// ```
+    /// # use rajvokshul::{Refusal, Round};
+    /// let round = Round::new(2)?.active(0)?;
+    /// assert_eq!([0, 1, 2].map(|truck| round.is_active(truck)), [true, false, false]);
+    /// # Ok::<(), Refusal>(())
+    /// ```
     pub fn is_active(&self, truck: usize) -> bool {
         self.has(ACTIVE, truck)
     }
 
     /// Whether a truck's mark bit is set; of a truck that is not there it is not.
+    ///
+    /// ```
+    /// # use rajvokshul::{Refusal, Round};
+    /// let round = Round::new(2)?.marked(0)?;
+    /// assert_eq!([0, 1, 2].map(|truck| round.is_marked(truck)), [true, false, false]);
+    /// # Ok::<(), Refusal>(())
+    /// ```
     pub fn is_marked(&self, truck: usize) -> bool {
         self.has(MARK, truck)
     }
 
     /// Whether `truck` misses what `sender` sends; of trucks that are not there it does not.
+    ///
+    /// ```
+    /// # use rajvokshul::{Refusal, Round};
+    /// let round = Round::new(3)?.lost(0, 2)?;
+    /// assert_eq!([1, 2, 3].map(|sender| round.is_lost(0, sender)), [false, true, false]);
+    /// # Ok::<(), Refusal>(())
+    /// ```
     pub fn is_lost(&self, truck: usize, sender: usize) -> bool {
         truck < self.trucks() && self.has(FRONT + truck, sender)
     }

@@ -1,4 +1,4 @@
-# A new user's session, replayed line by line (docs/FIRST-TEN-MINUTES.md); and that the replay tells a page that is wrong.
+# What a new user types, replayed line by line (docs/FIRST-TEN-MINUTES.md); and that the replay tells a page that is wrong.
 expect "docs/FIRST-TEN-MINUTES.md" tests/transcript docs/FIRST-TEN-MINUTES.md
 page=$(mktemp)
 replays() { # STATUS PAGE

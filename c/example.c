@@ -13,17 +13,17 @@ static const uint8_t recording[] = {0x08, 0x04, 0x35, 0x30, 0x00, 0x03, 0x00, 0x
 
 static int refused(const char *what, uint32_t number) {
     if (number != RAJVOKSHUL_ACCEPTED) {
-        printf("%s: refused %u\n", what, (unsigned)number);
+        printf("%s: refused %u: %s\n", what, (unsigned)number, rajvokshul_reason(number));
     }
     return number != RAJVOKSHUL_ACCEPTED;
 }
 
 static void print_fleet(const uint8_t *record) {
     static const char *const states[] = {"running", "stopped", "decided"};
-    printf("after round %u:", record[1] + 256u * record[2]);
-    for (unsigned i = 0; i < record[0]; i++) {
-        const uint8_t *truck = record + 3 + 7 * i;
-        printf(" truck %u %s at %u", i, states[truck[4]], truck[1]);
+    printf("after round %u:", rajvokshul_rounds_done(record));
+    for (uint32_t i = 0; i < rajvokshul_trucks(record); i++) {
+        const char *state = states[rajvokshul_truck_state(record, i)];
+        printf(" truck %u %s at %u", (unsigned)i, state, rajvokshul_truck_estimate(record, i));
     }
     printf("\n");
 }
@@ -48,7 +48,7 @@ int main(void) {
         return 1;
     }
     for (uint32_t k = 0; k < rounds; k++) {
-        if (refused("step", rajvokshul_step(record, sizeof record, words + k * (3 + trucks), 3 + trucks))) {
+        if (refused("step", rajvokshul_step(record, sizeof record, words + rajvokshul_words(trucks, k), 3 + trucks))) {
             return 1;
         }
         print_fleet(record);

@@ -16,17 +16,28 @@ expect "cargo test's exit status" test "$status" -eq 0
 [ "$status" -eq 0 ] || grep -E '^error|FAILED|panicked' "$log" | head -n 20
 rm -f "$log"
 
-# The examples print case C1's listing, and the opening of case C12.
+# Layout, clippy and the pages of the documentation, without a warning, in the whole workspace.
+quiet() { # COMMAND..: in rust/; what it says is shown where it fails
+    local said
+    said=$(cd rust && "$@" 2>&1) || { tail -n 20 <<< "$said"; return 1; }
+}
+expect "rustfmt" quiet cargo fmt --all --check
+expect "clippy" quiet cargo clippy --offline --release --workspace --all-targets -- -D warnings
+expect "cargo doc" quiet env RUSTDOCFLAGS='-D warnings' cargo doc --offline --release --workspace --no-deps
+
+# The examples print case C1's listing, and the opening of case C12; what the recorder's prints is worked out by hand.
 shows_c1() { # OUTPUT
     grep -qx 'opening 1' "$1" && grep -A 2 -x 'trucks 2 rounds 4' "$1" | cmp -s - tests/cases/c01.out
 }
 out=$(mktemp -d)
 (cd rust && cargo run --offline --release -q -p rajvokshul --example quarry) > "$out/rust" 2>&1
 expect "the Rust example" shows_c1 "$out/rust"
+(cd rust && cargo run --offline --release -q -p rajvokshul --example recorder) > "$out/recorder" 2>&1
+expect "the recorder's example" cmp -s "$out/recorder" tests/examples/recorder.txt
 cc -std=c99 -Wall -Wextra -Werror -Ic c/example.c target/staticlib/libffi.a -o "$out/example" && "$out/example" > "$out/c"
 expect "the C example" shows_c1 "$out/c"
 
-# Stack: each call on inputs of the largest size. The program's status tells whether one takes 128 KiB or more, and there is a line for each call.
+# Stack: each call on inputs of the largest size. The program's status tells whether one takes more than the header says, and there is a line for each call.
 small_stack() {
     cc -std=c99 -Wall -Wextra -Werror -Ic c/stack.c target/staticlib/libffi.a -lpthread -o "$out/stack" || return 1
     "$out/stack" > "$out/taken"
@@ -35,7 +46,8 @@ small_stack() {
     calls=$(sed -nE 's/^(.*) [0-9,]+ bytes of stack$/\1/p' "$out/taken" | paste -sd '/')
     [ "$status" -eq 0 ] && [ "$calls" = "run/grade/list/step, proposals/step, vetoes/read/write/start/opening" ]
 }
-expect "the stack of largest calls is below 128 KiB" small_stack
+expect "the header says 128 KiB of stack for run, grade and list" grep -qE '^#define RAJVOKSHUL_RUN_STACK 131072 ' c/rajvokshul.h
+expect "the stack of largest calls is below what the header says" small_stack
 
 # Memory: the program and the archive under valgrind.
 clean() { valgrind -q --error-exitcode=9 "$@" > /dev/null 2>&1; }

@@ -1,4 +1,4 @@
-# The desk program (rust/desk) on the cases of document 01: what it prints, its statuses and its pictures. What is expected is written by hand from the paper's rules (tests/desk).
+# The desk program (rust/desk) on the cases of document 01: what it prints and records, its statuses and its pictures. What is expected is written by hand from the paper's rules (tests/desk).
 desk=rust/target/release/desk
 build_desk() { (cd rust && cargo build --offline --release -q -p desk); }
 expect "the desk program" build_desk
@@ -40,6 +40,11 @@ for expected in tests/desk/*.txt; do
     expect "the desk program says $expected" desk_says "$expected"
 done
 expect "desk grade of C2" test "$(bytes_of tests/cases/c02.hex | "$desk" grade | paste -sd ' ')" = "complete 1 majority 1 zero 0 accurate 0"
+
+# lines of text to a recording
+expect "desk record of C1" cmp -s <(bytes_of tests/cases/c01.hex) <("$desk" record tests/desk/c01.lines)
+expect "desk record of a truck that is not there" desk_ends 1 record < <(printf 'start 3 5\nround active 2\n')
+expect "desk record says where" grep -q '^desk: line 2: active 2: refused 8: ' "$said/err"
 
 # other statuses
 expect "desk without a command" desk_ends 2

@@ -22,7 +22,12 @@ fn trucks(n: usize) -> String {
 }
 
 fn size(plain: &Plain) -> String {
-    format!("{}, {} round{}", trucks(plain.n), plain.rounds, if plain.rounds == 1 { "" } else { "s" })
+    format!(
+        "{}, {} round{}",
+        trucks(plain.n),
+        plain.rounds,
+        if plain.rounds == 1 { "" } else { "s" }
+    )
 }
 
 fn named(plain: &Plain, what: &str) -> Input {
@@ -109,7 +114,8 @@ fn few(seed: u64, stop: u32, stay: u32) -> Plain {
     let calm = [vec![stop, u32::MAX, 0], vec![0; 32]].concat();
     let plain = gen::build(&mut rng, Header { n: 32, rounds: 400 }, openings, |rng, fleet| {
         let number = fleet.done as usize + 1;
-        let mut words = if number <= 4 { calm.clone() } else { gen::round(rng, 32, number, &habits) };
+        let mut words =
+            if number <= 4 { calm.clone() } else { gen::round(rng, 32, number, &habits) };
         words[2] |= deciding(fleet, &words) & stay;
         words
     });
@@ -122,9 +128,12 @@ fn vetoed(rng: &mut Rng, openings: Vec<u8>, rounds: usize) -> Plain {
     let n = openings.len();
     let plain = gen::build(rng, Header { n, rounds }, openings, |rng, fleet| {
         let proposals = fleet.done % 2 == 0;
-        let mut words = vec![0, if proposals { u32::MAX >> (32 - n) } else { 0 }, u32::from(proposals)];
+        let mut words =
+            vec![0, if proposals { u32::MAX >> (32 - n) } else { 0 }, u32::from(proposals)];
         for i in 0..n {
-            words.push((1..n).filter(|j| *j != i && rng.below(256) < 60).fold(0, |row, j| row | 1 << j));
+            words.push(
+                (1..n).filter(|j| *j != i && rng.below(256) < 60).fold(0, |row, j| row | 1 << j),
+            );
         }
         words
     });
@@ -205,8 +214,15 @@ fn two_steps(n: usize) -> [Step; 2] {
     let (_, begun) = oracle::start(n as u64, &plain.openings);
     let (_, proposed) = oracle::step(&begun, plain.round(1));
     let step = |fleet: Fleet, number, what: &str| {
-        assert_eq!((fleet.done + 1, oracle::step(&fleet, plain.round(number)).0), (number as u16, 0));
-        Step { what: format!("{}, {what} round", trucks(n)), fleet, words: plain.round(number).to_vec() }
+        assert_eq!(
+            (fleet.done + 1, oracle::step(&fleet, plain.round(number)).0),
+            (number as u16, 0)
+        );
+        Step {
+            what: format!("{}, {what} round", trucks(n)),
+            fleet,
+            words: plain.round(number).to_vec(),
+        }
     };
     [step(begun, 1, "proposal"), step(proposed, 2, "veto")]
 }

@@ -22,8 +22,18 @@ mod raw {
             text_len: usize,
             written: *mut usize,
         ) -> u32;
-        pub fn rajvokshul_run(bytes: *const u8, bytes_len: usize, record: *mut u8, record_len: usize) -> u32;
-        pub fn rajvokshul_grade(bytes: *const u8, bytes_len: usize, grades: *mut u16, grades_len: usize) -> u32;
+        pub fn rajvokshul_run(
+            bytes: *const u8,
+            bytes_len: usize,
+            record: *mut u8,
+            record_len: usize,
+        ) -> u32;
+        pub fn rajvokshul_grade(
+            bytes: *const u8,
+            bytes_len: usize,
+            grades: *mut u16,
+            grades_len: usize,
+        ) -> u32;
         pub fn rajvokshul_read(
             bytes: *const u8,
             bytes_len: usize,
@@ -52,7 +62,12 @@ mod raw {
             record: *mut u8,
             record_len: usize,
         ) -> u32;
-        pub fn rajvokshul_step(record: *mut u8, record_len: usize, words: *const u32, words_len: usize) -> u32;
+        pub fn rajvokshul_step(
+            record: *mut u8,
+            record_len: usize,
+            words: *const u32,
+            words_len: usize,
+        ) -> u32;
     }
 }
 
@@ -71,7 +86,9 @@ pub fn opening(lengths: &[u16], metres: &[u16], seconds: &[u16], crusher: &mut u
 }
 
 pub fn list(bytes: &[u8], text: &mut [u8], written: &mut usize) -> u32 {
-    unsafe { raw::rajvokshul_list(bytes.as_ptr(), bytes.len(), text.as_mut_ptr(), text.len(), written) }
+    unsafe {
+        raw::rajvokshul_list(bytes.as_ptr(), bytes.len(), text.as_mut_ptr(), text.len(), written)
+    }
 }
 
 pub fn run(bytes: &[u8], record: &mut [u8]) -> u32 {
@@ -82,7 +99,13 @@ pub fn grade(bytes: &[u8], grades: &mut [u16]) -> u32 {
     unsafe { raw::rajvokshul_grade(bytes.as_ptr(), bytes.len(), grades.as_mut_ptr(), grades.len()) }
 }
 
-pub fn read(bytes: &[u8], openings: &mut [u8], words: &mut [u32], trucks: &mut u32, rounds: &mut u32) -> u32 {
+pub fn read(
+    bytes: &[u8],
+    openings: &mut [u8],
+    words: &mut [u32],
+    trucks: &mut u32,
+    rounds: &mut u32,
+) -> u32 {
     unsafe {
         raw::rajvokshul_read(
             bytes.as_ptr(),
@@ -122,7 +145,13 @@ pub fn write(
 
 pub fn start(trucks: u32, openings: &[u8], record: &mut [u8]) -> u32 {
     unsafe {
-        raw::rajvokshul_start(trucks, openings.as_ptr(), openings.len(), record.as_mut_ptr(), record.len())
+        raw::rajvokshul_start(
+            trucks,
+            openings.as_ptr(),
+            openings.len(),
+            record.as_mut_ptr(),
+            record.len(),
+        )
     }
 }
 
@@ -204,7 +233,8 @@ pub fn plain_step(d: &mut [u8; RECORD], words: &[u32]) -> u8 {
 
 /// How often a test repeats: the environment variable CHECKS multiplies it for longer runs.
 pub fn times(count: usize) -> usize {
-    let factor: usize = std::env::var("CHECKS").map_or(1, |s| s.parse().expect("CHECKS is a number"));
+    let factor: usize =
+        std::env::var("CHECKS").map_or(1, |s| s.parse().expect("CHECKS is a number"));
     assert!(factor > 0, "CHECKS is 0: nothing would be tested");
     count * factor
 }

@@ -75,8 +75,14 @@ fn accepted_recordings() {
         let plain = oracle::read(&bytes).unwrap();
         let mut back = vec![FILL; bytes.len() + 2];
         let mut written = 0;
-        let number =
-            checks::write(plain.n as u32, plain.rounds as u32, &plain.openings, &plain.words, &mut back, &mut written);
+        let number = checks::write(
+            plain.n as u32,
+            plain.rounds as u32,
+            &plain.openings,
+            &plain.words,
+            &mut back,
+            &mut written,
+        );
         assert_eq!((number, written), (0, bytes.len()));
         assert_eq!(back[..written], bytes[..]);
         assert_eq!(back[written..], [FILL; 2]);
@@ -97,7 +103,8 @@ fn recordings_of_0_to_24_bytes() {
     let mut rng = Rng::new(15);
     let mut lengths = [0; 25];
     for n in 1..=32 {
-        for header in (0..).map(|rounds| Header { n, rounds }).take_while(|h| h.total_bytes() <= 24) {
+        for header in (0..).map(|rounds| Header { n, rounds }).take_while(|h| h.total_bytes() <= 24)
+        {
             for _ in 0..times(10) {
                 whole(&gen::bytes_of(&gen::plain_of_size(&mut rng, header)));
             }

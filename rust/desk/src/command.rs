@@ -11,7 +11,7 @@ use crate::timeline::timeline;
 
 /// Everything was done.
 pub const DONE: u8 = 0;
-/// The recording is refused.
+/// The recording, or a line to record, is refused.
 pub const REFUSED: u8 = 1;
 /// The command line is not understood.
 pub const USAGE: u8 = 2;
@@ -29,14 +29,33 @@ usage: desk COMMAND [FILE]
   desk explain FILE    why a recording is refused, and where; or what it holds
   desk timeline FILE   every round in words, and a verdict
   desk picture FILE    the whole run as an SVG picture
+  desk record FILE     lines of text to a recording
 
   desk help COMMAND    more about a command
   desk --help          this text
   desk --version       the program's version
 
-Without FILE, or with -, the recording is read from standard input.
-Status: 0 done, 1 the recording is refused, 2 usage, 3 reading or writing failed,
-4 the program contradicts itself.
+Without FILE, or with -, standard input is read.
+Status: 0 done, 1 the recording, or a line to record, is refused, 2 usage,
+3 reading or writing failed, 4 the program contradicts itself.
+";
+
+const RECORD_HELP: &str = "\
+usage: desk record [FILE] > run.rec
+
+Reads lines of text and prints the recording that they make. The first line is
+start with the opening crusher of each truck; each further line is a round.
+
+  start 3 5
+  round active 0 1
+  round
+  round active 0 marked 1 lost 1:0
+  round stopped 1
+
+After stopped, active and marked come trucks, after lost who missed whom: 1:0 is
+truck 1 missing truck 0. Empty lines, and what follows a #, are passed over.
+Where a line is refused, standard error says which and why, and nothing is
+printed.
 ";
 
 /// What can be shown of a recording.
@@ -129,6 +148,8 @@ pub enum Request {
     Say(&'static str),
     /// A view of a recording, from a file or from standard input.
     Show(View, Option<OsString>),
+    /// The recording of a text, from a file or from standard input.
+    Record(Option<OsString>),
 }
 
 /// Reads the arguments after the program's name; an error says what is not understood.
@@ -153,15 +174,21 @@ pub fn parse(arguments: &[OsString]) -> Result<Request, String> {
         [name] if *name == "help" => Ok(Request::Say(USAGE_TEXT)),
         [name, about] if *name == "help" => help_on(about),
         [name, ..] if help => help_on(name),
+        [name, rest @ ..] if *name == "record" => Ok(Request::Record(one_file(rest)?)),
         [name, rest @ ..] => {
             let (view, _) = View::named(name).ok_or_else(|| format!("no command {name:?}"))?;
-            match rest {
-                [] => Ok(Request::Show(view, None)),
-                [file] if *file == "-" => Ok(Request::Show(view, None)),
-                [file] => Ok(Request::Show(view, Some(file.to_os_string()))),
-                [_, other, ..] => Err(format!("one file at a time, but there is {other:?} too")),
-            }
+            Ok(Request::Show(view, one_file(rest)?))
         }
+    }
+}
+
+/// The file that is named after a command; none is standard input.
+fn one_file(words: &[&OsStr]) -> Result<Option<OsString>, String> {
+    match words {
+        [] => Ok(None),
+        [file] if *file == "-" => Ok(None),
+        [file] => Ok(Some(file.to_os_string())),
+        [_, other, ..] => Err(format!("one file at a time, but there is {other:?} too")),
     }
 }
 
@@ -171,6 +198,9 @@ fn is_option(argument: &OsStr) -> bool {
 }
 
 fn help_on(name: &OsStr) -> Result<Request, String> {
+    if name == "record" {
+        return Ok(Request::Say(RECORD_HELP));
+    }
     let (_, text) = View::named(name).ok_or_else(|| format!("no command {name:?}"))?;
     Ok(Request::Say(text))
 }

@@ -1,4 +1,5 @@
-//! `desk`: shows what happened in a recording. The library part of this package has everything but reading and printing.
+//! `desk`: shows what happened in a recording, and makes one from lines of text. The library part of this package has
+//! everything but reading and printing.
 
 #![forbid(unsafe_code)]
 
@@ -7,8 +8,9 @@ use std::fs::File;
 use std::io::{self, ErrorKind, Read, Write};
 use std::process::ExitCode;
 
-use desk::command::{answer, parse, Request, DONE, FAILED, USAGE, USAGE_TEXT};
+use desk::command::{answer, parse, Request, DONE, FAILED, REFUSED, USAGE, USAGE_TEXT};
 use desk::explain::MOST_READ;
+use desk::record::{recorded, MOST_TEXT};
 
 fn main() -> ExitCode {
     let arguments: Vec<OsString> = std::env::args_os().skip(1).collect();
@@ -17,38 +19,52 @@ fn main() -> ExitCode {
             complain(&format!("{complaint}\n{USAGE_TEXT}"));
             USAGE
         }
-        Ok(Request::Say(text)) => print(text, DONE),
-        Ok(Request::Show(view, file)) => match recording(file.as_deref()) {
-            Err(error) => {
-                let name = file.as_deref().map_or("standard input".into(), OsStr::to_string_lossy);
-                complain(&format!("{name}: {error}\n"));
-                FAILED
-            }
-            Ok(bytes) => {
+        Ok(Request::Say(text)) => print(text.as_bytes(), DONE),
+        Ok(Request::Show(view, file)) => match input(file.as_deref(), MOST_READ) {
+            None => FAILED,
+            Some(bytes) => {
                 let shown = answer(view, &bytes);
                 if !shown.err.is_empty() {
                     complain(&shown.err);
                 }
-                print(&shown.out, shown.status)
+                print(shown.out.as_bytes(), shown.status)
             }
+        },
+        Ok(Request::Record(file)) => match input(file.as_deref(), MOST_TEXT + 1) {
+            None => FAILED,
+            Some(text) => match recorded(&text) {
+                Ok(recording) => print(&recording, DONE),
+                Err(wrong) => {
+                    complain(&format!("{wrong}\n"));
+                    REFUSED
+                }
+            },
         },
     })
 }
 
-/// The recording in a file or on standard input; no more of it than tells that it is too long.
-fn recording(file: Option<&OsStr>) -> io::Result<Vec<u8>> {
+/// What is in a file or on standard input, and no more than `most` bytes of it; nothing, with a message, where it cannot
+/// be read.
+fn input(file: Option<&OsStr>, most: usize) -> Option<Vec<u8>> {
     let mut bytes = Vec::new();
-    match file {
-        Some(name) => File::open(name)?.take(MOST_READ as u64).read_to_end(&mut bytes)?,
-        None => io::stdin().lock().take(MOST_READ as u64).read_to_end(&mut bytes)?,
+    let read = match file {
+        Some(name) => {
+            File::open(name).and_then(|file| file.take(most as u64).read_to_end(&mut bytes))
+        }
+        None => io::stdin().lock().take(most as u64).read_to_end(&mut bytes),
     };
-    Ok(bytes)
+    if let Err(error) = read {
+        let name = file.map_or("standard input".into(), OsStr::to_string_lossy);
+        complain(&format!("{name}: {error}\n"));
+        return None;
+    }
+    Some(bytes)
 }
 
-/// Prints a text and answers the status to end with. A reader that has gone away needs no message.
-fn print(text: &str, status: u8) -> u8 {
+/// Prints bytes and answers the status to end with. A reader that has gone away needs no message.
+fn print(bytes: &[u8], status: u8) -> u8 {
     let mut out = io::stdout().lock();
-    match out.write_all(text.as_bytes()).and_then(|()| out.flush()) {
+    match out.write_all(bytes).and_then(|()| out.flush()) {
         Ok(()) => status,
         Err(error) => {
             if error.kind() != ErrorKind::BrokenPipe {

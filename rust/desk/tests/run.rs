@@ -98,7 +98,7 @@ fn help_and_version() {
         assert!(out.starts_with("usage: desk COMMAND [FILE]\n"), "{out}");
         assert_eq!((err.as_str(), status), ("", 0));
     }
-    for command in ["list", "grade", "explain", "timeline", "picture"] {
+    for command in ["list", "grade", "explain", "timeline", "picture", "record"] {
         let (out, _, status) = run(&["help", command]);
         assert!(out.starts_with(&format!("usage: desk {command} ")), "{out}");
         assert_eq!(status, 0);

@@ -13,12 +13,10 @@ fn main() -> Result<(), Refusal> {
 
     let plain = read(&recording)?;
     let mut fleet = Fleet::start(plain.openings.len() as u32, &plain.openings)?;
-    for k in 1..=plain.rounds as usize {
-        fleet.step(plain.round(k).unwrap())?;
-        let decided = (0..plain.openings.len())
-            .filter(|&i| matches!(fleet.truck(i).unwrap().state, State::Decided(_)))
-            .count();
-        println!("round {k}: {decided} decided");
+    for words in plain.rounds() {
+        fleet.step(words)?;
+        let decided = fleet.iter().filter(|truck| matches!(truck.state, State::Decided(_))).count();
+        println!("round {}: {decided} decided", fleet.rounds_done());
     }
     assert_eq!(fleet, Fleet::run(&recording)?);
 

@@ -1,23 +1,33 @@
 //! A live fleet, kept as the library's 227 bytes.
 
+use std::fmt;
+
 use crate::{ffi, Refusal};
 
+/// The most trucks of a fleet.
+pub const MAX_TRUCKS: usize = 32;
 /// The bytes of a fleet record.
 pub const RECORD_SIZE: usize = 227;
 
 /// How many different values a truck heard in the proposal round before.
 #[derive(Clone, Copy, Debug, PartialEq, Eq, Hash)]
 pub enum Heard {
+    /// No value.
     Nothing,
+    /// One value, from one truck or several.
     One,
+    /// Several different values.
     Several,
 }
 
 /// A truck is running, stopped or decided; the number is the round of the stop or the decision.
 #[derive(Clone, Copy, Debug, PartialEq, Eq, Hash)]
 pub enum State {
+    /// It takes part.
     Running,
+    /// It stopped at the start of this round.
     Stopped(u16),
+    /// It decided its estimate at the end of this round.
     Decided(u16),
 }
 
@@ -32,6 +42,7 @@ pub struct Truck {
     pub mark: bool,
     /// What it heard in the proposal round before.
     pub heard: Heard,
+    /// Whether it is running, stopped or decided.
     pub state: State,
 }
 
@@ -42,20 +53,32 @@ pub struct Truck {
 ///
 /// let mut fleet = Fleet::start(2, &[3, 5])?;
 /// // A round in plain form: stop, active, mark, then what each truck missed.
-/// fleet.step(&[0, 0b11, 0, 0, 0])?;
-/// fleet.step(&[0, 0, 0, 0, 0])?;
+/// fleet.step([0, 0b11, 0, 0, 0])?;
+/// fleet.step([0, 0, 0, 0, 0])?;
 /// assert_eq!(fleet.rounds_done(), 2);
 /// assert_eq!(fleet.truck(1).unwrap().estimate, 3);
-/// assert_eq!(fleet.truck(1).unwrap().state, State::Running);
+/// for truck in &fleet {
+///     assert_eq!(truck.state, State::Running);
+/// }
 /// # Ok::<(), rajvokshul::Refusal>(())
 /// ```
-#[derive(Clone, Debug, PartialEq, Eq, Hash)]
+///
+/// Two fleets are equal where all their bytes are, also those of places without a truck. A start and a run leave 0 there.
+#[derive(Clone, PartialEq, Eq, Hash)]
 pub struct Fleet {
     bytes: [u8; RECORD_SIZE],
 }
 
 impl Fleet {
     /// Starts a fleet of `trucks` trucks, each with its opening crusher. Refusals: 2, 7.
+    ///
+    /// ```
+    /// # use rajvokshul::{Fleet, Refusal};
+    /// assert_eq!(Fleet::start(2, &[3, 5])?.trucks(), 2);
+    /// assert_eq!(Fleet::start(33, &[3; 33]), Err(Refusal::TruckCount));
+    /// assert_eq!(Fleet::start(2, &[3]), Err(Refusal::Record));
+    /// # Ok::<(), Refusal>(())
+    /// ```
     pub fn start(trucks: u32, openings: &[u8]) -> Result<Fleet, Refusal> {
         let mut bytes = [0; RECORD_SIZE];
         // SAFETY: the list and the buffer are valid for their lengths and do not overlap.
@@ -72,8 +95,20 @@ impl Fleet {
         Ok(Fleet { bytes })
     }
 
-    /// Steps the fleet by one round in plain form: 3 + n words. A refused step changes nothing. Refusals: 7, 14, 8, 6.
-    pub fn step(&mut self, words: &[u32]) -> Result<(), Refusal> {
+    /// Steps the fleet by one round: a [`Round`](crate::Round), or its 3 + n words in plain form. A refused step changes
+    /// nothing. Refusals: 7, 14, 8, 6; 7 only where the fleet was made [`from_bytes`](Fleet::from_bytes).
+    ///
+    /// ```
+    /// # use rajvokshul::{Fleet, Refusal, Round, State};
+    /// let mut fleet = Fleet::start(1, &[7])?;
+    /// fleet.step(Round::new(1)?.active(0)?)?;
+    /// fleet.step([0, 0, 0, 0])?;
+    /// assert_eq!(fleet.truck(0).unwrap().state, State::Decided(2));
+    /// assert_eq!(fleet.step([0, 0, 0, 1]), Err(Refusal::OwnLoss));
+    /// # Ok::<(), Refusal>(())
+    /// ```
+    pub fn step(&mut self, round: impl AsRef<[u32]>) -> Result<(), Refusal> {
+        let words = round.as_ref();
         // SAFETY: as above.
         let answer = unsafe {
             ffi::rajvokshul_step(
@@ -87,6 +122,13 @@ impl Fleet {
     }
 
     /// Runs a recording, all its rounds. Refusals: 1 to 6.
+    ///
+    /// ```
+    /// # use rajvokshul::{Fleet, Refusal, State};
+    /// let fleet = Fleet::run(&[0x08, 0x04, 0x35, 0x30, 0x00, 0x03, 0x00, 0x00])?;
+    /// assert_eq!(fleet.truck(1).unwrap().state, State::Decided(4));
+    /// # Ok::<(), Refusal>(())
+    /// ```
     pub fn run(recording: &[u8]) -> Result<Fleet, Refusal> {
         let mut bytes = [0; RECORD_SIZE];
         // SAFETY: as above.
@@ -102,27 +144,79 @@ impl Fleet {
         Ok(Fleet { bytes })
     }
 
-    /// A record that was kept as bytes. They are judged when the fleet is stepped: bytes that are no record, or one
-    /// outside the limits, are then refused with 7.
+    /// A record that was kept as bytes, not judged until the fleet is stepped: bytes that are no record, or one outside
+    /// the limits, are then refused with 7. `Fleet::try_from(bytes)` judges them at once.
+    ///
+    /// ```
+    /// # use rajvokshul::{Fleet, Refusal};
+    /// let kept = *Fleet::start(2, &[3, 5])?.as_bytes();
+    /// assert_eq!(Fleet::from_bytes(kept).trucks(), 2);
+    /// assert_eq!(Fleet::from_bytes([0xff; 227]).step([0; 5]), Err(Refusal::Record));
+    /// # Ok::<(), Refusal>(())
+    /// ```
     pub fn from_bytes(bytes: [u8; RECORD_SIZE]) -> Fleet {
         Fleet { bytes }
     }
 
-    /// The record as bytes; `c/rajvokshul.h` has their layout.
+    /// The record as bytes: n; the rounds done, low byte first; then seven bytes for each of 32 places, which are
+    /// opening, estimate, mark (0 or 1), what was heard (0 to 2 as in [`Heard`]), state (0 to 2 as in [`State`]), and the
+    /// round of the stop or the decision, low byte first.
+    ///
+    /// ```
+    /// # use rajvokshul::{Fleet, Refusal};
+    /// let fleet = Fleet::start(2, &[3, 5])?;
+    /// assert_eq!(fleet.as_bytes()[..10], [2, 0, 0, 3, 3, 0, 0, 0, 0, 0]);
+    /// assert_eq!(Fleet::try_from(*fleet.as_bytes())?, fleet);
+    /// # Ok::<(), Refusal>(())
+    /// ```
     pub fn as_bytes(&self) -> &[u8; RECORD_SIZE] {
         &self.bytes
     }
 
     /// The number of trucks.
+    ///
+    /// ```
+    /// # use rajvokshul::{Fleet, Refusal};
+    /// assert_eq!(Fleet::start(2, &[3, 5])?.trucks(), 2);
+    /// # Ok::<(), Refusal>(())
+    /// ```
     pub fn trucks(&self) -> u8 {
         self.bytes[0]
     }
 
+    /// The number of rounds taken.
+    ///
+    /// ```
+    /// # use rajvokshul::{Fleet, Refusal};
+    /// assert_eq!(Fleet::start(2, &[3, 5])?.rounds_done(), 0);
+    /// # Ok::<(), Refusal>(())
+    /// ```
     pub fn rounds_done(&self) -> u16 {
         u16::from_le_bytes([self.bytes[1], self.bytes[2]])
     }
 
+    /// The trucks, lowest number first. Of a record that nobody has judged, those before the first place that holds none.
+    ///
+    /// ```
+    /// # use rajvokshul::{Fleet, Refusal};
+    /// let fleet = Fleet::start(2, &[3, 5])?;
+    /// let openings: Vec<u8> = fleet.iter().map(|truck| truck.opening).collect();
+    /// assert_eq!(openings, [3, 5]);
+    /// # Ok::<(), Refusal>(())
+    /// ```
+    pub fn iter(&self) -> Trucks<'_> {
+        Trucks { fleet: self, next: 0 }
+    }
+
     /// Truck `i`, counted from 0. There is none from the number of trucks on, nor where the bytes are those of no truck.
+    ///
+    /// ```
+    /// # use rajvokshul::{Fleet, Refusal};
+    /// let fleet = Fleet::start(2, &[3, 5])?;
+    /// assert_eq!(fleet.truck(1).map(|truck| truck.opening), Some(5));
+    /// assert_eq!(fleet.truck(2), None);
+    /// # Ok::<(), Refusal>(())
+    /// ```
     pub fn truck(&self, i: usize) -> Option<Truck> {
         if i >= usize::from(self.trucks()) {
             return None;
@@ -152,3 +246,92 @@ impl Fleet {
         })
     }
 }
+
+impl TryFrom<[u8; RECORD_SIZE]> for Fleet {
+    type Error = Refusal;
+
+    /// A record that was kept as bytes, judged as a step would judge it. Refusal: 7.
+    ///
+    /// The proved library judges: it is asked for a step without any words. A step looks for 7 first; to a record that
+    /// passes it then answers 14 or 8, since no round has 0 words, and it changes nothing.
+    ///
+    /// ```
+    /// # use rajvokshul::{Fleet, Refusal};
+    /// let mut kept = *Fleet::start(2, &[3, 5])?.as_bytes();
+    /// assert!(Fleet::try_from(kept).is_ok());
+    /// kept[3] = 16;
+    /// assert_eq!(Fleet::try_from(kept), Err(Refusal::Record));
+    /// # Ok::<(), Refusal>(())
+    /// ```
+    fn try_from(bytes: [u8; RECORD_SIZE]) -> Result<Fleet, Refusal> {
+        let mut fleet = Fleet { bytes };
+        match fleet.step([]) {
+            Err(Refusal::Record) => Err(Refusal::Record),
+            _ => Ok(fleet),
+        }
+    }
+}
+
+impl TryFrom<&[u8]> for Fleet {
+    type Error = Refusal;
+
+    /// The same of a slice, which has to have 227 bytes. Refusal: 7.
+    ///
+    /// ```
+    /// # use rajvokshul::{Fleet, Refusal};
+    /// let fleet = Fleet::start(2, &[3, 5])?;
+    /// assert_eq!(Fleet::try_from(&fleet.as_bytes()[..]), Ok(fleet));
+    /// assert_eq!(Fleet::try_from(&[2, 0, 0][..]), Err(Refusal::Record));
+    /// # Ok::<(), Refusal>(())
+    /// ```
+    fn try_from(bytes: &[u8]) -> Result<Fleet, Refusal> {
+        <[u8; RECORD_SIZE]>::try_from(bytes).map_err(|_| Refusal::Record)?.try_into()
+    }
+}
+
+impl fmt::Debug for Fleet {
+    /// The rounds done and the trucks, not the bytes.
+    fn fmt(&self, f: &mut fmt::Formatter<'_>) -> fmt::Result {
+        let trucks: Vec<Option<Truck>> =
+            (0..usize::from(self.trucks())).map(|i| self.truck(i)).collect();
+        let mut shown = f.debug_struct("Fleet");
+        shown.field("rounds_done", &self.rounds_done());
+        match trucks.iter().copied().collect::<Option<Vec<Truck>>>() {
+            Some(trucks) => shown.field("trucks", &trucks),
+            None => shown.field("trucks", &trucks),
+        };
+        shown.finish()
+    }
+}
+
+impl<'a> IntoIterator for &'a Fleet {
+    type Item = Truck;
+    type IntoIter = Trucks<'a>;
+
+    fn into_iter(self) -> Trucks<'a> {
+        self.iter()
+    }
+}
+
+/// The trucks of a fleet, lowest number first; [`Fleet::iter`] makes it.
+#[derive(Clone, Debug)]
+pub struct Trucks<'a> {
+    fleet: &'a Fleet,
+    next: usize,
+}
+
+impl Iterator for Trucks<'_> {
+    type Item = Truck;
+
+    fn next(&mut self) -> Option<Truck> {
+        let truck = self.fleet.truck(self.next)?;
+        self.next += 1;
+        Some(truck)
+    }
+
+    fn size_hint(&self) -> (usize, Option<usize>) {
+        (0, Some(usize::from(self.fleet.trucks()).saturating_sub(self.next)))
+    }
+}
+
+impl std::iter::FusedIterator for Trucks<'_> {}

@@ -1,24 +1,55 @@
 //! Crusher agreement by radio rounds: up to 32 trucks that share one radio channel settle on one crusher.
 //!
 //! This crate calls the proved library through its exported functions and adds no rules of its own. [`Fleet`] starts,
-//! steps and runs a fleet; [`list`], [`grade`], [`read`] and [`write`](fn@write) work on recordings; [`opening`] picks a
-//! truck's first crusher. Whatever is refused answers a [`Refusal`] and changes nothing.
+//! steps and runs a fleet, [`Recorder`] does so and keeps the rounds, which [`Round`] builds by naming trucks; [`list`],
+//! [`grade`], [`read`] and [`write`](fn@write) work on recordings; [`opening`] picks a truck's first crusher. Whatever is
+//! refused answers a [`Refusal`] and changes nothing.
 //!
-//! The archive of the library is looked for in `target/staticlib` of the repository (`rt staticlib ffi` writes it), or in
-//! the folder that the environment variable `RAJVOKSHUL_LIB_DIR` names when this crate is built.
+//! The archive of the library is looked for in the folder that the environment variable `RAJVOKSHUL_LIB_DIR` names when
+//! this crate is built, else where it stands beside this crate: in `target/staticlib` of the repository, where
+//! `rt staticlib ffi` writes it, or in `lib` of an installation.
+//!
+//! # Stack
+//!
+//! A call takes no memory but stack, and what this crate allocates for an answer. [`Fleet::run`], [`list`] and [`grade`]
+//! take less than 128 KiB of stack on recordings of the largest size (66 KiB were measured), every other call less than
+//! 4 KiB. Threads with stacks of their own should have that much to spare.
+//!
+//! # A first run
+//!
+//! ```
+//! use rajvokshul::{list, Recorder, Refusal, Round};
+//!
+//! // Truck 0 opens with crusher 3, truck 1 with crusher 5; both send in the first and the third round.
+//! let mut recorder = Recorder::start(&[3, 5])?;
+//! for round in 1..=4 {
+//!     let nobody = Round::new(2)?;
+//!     recorder.step(if round % 2 == 1 { nobody.active(0)?.active(1)? } else { nobody })?;
+//! }
+//! assert_eq!(
+//!     list(&recorder.recording())?,
+//!     "trucks 2 rounds 4\n0 opened 3 decided 3 round 4\n1 opened 5 decided 3 round 4\n"
+//! );
+//! # Ok::<(), Refusal>(())
+//! ```
 
+#![deny(missing_docs)]
 #![deny(unsafe_op_in_unsafe_fn)]
 
 mod ffi;
 mod fleet;
+mod recorder;
 mod recording;
 mod refusal;
 mod roads;
+mod round;
 
-pub use fleet::{Fleet, Heard, State, Truck, RECORD_SIZE};
+pub use fleet::{Fleet, Heard, State, Truck, Trucks, MAX_TRUCKS, RECORD_SIZE};
+pub use recorder::Recorder;
 pub use recording::{
-    grade, list, list_into, read, read_into, write, write_into, Grades, Plain, MAX_RECORDING,
-    MAX_TEXT, MAX_WORDS,
+    grade, list, list_into, read, read_into, write, write_into, Class, Grades, Plain,
+    MAX_RECORDING, MAX_ROUNDS, MAX_TEXT, MAX_WORDS,
 };
 pub use refusal::Refusal;
 pub use roads::opening;
+pub use round::Round;

@@ -1,7 +1,12 @@
 //! Recordings: listed, graded, read to plain form and written from it.
 
-use crate::{ffi, Refusal};
+use std::fmt;
+use std::slice::ChunksExact;
 
+use crate::{ffi, Refusal, Round, MAX_TRUCKS};
+
+/// The most rounds of a recording, and of a fleet.
+pub const MAX_ROUNDS: usize = 400;
 /// The bytes of the largest recording.
 pub const MAX_RECORDING: usize = 56_018;
 /// The words of the largest recording in plain form.
@@ -9,19 +14,85 @@ pub const MAX_WORDS: usize = 14_000;
 /// No listing has more bytes.
 pub const MAX_TEXT: usize = 1_099;
 
+/// What the marks of a round are worth. Running trucks are judged, by the messages sent.
+#[derive(Clone, Copy, Debug, PartialEq, Eq, Hash)]
+pub enum Class {
+    /// A truck that misses a message has a mark.
+    Complete,
+    /// A truck that hears at most half of the messages has a mark.
+    Majority,
+    /// A truck that hears none of the messages has a mark.
+    Zero,
+    /// A truck that has a mark missed a message.
+    Accurate,
+}
+
+impl Class {
+    /// The four classes, in the order of a grading.
+    pub const ALL: [Class; 4] = [Class::Complete, Class::Majority, Class::Zero, Class::Accurate];
+}
+
 /// For each class of marks the first round that breaks it, or 0.
+///
+/// ```
+/// use rajvokshul::{grade, Class};
+///
+/// // Two trucks send and miss each other; neither has a mark.
+/// let grades = grade(&[0x08, 0x02, 0x35, 0x31, 0x80, 0x00])?;
+/// assert_eq!(grades.first_break(Class::Majority), Some(1));
+/// assert_eq!(grades.first_break(Class::Zero), None);
+/// # Ok::<(), rajvokshul::Refusal>(())
+/// ```
 #[derive(Clone, Copy, Debug, PartialEq, Eq, Hash)]
 pub struct Grades {
+    /// The first round that breaks [`Class::Complete`], or 0.
     pub complete: u16,
+    /// The first round that breaks [`Class::Majority`], or 0.
     pub majority: u16,
+    /// The first round that breaks [`Class::Zero`], or 0.
     pub zero: u16,
+    /// The first round that breaks [`Class::Accurate`], or 0.
     pub accurate: u16,
+}
+
+impl Grades {
+    /// The first round that breaks a class, if one does.
+    ///
+    /// ```
+    /// # use rajvokshul::{Class, Grades};
+    /// let grades = Grades { complete: 3, majority: 0, zero: 0, accurate: 0 };
+    /// assert_eq!(grades.first_break(Class::Complete), Some(3));
+    /// assert!(grades.first_break(Class::Majority).is_none());
+    /// ```
+    pub fn first_break(&self, class: Class) -> Option<u16> {
+        let round = match class {
+            Class::Complete => self.complete,
+            Class::Majority => self.majority,
+            Class::Zero => self.zero,
+            Class::Accurate => self.accurate,
+        };
+        (round != 0).then_some(round)
+    }
 }
 
 /// A recording in plain form. A round is 3 + n words (stop, active, mark, and a row of loss bits for each truck), truck j
 /// at the bit worth 2 to the j.
-#[derive(Clone, Debug, PartialEq, Eq, Hash)]
+///
+/// ```
+/// use rajvokshul::{read, Fleet, Refusal};
+///
+/// let recording = [0x08, 0x04, 0x35, 0x30, 0x00, 0x03, 0x00, 0x00];
+/// let plain = read(&recording)?;
+/// let mut fleet = Fleet::start(2, &plain.openings)?;
+/// for words in plain.rounds() {
+///     fleet.step(words)?;
+/// }
+/// assert_eq!(fleet, Fleet::run(&recording)?);
+/// # Ok::<(), Refusal>(())
+/// ```
+#[derive(Clone, PartialEq, Eq, Hash)]
 pub struct Plain {
+    /// The number of rounds.
     pub rounds: u32,
     /// A byte for each truck.
     pub openings: Vec<u8>,
@@ -30,14 +101,61 @@ pub struct Plain {
 }
 
 impl Plain {
-    /// The words of round `k`, counted from 1.
+    /// The words of round `k`, counted from 1. There is none past the last round, nor a round 0.
+    ///
+    /// ```
+    /// # use rajvokshul::{read, Refusal};
+    /// let plain = read(&[0x04, 0x02, 0x74, 0x00])?;
+    /// assert_eq!(plain.round(1), Some(&[0, 1, 0, 0][..]));
+    /// assert_eq!(plain.round(3), None);
+    /// # Ok::<(), Refusal>(())
+    /// ```
     pub fn round(&self, k: usize) -> Option<&[u32]> {
         let size = 3 + self.openings.len();
-        self.words.get(k.checked_sub(1)? * size..k * size)
+        // A product that wraps would answer an early round for a late number.
+        let end = k.checked_mul(size)?;
+        self.words.get(end.checked_sub(size)?..end)
+    }
+
+    /// The words of each round, the first one first. [`Round::try_from`] reads them by trucks.
+    ///
+    /// ```
+    /// # use rajvokshul::{read, Refusal, Round};
+    /// let plain = read(&[0x04, 0x02, 0x74, 0x00])?;
+    /// let active: Vec<bool> = plain
+    ///     .rounds()
+    ///     .map(|words| Ok(Round::try_from(words)?.is_active(0)))
+    ///     .collect::<Result<_, Refusal>>()?;
+    /// assert_eq!(active, [true, false]);
+    /// # Ok::<(), Refusal>(())
+    /// ```
+    pub fn rounds(&self) -> ChunksExact<'_, u32> {
+        self.words.chunks_exact(3 + self.openings.len())
+    }
+}
+
+impl fmt::Debug for Plain {
+    /// The openings, and each round by its trucks; the bare words where they are no rounds of so many trucks.
+    fn fmt(&self, f: &mut fmt::Formatter<'_>) -> fmt::Result {
+        let mut shown = f.debug_struct("Plain");
+        shown.field("openings", &self.openings);
+        let whole =
+            self.rounds().len() == self.rounds as usize && self.rounds().remainder().is_empty();
+        match self.rounds().map(Round::try_from).collect::<Result<Vec<Round>, Refusal>>() {
+            Ok(rounds) if whole => shown.field("rounds", &rounds),
+            _ => shown.field("rounds", &self.rounds).field("words", &self.words),
+        };
+        shown.finish()
     }
 }
 
 /// Runs a recording to its listing: the two counts, then a line for each truck. Refusals: 1 to 6.
+///
+/// ```
+/// let text = rajvokshul::list(&[0x04, 0x02, 0x74, 0x00])?;
+/// assert_eq!(text, "trucks 1 rounds 2\n0 opened 7 decided 7 round 2\n");
+/// # Ok::<(), rajvokshul::Refusal>(())
+/// ```
 pub fn list(recording: &[u8]) -> Result<String, Refusal> {
     let mut text = vec![0; MAX_TEXT];
     let written = list_into(recording, &mut text)?;
@@ -46,6 +164,15 @@ pub fn list(recording: &[u8]) -> Result<String, Refusal> {
 }
 
 /// [`list`] into a lent buffer; answers the number of bytes written. Refusals: 1 to 6, 9.
+///
+/// ```
+/// use rajvokshul::{list_into, MAX_TEXT};
+///
+/// let mut text = [0; MAX_TEXT];
+/// let written = list_into(&[0x04, 0x00, 0x70], &mut text)?;
+/// assert_eq!(&text[..written], b"trucks 1 rounds 0\n0 opened 7 running 7\n");
+/// # Ok::<(), rajvokshul::Refusal>(())
+/// ```
 pub fn list_into(recording: &[u8], text: &mut [u8]) -> Result<usize, Refusal> {
     let mut written = 0;
     // SAFETY: the list and the buffers are valid for their lengths and do not overlap.
@@ -63,6 +190,13 @@ pub fn list_into(recording: &[u8], text: &mut [u8]) -> Result<usize, Refusal> {
 }
 
 /// Grades the marks of a recording. Refusals: 1 to 6.
+///
+/// ```
+/// use rajvokshul::{grade, Grades};
+///
+/// let graded = grade(&[0x08, 0x02, 0x35, 0x31, 0x80, 0x00]);
+/// assert_eq!(graded, Ok(Grades { complete: 1, majority: 1, zero: 0, accurate: 0 }));
+/// ```
 pub fn grade(recording: &[u8]) -> Result<Grades, Refusal> {
     let mut grades = [0; 4];
     // SAFETY: as above.
@@ -80,8 +214,15 @@ pub fn grade(recording: &[u8]) -> Result<Grades, Refusal> {
 }
 
 /// Reads a recording to plain form. Refusals: 1 to 6.
+///
+/// ```
+/// let plain = rajvokshul::read(&[0x04, 0x02, 0x74, 0x00])?;
+/// assert_eq!((plain.rounds, plain.openings), (2, vec![7]));
+/// assert_eq!(plain.words, [0, 1, 0, 0, 0, 0, 0, 0]);
+/// # Ok::<(), rajvokshul::Refusal>(())
+/// ```
 pub fn read(recording: &[u8]) -> Result<Plain, Refusal> {
-    let mut openings = vec![0; 32];
+    let mut openings = vec![0; MAX_TRUCKS];
     let mut words = vec![0; MAX_WORDS];
     let (trucks, rounds) = read_into(recording, &mut openings, &mut words)?;
     openings.truncate(trucks as usize);
@@ -91,6 +232,13 @@ pub fn read(recording: &[u8]) -> Result<Plain, Refusal> {
 
 /// [`read`] into lent buffers; answers the numbers of trucks and rounds. Longer buffers keep everything past the part
 /// written. Refusals: 1 to 6, 9.
+///
+/// ```
+/// let (mut openings, mut words) = ([0; 32], [0; 8]);
+/// let read = rajvokshul::read_into(&[0x04, 0x02, 0x74, 0x00], &mut openings, &mut words);
+/// assert_eq!(read, Ok((1, 2)));
+/// assert_eq!((openings[0], words[1]), (7, 1));
+/// ```
 pub fn read_into(
     recording: &[u8],
     openings: &mut [u8],
@@ -115,6 +263,12 @@ pub fn read_into(
 }
 
 /// Writes a recording from plain form. Refusals: 2, 3, 7, 8, 6.
+///
+/// ```
+/// let recording = rajvokshul::write(1, 2, &[7], &[0, 1, 0, 0, 0, 0, 0, 0])?;
+/// assert_eq!(recording, [0x04, 0x02, 0x74, 0x00]);
+/// # Ok::<(), rajvokshul::Refusal>(())
+/// ```
 pub fn write(trucks: u32, rounds: u32, openings: &[u8], words: &[u32]) -> Result<Vec<u8>, Refusal> {
     let mut bytes = vec![0; MAX_RECORDING];
     let written = write_into(trucks, rounds, openings, words, &mut bytes)?;
@@ -122,8 +276,16 @@ pub fn write(trucks: u32, rounds: u32, openings: &[u8], words: &[u32]) -> Result
     Ok(bytes)
 }
 
-/// [`write`] into a lent buffer; answers the number of bytes written. A longer buffer keeps everything past them.
+/// [`write`](fn@write) into a lent buffer; answers the number of bytes written. A longer buffer keeps everything past them.
 /// Refusals: 2, 3, 7, 8, 6, 9.
+///
+/// ```
+/// use rajvokshul::{write_into, Refusal};
+///
+/// let mut bytes = [0; 4];
+/// assert_eq!(write_into(1, 2, &[7], &[0, 1, 0, 0, 0, 0, 0, 0], &mut bytes), Ok(4));
+/// assert_eq!(write_into(1, 2, &[7], &[0, 1, 0, 0, 0, 0, 0, 0], &mut bytes[..3]), Err(Refusal::ShortBuffer));
+/// ```
 pub fn write_into(
     trucks: u32,
     rounds: u32,

@@ -54,6 +54,10 @@ impl Refusal {
     ];
 
     /// The scope paper's number, 1 to 14.
+    ///
+    /// ```
+    /// assert_eq!(rajvokshul::Refusal::RoundsDone.number(), 14);
+    /// ```
     pub fn number(self) -> u8 {
         self as u8
     }
@@ -96,6 +100,13 @@ impl Refusal {
     }
 
     /// The refusal of a number.
+    ///
+    /// ```
+    /// use rajvokshul::Refusal;
+    ///
+    /// assert_eq!(Refusal::from_number(14), Some(Refusal::RoundsDone));
+    /// assert_eq!(Refusal::from_number(0), None);
+    /// ```
     pub fn from_number(number: u8) -> Option<Refusal> {
         Refusal::ALL.into_iter().find(|r| r.number() == number)
     }

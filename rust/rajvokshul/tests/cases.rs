@@ -128,6 +128,20 @@ fn longer_buffers_keep_the_rest() {
 }
 
 #[test]
+fn rounds_of_a_plain_form_count_from_1_to_the_last() {
+    let plain = read(&C1).unwrap();
+    assert_eq!(plain.round(1), Some(&[0, 0b11, 0, 0, 0][..]));
+    assert_eq!(plain.round(2), Some(&[0; 5][..]));
+    assert_eq!(plain.round(4), Some(&[0; 5][..]));
+    assert_eq!((plain.round(0), plain.round(5)), (None, None));
+    // One truck has four words a round; 4 times the first number is 2 to the 64 and 4.
+    let one = read(&[0x04, 0x02, 0x74, 0x00]).unwrap();
+    for far in [(1 << 62) + 1, (1 << 62) + 2, 1 << 62, usize::MAX] {
+        assert_eq!(one.round(far), None, "{far}");
+    }
+}
+
+#[test]
 fn counts_that_fit_no_record() {
     // 258 is 2 and 65,540 is 4 in the library's own types.
     assert_eq!(Fleet::start(258, &[3, 5]), Err(Refusal::TruckCount));
@@ -140,14 +154,14 @@ fn counts_that_fit_no_record() {
 fn refused_steps_leave_the_record() {
     let mut fleet = Fleet::start(2, &[3, 5]).unwrap();
     let before = fleet.clone();
-    assert_eq!(fleet.step(&[0; 4]), Err(Refusal::PlainRound));
-    assert_eq!(fleet.step(&[0, 0b100, 0, 0, 0]), Err(Refusal::PlainRound));
-    assert_eq!(fleet.step(&[0, 0, 0, 0b01, 0]), Err(Refusal::OwnLoss));
+    assert_eq!(fleet.step([0; 4]), Err(Refusal::PlainRound));
+    assert_eq!(fleet.step([0, 0b100, 0, 0, 0]), Err(Refusal::PlainRound));
+    assert_eq!(fleet.step([0, 0, 0, 0b01, 0]), Err(Refusal::OwnLoss));
     assert_eq!(fleet, before);
     for _ in 0..400 {
-        fleet.step(&[0; 5]).unwrap();
+        fleet.step([0; 5]).unwrap();
     }
-    assert_eq!(fleet.step(&[0; 4]), Err(Refusal::RoundsDone));
+    assert_eq!(fleet.step([0; 4]), Err(Refusal::RoundsDone));
     assert_eq!(fleet.rounds_done(), 400);
 }
 
@@ -157,12 +171,12 @@ fn bytes_that_are_no_record() {
     // Places of trucks that aren't there are neither judged nor changed.
     bytes[17..].fill(0xee);
     let mut fleet = Fleet::from_bytes(bytes);
-    fleet.step(&[0; 5]).unwrap();
+    fleet.step([0; 5]).unwrap();
     assert_eq!(fleet.as_bytes()[17..], bytes[17..]);
     // A state that no truck has.
     bytes[7] = 3;
     let mut fleet = Fleet::from_bytes(bytes);
     assert_eq!(fleet.truck(0), None);
-    assert_eq!(fleet.step(&[0; 5]), Err(Refusal::Record));
+    assert_eq!(fleet.step([0; 5]), Err(Refusal::Record));
     assert_eq!(fleet.as_bytes(), &bytes);
 }

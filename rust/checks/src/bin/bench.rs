@@ -64,8 +64,14 @@ impl Table {
         println!("| what | library, µs | plain Rust, µs | ratio | library, ns a round |");
         println!("|---|---|---|---|---|");
         for (what, rounds, ours, plain) in &self.rows {
-            let each = if *rounds == 0 { String::new() } else { format!("{:.1}", ours / *rounds as f64) };
-            println!("| {what} | {} | {} | {:.2} | {each} |", microseconds(*ours), microseconds(*plain), ours / plain);
+            let each =
+                if *rounds == 0 { String::new() } else { format!("{:.1}", ours / *rounds as f64) };
+            println!(
+                "| {what} | {} | {} | {:.2} | {each} |",
+                microseconds(*ours),
+                microseconds(*plain),
+                ours / plain
+            );
         }
     }
 }
@@ -112,10 +118,19 @@ fn read(table: &mut Table, input: &Input, rounds: usize) {
         rounds,
         times(
             || {
-                black_box(checks::read(black_box(&input.bytes), &mut openings, &mut words, &mut n, &mut r));
+                black_box(checks::read(
+                    black_box(&input.bytes),
+                    &mut openings,
+                    &mut words,
+                    &mut n,
+                    &mut r,
+                ));
             },
             || {
-                black_box(fast::read_into(black_box(&input.bytes), &mut plain_openings, &mut plain_words).ok());
+                black_box(
+                    fast::read_into(black_box(&input.bytes), &mut plain_openings, &mut plain_words)
+                        .ok(),
+                );
             },
         ),
     );
@@ -131,11 +146,27 @@ fn write(table: &mut Table, input: &Input, plain: &Plain) {
         times(
             || {
                 let (n, r) = (plain.n as u32, plain.rounds as u32);
-                black_box(checks::write(n, r, black_box(&plain.openings), &plain.words, &mut buffer, &mut written));
+                black_box(checks::write(
+                    n,
+                    r,
+                    black_box(&plain.openings),
+                    &plain.words,
+                    &mut buffer,
+                    &mut written,
+                ));
             },
             || {
                 let (n, r) = (plain.n as u64, plain.rounds as u64);
-                black_box(fast::write_into(n, r, black_box(&plain.openings), &plain.words, &mut plain_buffer).ok());
+                black_box(
+                    fast::write_into(
+                        n,
+                        r,
+                        black_box(&plain.openings),
+                        &plain.words,
+                        &mut plain_buffer,
+                    )
+                    .ok(),
+                );
             },
         ),
     );
@@ -165,22 +196,34 @@ fn step(table: &mut Table, input: &Step) {
     let on_record = || {
         black_box(fast::step(black_box(&input.fleet), &input.words));
     };
-    table.row(&format!("step, {}, plain Rust without bytes", input.what), 1, times(ours, on_record));
+    table.row(
+        &format!("step, {}, plain Rust without bytes", input.what),
+        1,
+        times(ours, on_record),
+    );
 }
 
 /// An opening crusher by 16 roads.
 fn opening(table: &mut Table) {
-    let roads = gen::Roads::of(&(0..16).map(|k| (900 + k, 300 + 7 * k, 60 + 3 * k)).collect::<Vec<_>>());
+    let roads =
+        gen::Roads::of(&(0..16).map(|k| (900 + k, 300 + 7 * k, 60 + 3 * k)).collect::<Vec<_>>());
     let mut crusher = 0;
     table.row(
         "opening, 16 roads",
         0,
         times(
             || {
-                black_box(checks::opening(black_box(&roads.lengths), &roads.metres, &roads.seconds, &mut crusher));
+                black_box(checks::opening(
+                    black_box(&roads.lengths),
+                    &roads.metres,
+                    &roads.seconds,
+                    &mut crusher,
+                ));
             },
             || {
-                black_box(fast::opening(black_box(&roads.lengths), &roads.metres, &roads.seconds).ok());
+                black_box(
+                    fast::opening(black_box(&roads.lengths), &roads.metres, &roads.seconds).ok(),
+                );
             },
         ),
     );

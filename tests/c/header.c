@@ -1,0 +1,162 @@
+/*
+ * What c/rajvokshul.h adds to the calls: sizes, fields of a record, and that the pointer of an empty list may be NULL.
+ * Compiled as C and as C++. Exits with the number of tests that fail.
+ */
+#include <stdio.h>
+#include <string.h>
+
+#include "rajvokshul.h"
+
+static int failed;
+
+static void expect(unsigned long answer, unsigned long expected, int line) {
+    if (answer != expected) {
+        printf("header.c:%d: %lu instead of %lu\n", line, answer, expected);
+        failed++;
+    }
+}
+
+#define EXPECT(answer, expected) expect((unsigned long)(answer), (unsigned long)(expected), __LINE__)
+
+/* Two trucks that open with crushers 3 and 5, four rounds, both active in rounds 1 and 3 (case C1); and no rounds (C5). */
+static const uint8_t c1[8] = {0x08, 0x04, 0x35, 0x30, 0x00, 0x03, 0x00, 0x00};
+static const uint8_t c5[3] = {0x08, 0x00, 0x35};
+static const uint8_t both[2] = {3, 5};
+
+static void sizes(void) {
+    const uint32_t most = UINT32_MAX;
+    EXPECT(rajvokshul_bytes(2, 4), sizeof c1);
+    EXPECT(rajvokshul_bytes(2, 0), sizeof c5);
+    EXPECT(rajvokshul_bytes(1, 400), 203);
+    EXPECT(rajvokshul_bytes(32, 0), 18);
+    EXPECT(rajvokshul_bytes(32, 400), RAJVOKSHUL_MAX_RECORDING);
+    EXPECT(rajvokshul_words(2, 4), 20);
+    EXPECT(rajvokshul_words(1, 0), 0);
+    EXPECT(rajvokshul_words(32, 400), RAJVOKSHUL_MAX_WORDS);
+    const uint32_t outside[][2] = {{0, 4}, {33, 4}, {2, 401}, {most, 4}, {2, most}, {most, most}, {0x10000, 0x10000}};
+    for (size_t k = 0; k < sizeof outside / sizeof outside[0]; k++) {
+        EXPECT(rajvokshul_bytes(outside[k][0], outside[k][1]), 0);
+        EXPECT(rajvokshul_words(outside[k][0], outside[k][1]), 0);
+    }
+}
+
+/* Case C1 after round 1: both heard 3 and 5, and took 3. */
+static void fields_after_a_round(void) {
+    uint8_t record[RAJVOKSHUL_RECORD_SIZE];
+    const uint32_t round[5] = {0, 3, 0, 0, 0};
+    EXPECT(rajvokshul_start(2, both, 2, record, sizeof record), RAJVOKSHUL_ACCEPTED);
+    EXPECT(rajvokshul_step(record, sizeof record, round, 5), RAJVOKSHUL_ACCEPTED);
+    EXPECT(rajvokshul_trucks(record), 2);
+    EXPECT(rajvokshul_rounds_done(record), 1);
+    EXPECT(rajvokshul_truck_opening(record, 1), 5);
+    EXPECT(rajvokshul_truck_estimate(record, 1), 3);
+    EXPECT(rajvokshul_truck_mark(record, 1), 0);
+    EXPECT(rajvokshul_truck_heard(record, 1), RAJVOKSHUL_HEARD_SEVERAL);
+    EXPECT(rajvokshul_truck_state(record, 1), RAJVOKSHUL_RUNNING);
+    EXPECT(rajvokshul_truck_round(record, 1), 0);
+    EXPECT(rajvokshul_run(c1, sizeof c1, record, sizeof record), RAJVOKSHUL_ACCEPTED);
+    EXPECT(rajvokshul_rounds_done(record), 4);
+    EXPECT(rajvokshul_truck_heard(record, 0), RAJVOKSHUL_HEARD_NOTHING);
+    EXPECT(rajvokshul_truck_state(record, 0), RAJVOKSHUL_DECIDED);
+    EXPECT(rajvokshul_truck_round(record, 0), 4);
+}
+
+/* Each byte of a record is the field that it should be; 32 trucks have no further place. */
+static void fields_by_their_places(void) {
+    uint8_t record[RAJVOKSHUL_RECORD_SIZE];
+    for (size_t k = 0; k < sizeof record; k++) {
+        record[k] = (uint8_t)k;
+    }
+    EXPECT(rajvokshul_rounds_done(record), 0x0201);
+    EXPECT(rajvokshul_truck_opening(record, 31), 220);
+    EXPECT(rajvokshul_truck_estimate(record, 31), 221);
+    EXPECT(rajvokshul_truck_mark(record, 31), 222);
+    EXPECT(rajvokshul_truck_heard(record, 31), 223);
+    EXPECT(rajvokshul_truck_state(record, 31), 224);
+    EXPECT(rajvokshul_truck_round(record, 31), 0xe2e1);
+    EXPECT(rajvokshul_truck_opening(record, 32), 0);
+    EXPECT(rajvokshul_truck_round(record, 32), 0);
+    EXPECT(rajvokshul_truck_round(record, UINT32_MAX), 0);
+    EXPECT(rajvokshul_truck_byte(record, 0, 7), 0);
+}
+
+static void grades(void) {
+    const uint8_t c2[6] = {0x08, 0x02, 0x35, 0x31, 0x80, 0x00};
+    uint16_t first[RAJVOKSHUL_GRADES];
+    EXPECT(rajvokshul_grade(c2, sizeof c2, first, RAJVOKSHUL_GRADES), RAJVOKSHUL_ACCEPTED);
+    EXPECT(first[RAJVOKSHUL_GRADE_COMPLETE], 1);
+    EXPECT(first[RAJVOKSHUL_GRADE_MAJORITY], 1);
+    EXPECT(first[RAJVOKSHUL_GRADE_ZERO], 0);
+    EXPECT(first[RAJVOKSHUL_GRADE_ACCURATE], 0);
+}
+
+/* ---- Empty lists without a pointer, one argument after the other ---- */
+
+static void null_recordings(void) {
+    uint8_t record[RAJVOKSHUL_RECORD_SIZE], text[RAJVOKSHUL_MAX_TEXT], openings[2];
+    uint16_t first[RAJVOKSHUL_GRADES];
+    uint32_t words[20], trucks = 77, rounds = 77;
+    size_t written = 77;
+    EXPECT(rajvokshul_list(NULL, 0, text, sizeof text, &written), RAJVOKSHUL_SHORT_RECORDING);
+    EXPECT(rajvokshul_list(c1, sizeof c1, NULL, 0, &written), RAJVOKSHUL_SHORT_BUFFER);
+    EXPECT(rajvokshul_run(NULL, 0, record, sizeof record), RAJVOKSHUL_SHORT_RECORDING);
+    EXPECT(rajvokshul_run(c1, sizeof c1, NULL, 0), RAJVOKSHUL_SHORT_BUFFER);
+    EXPECT(rajvokshul_grade(NULL, 0, first, RAJVOKSHUL_GRADES), RAJVOKSHUL_SHORT_RECORDING);
+    EXPECT(rajvokshul_grade(c1, sizeof c1, NULL, 0), RAJVOKSHUL_SHORT_BUFFER);
+    EXPECT(rajvokshul_read(NULL, 0, openings, 2, words, 20, &trucks, &rounds), RAJVOKSHUL_SHORT_RECORDING);
+    EXPECT(rajvokshul_read(c1, sizeof c1, NULL, 0, words, 20, &trucks, &rounds), RAJVOKSHUL_SHORT_BUFFER);
+    EXPECT(rajvokshul_read(c1, sizeof c1, openings, 2, NULL, 0, &trucks, &rounds), RAJVOKSHUL_SHORT_BUFFER);
+    EXPECT(rajvokshul_read(NULL, 0, NULL, 0, NULL, 0, &trucks, &rounds), RAJVOKSHUL_SHORT_RECORDING);
+    EXPECT(written, 77);
+    EXPECT(trucks + rounds, 154);
+    /* without rounds there are no words */
+    EXPECT(rajvokshul_read(c5, sizeof c5, openings, 2, NULL, 0, &trucks, &rounds), RAJVOKSHUL_ACCEPTED);
+    EXPECT(trucks, 2);
+    EXPECT(rounds, 0);
+    EXPECT(memcmp(openings, both, 2), 0);
+}
+
+static void null_writing(void) {
+    const uint32_t words[20] = {0};
+    uint8_t bytes[sizeof c1];
+    size_t written = 77;
+    EXPECT(rajvokshul_write(2, 4, NULL, 0, words, 20, bytes, sizeof bytes, &written), RAJVOKSHUL_RECORD);
+    EXPECT(rajvokshul_write(2, 4, both, 2, NULL, 0, bytes, sizeof bytes, &written), RAJVOKSHUL_PLAIN_ROUND);
+    EXPECT(rajvokshul_write(2, 4, both, 2, words, 20, NULL, 0, &written), RAJVOKSHUL_SHORT_BUFFER);
+    EXPECT(rajvokshul_write(2, 0, both, 2, NULL, 0, NULL, 0, &written), RAJVOKSHUL_SHORT_BUFFER);
+    EXPECT(rajvokshul_write(0, 0, NULL, 0, NULL, 0, NULL, 0, &written), RAJVOKSHUL_TRUCK_COUNT);
+    EXPECT(written, 77);
+    EXPECT(rajvokshul_write(2, 0, both, 2, NULL, 0, bytes, sizeof bytes, &written), RAJVOKSHUL_ACCEPTED);
+    EXPECT(written, sizeof c5);
+    EXPECT(memcmp(bytes, c5, sizeof c5), 0);
+}
+
+static void null_fleets_and_roads(void) {
+    uint8_t record[RAJVOKSHUL_RECORD_SIZE], crusher = 77;
+    const uint32_t round[5] = {0};
+    const uint16_t road[1] = {1};
+    EXPECT(rajvokshul_start(2, NULL, 0, record, sizeof record), RAJVOKSHUL_RECORD);
+    EXPECT(rajvokshul_start(0, NULL, 0, NULL, 0), RAJVOKSHUL_TRUCK_COUNT);
+    EXPECT(rajvokshul_start(2, both, 2, NULL, 0), RAJVOKSHUL_SHORT_BUFFER);
+    EXPECT(rajvokshul_start(2, both, 2, record, sizeof record), RAJVOKSHUL_ACCEPTED);
+    EXPECT(rajvokshul_step(NULL, 0, round, 5), RAJVOKSHUL_RECORD);
+    EXPECT(rajvokshul_step(record, sizeof record, NULL, 0), RAJVOKSHUL_PLAIN_ROUND);
+    EXPECT(rajvokshul_step(NULL, 0, NULL, 0), RAJVOKSHUL_RECORD);
+    EXPECT(rajvokshul_rounds_done(record), 0);
+    EXPECT(rajvokshul_opening(NULL, 0, road, 1, road, 1, &crusher), RAJVOKSHUL_ROAD_LISTS);
+    EXPECT(rajvokshul_opening(road, 1, NULL, 0, road, 1, &crusher), RAJVOKSHUL_ROAD_LISTS);
+    EXPECT(rajvokshul_opening(road, 1, road, 1, NULL, 0, &crusher), RAJVOKSHUL_ROAD_LISTS);
+    EXPECT(rajvokshul_opening(NULL, 0, NULL, 0, NULL, 0, &crusher), RAJVOKSHUL_ROAD_LISTS);
+    EXPECT(crusher, 77);
+}
+
+int main(void) {
+    sizes();
+    fields_after_a_round();
+    fields_by_their_places();
+    grades();
+    null_recordings();
+    null_writing();
+    null_fleets_and_roads();
+    return failed;
+}

@@ -210,7 +210,7 @@ pub fn read(s: &[u8], openings: &mut [u8], words: &mut [u32]) -> ReadOutcome
                 return ReadOutcome::Refused(Refusal::ShortBuffer);
             }
             let front = recording::read_front(s, openings);
-            fill_words(s, words, front.trucks, count);
+            fill_words(s, words, counts.trucks, count);
             ReadOutcome::Plain {
                 trucks: front.trucks,
                 rounds: front.rounds,

@@ -188,7 +188,7 @@ pub fn take<'s, 'a>(r: &'s mut Reader<'a>, k: usize) -> u32
 
 // A reader in a local: what is read at a place of its own, on plain parameters, is read by this one.
 pub fn read_at(s: &[u8], at: usize, k: usize) -> u32
-    ensures { λ r. ⌜ r ≡ numAt (bitAt (now (s .entry))) at (bitsRead k) ⌝ }
+    ensures { λ v. ⌜ v ≡ numAt (bitAt (now (s .entry))) at (bitsRead k) ⌝ }
 {
     let mut r = new(s, at);
     take(&mut r, k)

@@ -204,17 +204,16 @@ pub fn read(s: &[u8], openings: &mut [u8], words: &mut [u32]) -> ReadOutcome
         Outcome::Refused(r) => ReadOutcome::Refused(r),
         Outcome::Accepted => {
             let counts = recording::read_counts(s);
-            let n = counts.trucks as usize;
-            let count = counts.rounds as usize * (3 + n);
+            let trucks = counts.trucks;
+            let rounds = counts.rounds;
+            let n = trucks as usize;
+            let count = rounds as usize * (3 + n);
             if (openings.len() < n) | (words.len() < count) {
                 return ReadOutcome::Refused(Refusal::ShortBuffer);
             }
-            let front = recording::read_front(s, openings);
-            fill_words(s, words, front.trucks, count);
-            ReadOutcome::Plain {
-                trucks: front.trucks,
-                rounds: front.rounds,
-            }
+            recording::read_front(s, openings);
+            fill_words(s, words, trucks, count);
+            ReadOutcome::Plain { trucks, rounds }
         }
     }
 }

@@ -1,7 +1,7 @@
 -- The reader that goes over what stands before the rounds: the places that it comes to, and that what it reads fits.
-use mathlib.Core.Path.{_≡_, refl, ap, ap₂, _∙_}
+use mathlib.Core.Path.{_≡_, refl, ap, _∙_}
 use mathlib.Core.List.{List}
-use Prim.Native.Nat.{ℕ, _+_, _<_, _^_, min}
+use Prim.Native.Nat.{ℕ, _+_, _<_, min}
 use native.Mathlib.Nat.{min-eq-left}
 use native.Mathlib.Decide.{decLt}
 use native.Mathlib.Omega.{arith}
@@ -9,23 +9,13 @@ use lib.ListN.{length, getD}
 use Rattle.basics.specs.Lists.{filled}
 use Rattle.basics.proofs.Laws.{getD-filled, getD-filled-past}
 use Rattle.bitreader.specs.Bits.{placeAfter}
-use Rattle.bitreader.proofs.Digits.{bitAt-lt, numAt-lt, numAt-add}
-use Rattle.recording.specs.Packed.{bitAt, numAt, trucksOf, roundsOf, headerBits, countsIn, countsOf, openingPlace, openingAt}
+use Rattle.bitreader.proofs.Digits.{bitAt-lt, numAt-lt}
+use Rattle.recording.specs.Packed.{bitAt, trucksOf, roundsOf, countsOf, openingPlace, openingAt}
 use Rattle.recording.specs.declared.Counts.{Counts}
 
--- the header holds the two counts
-pub header-lt : (s : List ℕ) → numAt (bitAt s) 0 headerBits < 2 ^ headerBits
-header-lt s = numAt-lt (bitAt s) (bitAt-lt s) 0 headerBits
-
-pub header-counts : (s : List ℕ) → countsIn (numAt (bitAt s) 0 headerBits) ≡ countsOf s
-unfolding trucksOf roundsOf
-header-counts s =
-    ap (λ (h : ℕ). countsIn h) (numAt-add (bitAt s) 0 6 10)
-    ∙ ap₂ (λ (a c : ℕ). record { trucks = a; rounds = c }) (omega (arith, numAt-lt (bitAt s) (bitAt-lt s) 6 10)) (omega (arith, numAt-lt (bitAt s) (bitAt-lt s) 6 10))
-
--- after the header comes the first opening
-pub after-header : placeAfter 0 headerBits ≡ openingPlace 0
-after-header = refl
+-- after the two counts comes the first opening
+pub after-counts : placeAfter (placeAfter 0 6) 10 ≡ openingPlace 0
+after-counts = refl
 
 -- after an opening comes the next one
 pub after-opening : (i : ℕ) → i < 64 → placeAfter (openingPlace i) 4 ≡ openingPlace (i + 1)

@@ -17,10 +17,6 @@ trucksOf s = numAt (bitAt s) 0 6
 unfoldable pub roundsOf : List ℕ → ℕ
 roundsOf s = numAt (bitAt s) 6 10
 
--- the two counts in the header's bits, the first worth most
-abbrev pub countsIn : ℕ → Counts
-countsIn header = record { trucks = header / 1024; rounds = header % 1024 }
-
 -- the two counts
 abbrev pub countsOf : List ℕ → Counts
 countsOf s = record { trucks = trucksOf s; rounds = roundsOf s }

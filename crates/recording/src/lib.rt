@@ -4,12 +4,12 @@ ghost use Prim.Native.Nat.{_+_, _*_, _-_, _<_, _≤_, _^_, min};
 ghost use lib.Dec.{eqb};
 ghost use lib.ListN.{length};
 ghost use Rattle.basics.specs.Lists.{first, someBelow, filled};
-ghost use Rattle.recording.specs.Packed.{bitAt, trucksOf, roundsOf, headerBits, countsIn, countsOf, openingPlace, openingAt, wordPlace, wordAt, bitsFor, bytesFor};
+ghost use Rattle.recording.specs.Packed.{bitAt, trucksOf, roundsOf, countsOf, openingPlace, openingAt, wordPlace, wordAt, bitsFor, bytesFor};
 ghost use Rattle.recording.specs.Checks.{badTrucks, firstOwn, frameCheck, checkOf};
 use refusals::Outcome;
 use refusals::Refusal;
 
-// The bits before the openings.
+// The header: 6 bits of truck count, 10 bits of round count.
 pub const HEADER_BITS: usize = 16;
 
 // The header's truck count and round count.
@@ -18,22 +18,14 @@ pub struct Counts {
     pub rounds: u16,
 }
 
-// The counts out of the header's bits: 6 of truck count, 10 of round count.
-fn counts_of(header: u32) -> Counts
-    requires { ⌜ header < 2 ^ headerBits ⌝ }
-    ensures { λ r. ⌜ r ≡ countsIn header ⌝ }
-{
-    Counts {
-        trucks: (header / 1024) as u8,
-        rounds: (header % 1024) as u16,
-    }
-}
-
-// The counts alone.
+// The counts alone, on plain parameters.
 pub fn read_counts(s: &[u8]) -> Counts
     ensures { λ r. ⌜ r ≡ countsOf (now (s .entry)) ⌝ }
 {
-    counts_of(bitreader::read_at(s, 0, HEADER_BITS))
+    Counts {
+        trucks: bitreader::read_at(s, 0, 6) as u8,
+        rounds: bitreader::read_at(s, 6, 10) as u16,
+    }
 }
 
 // How many openings of n trucks are read into so many places.
@@ -47,20 +39,21 @@ fn openings_read(n: u8, places: usize) -> usize
     }
 }
 
-// One reader from the first bit on: over the header, then from opening to opening, each of which it puts into its place as long as places are lent.
+// One reader from the first bit on: over the two counts, then from opening to opening, each of which it puts into its place as long as places are lent.
 pub fn read_front(s: &[u8], openings: &mut [u8]) -> Counts
     ensures { λ r. ⌜ (r ≡ countsOf (now (s .entry)))
         × (now (openings .exit) ≡ filled (openingAt (now (s .entry))) (min (trucksOf (now (s .entry))) (length (now (openings .entry)))) (now (openings .entry))) ⌝ }
 {
     let mut r = bitreader::new(s, 0);
-    let c = counts_of(bitreader::take(&mut r, HEADER_BITS));
-    let end = openings_read(c.trucks, openings.len());
+    let trucks = bitreader::take(&mut r, 6) as u8;
+    let rounds = bitreader::take(&mut r, 10) as u16;
+    let end = openings_read(trucks, openings.len());
     let mut i = 0;
     while i < end {
         openings[i] = bitreader::take(&mut r, 4) as u8;
         i += 1;
     }
-    c
+    Counts { trucks, rounds }
 }
 
 // The place of opening i; after n openings, that of the first word.

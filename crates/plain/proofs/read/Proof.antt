@@ -8,7 +8,7 @@ use Rattle.plain.proofs.read.Statement.{statement}
 use Rattle.plain.proofs.read.Tie as tie
 
 mul-count : tie.Need-mul-count
-mul-count c = omega (arith, words-small (c .before .before .read-counts .result .trucks) (c .before .before .read-counts .result .rounds) (omega arith) (omega arith))
+mul-count c = omega (arith, words-small (c .read-counts .result .trucks) (c .read-counts .result .rounds) (omega arith) (omega arith))
 
 pub read-spec : {M : Type 1} → statement M
 read-spec =

@@ -2,7 +2,8 @@
 use mathlib.Core.List.{List, [], _∷_}
 use Prim.Native.Nat.{ℕ}
 use lib.ListN.{replicate}
-use Rattle.cases.specs.Questions.{Question, prints, grades, estimates, senders, values, messages, opens, takes, Reply, numbers, opening, exactly, says, gradesAre}
+use Rattle.cases.specs.Questions.{Question, prints, grades, estimates, senders, values, messages, opens, takes}
+use Rattle.cases.specs.Questions.{Reply, numbers, opening, exactly, says, gradesAre}
 
 pub record Row : Type 0 where
   pub asks : Question

@@ -39,7 +39,7 @@ fn openings_read(n: u8, places: usize) -> usize
     }
 }
 
-// One reader from the first bit on: over the two counts, then from opening to opening, each of which it puts into its place as long as places are lent.
+// One reader from the first bit on: over the two counts, then from opening to opening. It puts each into its place, as long as places are lent.
 pub fn read_front(s: &[u8], openings: &mut [u8]) -> Counts
     ensures { λ r. ⌜ (r ≡ countsOf (now (s .entry)))
         × (now (openings .exit) ≡ filled (openingAt (now (s .entry))) (min (trucksOf (now (s .entry))) (length (now (openings .entry)))) (now (openings .entry))) ⌝ }

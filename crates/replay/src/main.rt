@@ -31,7 +31,7 @@ fn read_input(buf: &mut [u8]) -> Input
 }
 
 fn main() {
-    // One byte more than the largest recording has: the first so many bytes of a longer input are refused as the whole of it is (`printed-cut` in crate listing).
+    // One byte more than the largest recording has: a longer input is refused by its first bytes as it would be by all (`printed-cut` in crate listing).
     let mut buf = [0u8; 56019];
     let input = read_input(&mut buf);
     match input {

@@ -299,6 +299,7 @@ module _ {s : List ℕ} {last : ℕ} {by ends : List ℕ} {b : Sets} (h : Halted
           ∙ truck-unopened [] j (omega arith) ∙ sym (unused s last j (omega arith))
 
 -- ---- before round 1
+-- a place of the list that is lent for the openings holds 0
 zeros : (m i : ℕ) → getD {A = ℕ} (replicate m 0) i 0 ≡ 0
 zeros zero i = refl
 zeros (suc m) zero = refl

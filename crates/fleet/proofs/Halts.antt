@@ -2,7 +2,7 @@
 use mathlib.Core.Path.{_≡_, refl, ap, ap₂, sym, subst, subst₂, _∙_}
 use mathlib.Core.Bool.{Bool, true, false, cond, not, _&&_, _||_, and-false, true≢false, false≢true}
 use mathlib.Core.List.{List, []}
-use Prim.Native.Nat.{ℕ, zero, suc, min, _+_, _*_, _-_, _^_, _≤_, _<_}
+use Prim.Native.Nat.{ℕ, zero, suc, _+_, _*_, _-_, _^_, _≤_, _<_}
 use native.Mathlib.Nat.{mul-le-mul}
 use native.Mathlib.Numerals.{add-one}
 use native.Mathlib.Decide.{decLt, ℕ-discrete}
@@ -20,7 +20,7 @@ use Rattle.basics.proofs.Laws.{or-left, or-right, odd-suc, first-unique, getD-f
 use Rattle.refusals.specs.declared.Outcome.the-variants.{Accepted}
 use Rattle.basics.proofs.Bits.{bit-and, bit-or}
 use Rattle.sets.proofs.Words.{bit-power, bit-zero, no-bits}
-use Rattle.recording.specs.Packed.{trucksOf, roundsOf, countsOf, openingAt, openingsOf, wordPlace, roundPlace, roundAt}
+use Rattle.recording.specs.Packed.{trucksOf, roundsOf, countsOf, openingAt, openingsInto, openingsOf, wordPlace, roundPlace, roundAt}
 use Rattle.recording.specs.declared.Counts.{Counts}
 use Rattle.recording.specs.Checks.{frameCheck}
 use Rattle.recording.proofs.Fronts.{counts-trucks, front-opening, front-small}
@@ -299,13 +299,14 @@ module _ {s : List ℕ} {last : ℕ} {by ends : List ℕ} {b : Sets} (h : Halted
           ∙ truck-unopened [] j (omega arith) ∙ sym (unused s last j (omega arith))
 
 -- ---- before round 1
+-- a place of the list that is lent for the openings holds 0
 zeros : (m i : ℕ) → getD {A = ℕ} (replicate m 0) i 0 ≡ 0
 zeros zero i = refl
 zeros (suc m) zero = refl
 zeros (suc m) (suc i) = zeros m i
 
 -- the openings as they were read
-module _ (s : List ℕ) (good : frameCheck s ≡ Accepted) (openings : List ℕ) (read : openings ≡ filled (openingAt s) (min (trucksOf s) 32) (replicate 32 0)) where
+module _ (s : List ℕ) (good : frameCheck s ≡ Accepted) (openings : List ℕ) (read : openings ≡ openingsInto s (replicate 32 0)) where
   pub openings-are : (j : ℕ) → j < trucksOf s → getD openings j 0 ≡ openingAt s j
   openings-are j l = front-opening s (replicate 32 0) openings read j l (omega (arith, frame-good s good .most))
 

@@ -2,7 +2,7 @@
 use mathlib.Core.Path.{_≡_, ap, ap₂, sym, _∙_}
 use mathlib.Core.Bool.{Bool, true, false, _||_}
 use mathlib.Core.List.{List}
-use Prim.Native.Nat.{ℕ, _+_, _*_, _≤_, _<_, min}
+use Prim.Native.Nat.{ℕ, _+_, _*_, _≤_, _<_}
 use native.Mathlib.Nat.{min-eq-left}
 use native.Mathlib.Omega.{arith}
 use borrow.Author.Tests.{ltb-false, lt-ltb, le-ltb}
@@ -14,7 +14,7 @@ use Rattle.refusals.specs.declared.Outcome.{Outcome}
 use Rattle.refusals.specs.declared.Outcome.the-variants.{Accepted, Refused}
 use Rattle.refusals.specs.Outcomes.{refuse, andThen}
 use Rattle.basics.specs.Lists.{filled}
-use Rattle.recording.specs.Packed.{trucksOf, roundsOf, countsOf, openingAt, wordAt, bytesFor, pack, packed}
+use Rattle.recording.specs.Packed.{trucksOf, roundsOf, countsOf, openingAt, openingsInto, wordAt, bytesFor, pack, packed}
 use Rattle.recording.specs.Checks.{checkOf, plainCheck}
 use Rattle.basics.proofs.Laws.{or-left, or-right}
 use Rattle.recording.specs.declared.Counts.{Counts}
@@ -50,7 +50,7 @@ module _ (s openings words : List ℕ) (f : Outcome) (n R : ℕ) (checked : f �
     pub words-room : R * (3 + n) ≤ length words
     words-room = ltb-false (length words) (R * (3 + n)) (or-right (ltb (length openings) n) (ltb (length words) (R * (3 + n))) room)
 
-    pub read-0 : (front : Counts) (o w : List ℕ) → front ≡ countsOf s → o ≡ filled (openingAt s) (min (trucksOf s) (length openings)) openings → w ≡ filled (wordAt s) (R * (3 + n)) words
+    pub read-0 : (front : Counts) (o w : List ℕ) → front ≡ countsOf s → o ≡ openingsInto s openings → w ≡ filled (wordAt s) (R * (3 + n)) words
         → afterRead (Plain (front .trucks) (front .rounds)) o w ≡ readPlain s openings words
     read-0 front o w met p q =
         ap (λ (c : Counts). afterRead (Plain (c .trucks) (c .rounds)) o w) met

@@ -10,7 +10,7 @@ use Rattle.basics.specs.Lists.{filled}
 use Rattle.basics.proofs.Laws.{getD-filled, getD-filled-past}
 use Rattle.bitreader.specs.Bits.{placeAfter}
 use Rattle.bitreader.proofs.Digits.{bitAt-lt, numAt-lt}
-use Rattle.recording.specs.Packed.{bitAt, trucksOf, roundsOf, countsOf, openingPlace, openingAt}
+use Rattle.recording.specs.Packed.{bitAt, trucksOf, roundsOf, countsOf, openingPlace, openingAt, openingsInto}
 use Rattle.recording.specs.declared.Counts.{Counts}
 
 -- after the two counts comes the first opening
@@ -42,7 +42,7 @@ module _ (s : List ℕ) (c : Counts) (e : c ≡ countsOf s) where
   counts-rounds = ap (λ (d : Counts). d .rounds) e
 
 -- the places o that were lent as xs and into which the openings were read
-module _ (s xs o : List ℕ) (e : o ≡ filled (openingAt s) (min (trucksOf s) (length xs)) xs) where
+module _ (s xs o : List ℕ) (e : o ≡ openingsInto s xs) where
   pub front-opening : (i : ℕ) → i < trucksOf s → i < length xs → getD o i 0 ≡ openingAt s i
   front-opening i h l = ap (λ (l : List ℕ). getD l i 0) e ∙ getD-filled (openingAt s) (min (trucksOf s) (length xs)) xs i 0 (omega arith)
 

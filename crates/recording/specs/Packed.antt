@@ -1,11 +1,11 @@
 -- Document 01, 'Bits of a recording': where each field of the packed form stands, and the packed form of plain openings and words.
-use Prim.Native.Nat.{ℕ, _+_, _*_, _-_, _/_, _%_}
+use Prim.Native.Nat.{ℕ, _+_, _*_, _-_, _/_, _%_, min}
 use mathlib.Core.Bool.{cond}
 use mathlib.Core.List.{List, [], _∷_, _++_}
 use lib.Dec.{ltb}
-use lib.ListN.{getD}
+use lib.ListN.{getD, length}
 use Rattle.basics.specs.Bits.{digit}
-use Rattle.basics.specs.Lists.{tab}
+use Rattle.basics.specs.Lists.{tab, filled}
 use Rattle.recording.specs.declared.Counts.{Counts}
 unfoldable pub use Rattle.bitreader.specs.Bits.{bitAt, numAt, rowAt}
 
@@ -36,6 +36,10 @@ openingAt s i = numAt (bitAt s) (openingPlace i) 4
 -- n openings, truck 0 first
 unfoldable pub openingsOf : List ℕ → List ℕ
 openingsOf s = tab (openingAt s) (trucksOf s)
+
+-- lent places after the openings were put into them: as many as there are trucks and places
+abbrev pub openingsInto : List ℕ → List ℕ → List ℕ
+openingsInto s places = filled (openingAt s) (min (trucksOf s) (length places)) places
 
 -- the words of a round in plain form: stop, active, mark, and a row of loss bits for each truck
 abbrev pub roundWords : ℕ → ℕ

@@ -3,8 +3,8 @@ ghost use mathlib.Core.Path.{_≡_};
 ghost use Prim.Native.Nat.{_+_, _*_, _-_, _<_, _≤_, _^_, min};
 ghost use lib.Dec.{eqb};
 ghost use lib.ListN.{length};
-ghost use Rattle.basics.specs.Lists.{first, someBelow, filled};
-ghost use Rattle.recording.specs.Packed.{bitAt, trucksOf, roundsOf, countsOf, openingPlace, openingAt, wordPlace, wordAt, bitsFor, bytesFor};
+ghost use Rattle.basics.specs.Lists.{first, someBelow};
+ghost use Rattle.recording.specs.Packed.{bitAt, trucksOf, roundsOf, countsOf, openingPlace, openingsInto, wordPlace, wordAt, bitsFor, bytesFor};
 ghost use Rattle.recording.specs.Checks.{badTrucks, firstOwn, frameCheck, checkOf};
 use refusals::Outcome;
 use refusals::Refusal;
@@ -41,8 +41,7 @@ fn openings_read(n: u8, places: usize) -> usize
 
 // One reader from the first bit on: over the two counts, then from opening to opening. It puts each into its place, as long as places are lent.
 pub fn read_front(s: &[u8], openings: &mut [u8]) -> Counts
-    ensures { λ r. ⌜ (r ≡ countsOf (now (s .entry)))
-        × (now (openings .exit) ≡ filled (openingAt (now (s .entry))) (min (trucksOf (now (s .entry))) (length (now (openings .entry)))) (now (openings .entry))) ⌝ }
+    ensures { λ r. ⌜ (r ≡ countsOf (now (s .entry))) × (now (openings .exit) ≡ openingsInto (now (s .entry)) (now (openings .entry))) ⌝ }
 {
     let mut r = bitreader::new(s, 0);
     let trucks = bitreader::take(&mut r, 6) as u8;

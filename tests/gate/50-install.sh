@@ -68,11 +68,11 @@ staged() { # DESTDIR PREFIX, from the box
     local install=$PWD/install
     (cd "$box" && DESTDIR=$1 "$install" "$2" 2> /dev/null)
 }
-expect "install with DESTDIR" staged "$box/staged" /opt/quarry
+expect "install with DESTDIR" staged "$box/staged" /quarry
 expect "install with DESTDIR and PREFIX of the caller's folder" staged beside opt
 expect "install puts the same there" diff <(cd "$prefix" && find . -type f | sort) <(cd "$box/beside$box/opt" && find . -type f | sort)
-expect "install with DESTDIR writes nowhere else" diff <(cd "$prefix" && find . -type f | sort) <(cd "$box/staged/opt/quarry" && find . -type f | sort)
-expect "install with DESTDIR names the place in the end" grep -qx 'prefix=/opt/quarry' "$box/staged/opt/quarry/lib/pkgconfig/rajvokshul.pc"
+expect "install with DESTDIR writes nowhere else" diff <(cd "$prefix" && find . -type f | sort) <(cd "$box/staged/quarry" && find . -type f | sort)
+expect "install with DESTDIR names the place in the end" grep -qx 'prefix=/quarry' "$box/staged/quarry/lib/pkgconfig/rajvokshul.pc"
 install_ends() { # STATUS MESSAGE ARGUMENTS..
     local status=$1 message=$2
     shift 2

@@ -52,6 +52,18 @@ pub digits : (m k : ℕ) → k < 10 ^ suc m → length (decimal k) ≤ suc m
 unfolding decimal
 digits m k h = digits-in 5 m k h
 
+-- six texts one after the other
+six-parts : (a b c d e f : List ℕ) → length (a ++ b ++ c ++ d ++ e ++ f) ≡ length a + length b + length c + length d + length e + length f
+six-parts a b c d e f =
+    omega (
+      arith,
+      length-append a b,
+      length-append (a ++ b) c,
+      length-append (a ++ b ++ c) d,
+      length-append (a ++ b ++ c ++ d) e,
+      length-append (a ++ b ++ c ++ d ++ e) f,
+    )
+
 -- two digits for a crusher, three for a round
 crusher-size : (v : ℕ) → v ≤ 15 → length (decimal v) ≤ 2
 crusher-size v h = digits 1 v (let o : v < 10 ^ 2 = omega arith in o)
@@ -88,22 +100,12 @@ state-size R l (Decided k) v h g =
 line-size : (R : ℕ) → R ≤ 400 → (i : ℕ) (t : Truck) → Good twoRound R t → length (truckLine i t) ≤ length (decimal i) + 32
 unfolding truckLine
 line-size R l i t g =
-    let a = decimal i in
-    let b = text " opened " in
-    let c = decimal (t .opening) in
-    let d = text " " in
-    let e = stateText (t .state) (t .estimate) in
-    let f = text "\n" in
     let lb : length (text " opened ") ≡ 8 = refl in
     let ld : length (text " ") ≡ 1 = refl in
     let lf : length (text "\n") ≡ 1 = refl in
     omega (
       arith,
-      length-append a b,
-      length-append (a ++ b) c,
-      length-append (a ++ b ++ c) d,
-      length-append (a ++ b ++ c ++ d) e,
-      length-append (a ++ b ++ c ++ d ++ e) f,
+      six-parts (decimal i) (text " opened ") (decimal (t .opening)) (text " ") (stateText (t .state) (t .estimate)) (text "\n"),
       crusher-size (t .opening) (leb-true (t .opening) 15 (g .opening)),
       state-size R l (t .state) (t .estimate) (leb-true (t .estimate) 15 (g .estimate)) (g .state),
     )
@@ -133,22 +135,12 @@ fleet-size : (f : Fleet) → f .n ≤ 32 → f .done ≤ 400 → ((i : ℕ) → 
     → length (listingOf f) ≤ longestListing
 unfolding listingOf
 fleet-size f h l g =
-    let a = text "trucks " in
-    let b = decimal (f .n) in
-    let c = text " rounds " in
-    let d = decimal (f .done) in
-    let e = text "\n" in
-    let m = truckLines (f .trucks) (f .n) in
     let la : length (text "trucks ") ≡ 7 = refl in
     let lc : length (text " rounds ") ≡ 8 = refl in
     let le : length (text "\n") ≡ 1 = refl in
     omega (
       arith,
-      length-append a b,
-      length-append (a ++ b) c,
-      length-append (a ++ b ++ c) d,
-      length-append (a ++ b ++ c ++ d) e,
-      length-append (a ++ b ++ c ++ d ++ e) m,
+      six-parts (text "trucks ") (decimal (f .n)) (text " rounds ") (decimal (f .done)) (text "\n") (truckLines (f .trucks) (f .n)),
       digits 1 (f .n) (let o : f .n < 10 ^ 2 = omega arith in o),
       round-size (f .done) l,
       lines-size (f .done) l (f .trucks) (f .n) h g,

@@ -1,4 +1,4 @@
--- What the two calls leave in their buffers is what document 01 has printed; the sizes named for callers suffice; and so the program prints what is printed.
+-- What the two calls leave in their buffers is what document 01 has printed; the sizes named for callers suffice; and input past the limit changes nothing.
 use mathlib.Core.Path.{_≡_, refl, ap, sym, subst, _∙_}
 use mathlib.Core.Bool.{Bool, true, false, cond, false≢true, true≢false}
 use mathlib.Core.List.{List, [], _∷_, _++_}
@@ -13,11 +13,10 @@ use Rattle.refusals.specs.declared.Refusal.{Refusal}
 use Rattle.refusals.specs.declared.Refusal.the-variants.{ShortBuffer}
 use Rattle.refusals.specs.declared.Outcome.{Outcome}
 use Rattle.refusals.specs.declared.Outcome.the-variants as outcome
-use Rattle.refusals.specs.Numbers.{numberOf, outcomeNumber, numbered}
+use Rattle.refusals.specs.Numbers.{numbered}
 use Rattle.refusals.specs.Outcomes.{refuse, andThen}
 use Rattle.recording.specs.Packed.{trucksOf, roundsOf, openingsOf, roundAt, largestRecording}
 use Rattle.recording.specs.Checks.{checkOf}
-use Rattle.recording.proofs.Accepted.{check-number}
 use Rattle.protocol.specs.declared.Fleet.{Fleet}
 use Rattle.protocol.specs.declared.Answer.{Answer}
 use Rattle.protocol.specs.Fleets.{twoRound, answer, blank, fleetAt, ran, ranIn}
@@ -26,7 +25,7 @@ use Rattle.listing.specs.declared.Listed.{Listed}
 use Rattle.listing.specs.declared.Listed.the-variants.{Text, Refused}
 use Rattle.listing.specs.Text.{listingOf, refusalText, printedFor, printed}
 use Rattle.listing.specs.Listed.{Left, left, listAnswer, textIn, listedFor, listed, listCheck, refusalListed}
-use Rattle.listing.specs.Program.{longestListing, longestRefusal, inputLimit, textUpTo, textLeft, printedBy, replayed}
+use Rattle.listing.specs.Program.{longestListing, longestRefusal, inputLimit}
 use Rattle.listing.proofs.Laws.{sizeOf}
 use Rattle.listing.proofs.Sizes.{listing-size, refusal-size}
 
@@ -92,32 +91,27 @@ unfolding printed ranIn
 refused-printed s r h = rw h
 
 -- input past the limit changes nothing
-printed-cut : (s : List ℕ) → printed (take inputLimit s) ≡ printed s
+pub printed-cut : (s : List ℕ) → printed (take inputLimit s) ≡ printed s
 unfolding printed
 printed-cut s = ap (λ (a : Answer). printedFor (a .outcome) (a .fleet)) (ran-cut twoRound s inputLimit (omega arith))
 
--- the program prints what document 01 says, whatever its input, with buffers of the sizes named or larger
-pub replay-prints : (input d line : List ℕ) → longestListing ≤ length d → longestRefusal ≤ length line → replayed input d line ≡ printed input
-unfolding replayed
-replay-prints input d line h g = go (listed s d .answer) refl ∙ printed-cut input
-  where
-    s : List ℕ
-    s = take inputLimit input
+-- as callers of the two functions have it: the text up to the answer is what is printed, and with buffers of these sizes only the recording is refused
+module _ (s d d′ : List ℕ) (l : Listed) (left-so : left l d′ ≡ listed s d) where
+  answered : listed s d .answer ≡ l
+  answered = sym (ap (λ (x : Left). x .answer) left-so)
 
-    go : (a : Listed) → listed s d .answer ≡ a → printedBy a (listed s d .buffer) line ≡ printed s
-    go (Text k) e = listed-printed s d k e
-    go (Refused r) e =
-        let l = refusal-suffices r line g in
-        ap (λ (a : Listed). textUpTo a (refusalListed r line .buffer)) l ∙ refusal-printed r line (length (refusalText r)) l
-        ∙ sym (refused-printed s r (list-suffices s d r h e))
+  pub list-text : (k : ℕ) → l ≡ Text k → take k d′ ≡ printed s
+  list-text k h = ap (λ (x : Left). take k (x .buffer)) left-so ∙ listed-printed s d k (answered ∙ h)
 
--- as callers of the two functions have it: with buffers of these sizes only the recording is refused, for 1 to 6
-pub list-refused : (s d d′ : List ℕ) (l : Listed) (r : Refusal) → left l d′ ≡ listed s d → l ≡ Refused r → longestListing ≤ length d → numberOf r ≤ 6
-list-refused s d d′ l r e h g = subst (λ (o : Outcome). outcomeNumber o ≤ 6) (list-suffices s d r g (sym (ap (λ (x : Left). x .answer) e) ∙ h)) (check-number s)
+  pub list-refused : (r : Refusal) → l ≡ Refused r → longestListing ≤ length d → refusalText r ≡ printed s
+  list-refused r h g = sym (refused-printed s r (list-suffices s d r g (answered ∙ h)))
 
-pub line-refused : (r : Refusal) (d d′ : List ℕ) (l : Listed) (q : Refusal) → left l d′ ≡ refusalListed r d → l ≡ Refused q → longestRefusal ≤ length d → ⊥
-line-refused r d d′ l q e h g =
-    true≢false (sym (ap isText (refusal-suffices r d g)) ∙ ap (λ (x : Left). isText (x .answer)) (sym e) ∙ ap isText h)
+module _ (r : Refusal) (d d′ : List ℕ) (l : Listed) (left-so : left l d′ ≡ refusalListed r d) where
+  pub line-text : (k : ℕ) → l ≡ Text k → take k d′ ≡ refusalText r
+  line-text k h = ap (λ (x : Left). take k (x .buffer)) left-so ∙ refusal-printed r d k (sym (ap (λ (x : Left). x .answer) left-so) ∙ h)
+
+  pub line-refused : (q : Refusal) → l ≡ Refused q → longestRefusal ≤ length d → ⊥
+  line-refused q h g = true≢false (sym (ap isText (refusal-suffices r d g)) ∙ ap (λ (x : Left). isText (x .answer)) (sym left-so) ∙ ap isText h)
 
 -- ---- answers by document 01's number and values
 text-answer : (t d : List ℕ) → listAnswer (textIn t d .answer) ≡ numbered (refuse (ltb (length d) (length t)) ShortBuffer outcome.Accepted) (length t ∷ [])

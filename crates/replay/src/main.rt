@@ -1,7 +1,9 @@
 // Reads a recording from standard input and prints its listing, or the line of its refusal. What fails in between is said on standard error.
+ghost use mathlib.Core.Path.{_≡_};
 ghost use Prim.Native.Nat.{_≤_};
-ghost use lib.ListN.{length};
-ghost use Rattle.refusals.specs.Numbers.{numberOf};
+ghost use lib.ListN.{length, take};
+ghost use Rattle.listing.specs.Text.{printed, refusalText};
+ghost use Rattle.listing.specs.Program.{longestListing, longestRefusal};
 ghost use Rattle.replay.specs.Input.{bytesRead};
 use listing::Listed;
 
@@ -40,26 +42,36 @@ fn main() {
     }
 }
 
-// Prints what there is to print for a recording.
-fn replay(s: &[u8]) {
-    let mut text = [0u8; 1099];
-    let listed = listing::list(s, &mut text);
+// Puts what is printed for a recording into a buffer that is long enough, and answers its length: the listing, or the line of the refusal.
+fn text_of(s: &[u8], text: &mut [u8]) -> usize
+    requires { ⌜ longestListing ≤ length (now text) ⌝ }
+    ensures within { λ k. ⌜ k ≤ length (now (text .exit)) ⌝ }
+    ensures printed { λ k. ⌜ take k (now (text .exit)) ≡ printed (now (s .entry)) ⌝ }
+{
+    let listed = listing::list(s, text);
     match listed {
-        Listed::Text(k) => print(&text[..k]),
-        Listed::Refused(r) => print_refusal(r),
+        Listed::Text(k) => k,
+        Listed::Refused(r) => line_of(r, text),
     }
 }
 
-// The buffer is as long as the longest line, so it is never refused (`refusal-suffices` in crate listing).
-fn print_refusal(r: refusals::Refusal)
-    requires { ⌜ numberOf r ≤ 6 ⌝ }
+// Puts the line of a refusal.
+fn line_of(r: refusals::Refusal, text: &mut [u8]) -> usize
+    requires { ⌜ longestRefusal ≤ length (now text) ⌝ }
+    ensures within { λ k. ⌜ k ≤ length (now (text .exit)) ⌝ }
+    ensures line { λ k. ⌜ take k (now (text .exit)) ≡ refusalText r ⌝ }
 {
-    let mut line = [0u8; 11];
-    let listed = listing::refusal_line(r, &mut line);
+    let listed = listing::refusal_line(r, text);
     match listed {
-        Listed::Text(k) => print(&line[..k]),
+        Listed::Text(k) => k,
         Listed::Refused(_short) => never(),
     }
+}
+
+fn replay(s: &[u8]) {
+    let mut text = [0u8; 1099];
+    let k = text_of(s, &mut text);
+    print(&text[..k]);
 }
 
 fn print(text: &[u8]) {
@@ -73,7 +85,9 @@ fn complain(text: &[u8]) {
     io::write_all(2, text);
 }
 
-// No call leads here.
-fn never()
+// No call leads here: a buffer of these sizes is never refused (`list-suffices`, `refusal-suffices` in crate listing).
+fn never() -> usize
     requires { ⌜ ⊥ ⌝ }
-{}
+{
+    0
+}

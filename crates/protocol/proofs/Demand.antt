@@ -17,7 +17,7 @@ use Rattle.protocol.specs.Rules.{recorded, truck}
 use Rattle.protocol.specs.Runs.{openedTrucks, trucksIn, radiosIn}
 use Rattle.protocol.specs.Fleets.{Protocol, blank, startCheck, started, fleetIn, ranIn}
 use Rattle.protocol.specs.Steps.{taken, roundIn}
-use Rattle.protocol.specs.Claims.{Agreed, WorthMarks, calmIn, ClaimIn, StepsClaimIn, RunClaimIn, DemandIn}
+use Rattle.protocol.specs.Claims.{Agreed, Marks, Claim, agreesWith, MarksIn, calmIn, decidesIn, HoldsIn, SameIn, DemandIn}
 use Rattle.protocol.proofs.AnyRound.{Takes, EndedIn, UndecidedIn, SettledIn}
 use Rattle.protocol.proofs.AnyRun.{estimates-open, ended-kept}
 use Rattle.protocol.proofs.Good.{Sound, state-ended, good-at}
@@ -34,49 +34,80 @@ agreed-by p takes n openings rounds R small h =
       opening = λ i l d. estimates-open (p .rules) n openings rounds small takes R i l;
     }
 
+-- with marks that are such marks, a claim of agreement with these holds too
+pub holds-with : (p : Protocol) (strong weak : Marks)
+    → ((n : ℕ) (openings : List ℕ) (rounds : ℕ → List ℕ) (R : ℕ) → strong n openings rounds R → weak n openings rounds R)
+    → HoldsIn p (agreesWith weak) → HoldsIn p (agreesWith strong)
+holds-with p strong weak are h =
+    record {
+      steps = λ n openings steps a marks. h .steps n openings steps a (are n openings (roundIn (taken n steps)) (length (taken n steps)) marks);
+      run = λ s a marks. h .run s a (are (trucksOf s) (openingsOf s) (roundAt s) (roundsOf s) marks);
+    }
+
 -- the facts of a cycle from which its whole claim follows
 pub record Facts (p : Protocol) : Type 0 where
   pub sound : Sound p
   -- with marks of the worth it asks for, nobody has decided or all hold one crusher
-  pub agrees : (n : ℕ) (openings : List ℕ) (rounds : ℕ → List ℕ) (R : ℕ) → n ≤ 32 → GoodOpenings n openings → WorthMarks p n openings rounds R
+  pub agrees : (n : ℕ) (openings : List ℕ) (rounds : ℕ → List ℕ) (R : ℕ) → n ≤ 32 → GoodOpenings n openings → MarksIn p (p .worth) n openings rounds R
       → UndecidedIn recorded n (trucksIn (p .rules) n openings rounds R) ⊎ SettledIn recorded n (trucksIn (p .rules) n openings rounds R)
   -- after its calm rounds no truck runs
   pub ends : (n : ℕ) (openings : List ℕ) (rounds : ℕ → List ℕ) (S b : ℕ) → 1 ≤ S
       → CalmRounds (p .calmSpan) (p .proposes) (radiosIn (p .rules) n openings rounds) S b
       → EndedIn recorded n (trucksIn (p .rules) n openings rounds (S + p .calmSpan))
 
-module _ (p : Protocol) (facts : Facts p) where
-  -- the claim for what R rounds leave of up to 32 trucks
-  claim-at : (n : ℕ) (openings : List ℕ) (rounds : ℕ → List ℕ) (R : ℕ) → n ≤ 32 → GoodOpenings n openings
-      → ClaimIn p n openings rounds R (fleetIn p n openings rounds R)
-  unfolding fleetIn calmIn
-  claim-at n openings rounds R small good =
-      record {
-        agreement = λ marks. agreed-by p (facts .sound .takes) n openings rounds R small (facts .agrees n openings rounds R small good marks);
-        deciding = λ S b h i l.
-            (let c = calm-parts (p .calmSpan) (p .proposes) (radiosIn (p .rules) n openings rounds) R S b h in
-            let e = facts .ends n openings rounds S b (c .0) (c .2) in
-            rw (ended-kept (p .rules) n openings rounds (S + p .calmSpan) R (c .1) e i l)
-            (state-ended p (S + p .calmSpan) (truck (trucksIn (p .rules) n openings rounds (S + p .calmSpan)) i .state) (e i l)
-            (good-at p (facts .sound) n openings small good rounds (S + p .calmSpan) i l .state)));
-      }
-
-  steps-claim : (n : ℕ) (openings : List ℕ) (steps : List (List ℕ)) → started n openings .outcome ≡ Accepted → StepsClaimIn p n openings steps
+module _ (p : Protocol) (sound : Sound p) where
+  -- an accepted start
+  start : (n : ℕ) (openings : List ℕ) → started n openings .outcome ≡ Accepted → Start n openings
   unfolding started
-  steps-claim n openings steps h =
-      let s : Start n openings = start-by n openings (accepted-by (startCheck n openings) (record { n = n; done = 0; trucks = openedTrucks openings }) blank h .0) in
-      let e = steps-are p (facts .sound) n openings s steps in
+  start n openings h =
+      start-by n openings (accepted-by (startCheck n openings) (record { n = n; done = 0; trucks = openedTrucks openings }) blank h .0)
+
+  -- a claim that holds of what any rounds leave of up to 32 trucks holds of lists of steps and of runs
+  pub holds-by : (claim : Claim)
+      → ((n : ℕ) (openings : List ℕ) (rounds : ℕ → List ℕ) (R : ℕ) → n ≤ 32 → GoodOpenings n openings
+      → claim n openings rounds R (fleetIn p n openings rounds R))
+      → HoldsIn p claim
+  unfolding ranIn
+  holds-by claim at =
       record {
-        claim = rw e (claim-at n openings (roundIn (taken n steps)) (length (taken n steps)) (s .most) (openings-in n openings (s .crushers)));
-        nextStep = λ w. rw e (step-outcome p (facts .sound) n openings s (roundIn (taken n steps)) (length (taken n steps)) w (omega (arith, taken-few n 0 steps (omega arith))));
-        asRun = recording-run p (facts .sound) n openings s steps ∙ ap (λ (f : Fleet). record { outcome = Accepted; fleet = f }) (sym e);
+        steps = λ n openings steps h.
+            (let s = start n openings h in
+            rw (steps-are p sound n openings s steps)
+            (at n openings (roundIn (taken n steps)) (length (taken n steps)) (s .most) (openings-in n openings (s .crushers))));
+        run = λ s h.
+            (let a = accepted-by (checkOf s) (fleetIn p (trucksOf s) (openingsOf s) (roundAt s) (roundsOf s)) blank h in
+            rw (a .1) (at (trucksOf s) (openingsOf s) (roundAt s) (roundsOf s) (bytes-good s (a .0) .frame .most) (openings-read s)));
       }
 
-  run-claim : (s : List ℕ) → ranIn p s .outcome ≡ Accepted → RunClaimIn p s
-  unfolding ranIn
-  run-claim s h =
-      let a = accepted-by (checkOf s) (fleetIn p (trucksOf s) (openingsOf s) (roundAt s) (roundsOf s)) blank h in
-      rw (a .1) (claim-at (trucksOf s) (openingsOf s) (roundAt s) (roundsOf s) (bytes-good s (a .0) .frame .most) (openings-read s))
+  -- stepped or run the same
+  pub same-by : (n : ℕ) (openings : List ℕ) (steps : List (List ℕ)) → started n openings .outcome ≡ Accepted → SameIn p n openings steps
+  same-by n openings steps h =
+      let s = start n openings h in
+      let e = steps-are p sound n openings s steps in
+      record {
+        nextStep = λ w. rw e (step-outcome p sound n openings s (roundIn (taken n steps)) (length (taken n steps)) w (omega (arith, taken-few n 0 steps (omega arith))));
+        asRun = recording-run p sound n openings s steps ∙ ap (λ (f : Fleet). record { outcome = Accepted; fleet = f }) (sym e);
+      }
 
-  pub demand-by : DemandIn p
-  demand-by = record { steps = steps-claim; run = run-claim }
+module _ (p : Protocol) (facts : Facts p) where
+  -- the claim of deciding for what R rounds leave of up to 32 trucks
+  decides-at : (n : ℕ) (openings : List ℕ) (rounds : ℕ → List ℕ) (R : ℕ) → n ≤ 32 → GoodOpenings n openings
+      → decidesIn p n openings rounds R (fleetIn p n openings rounds R)
+  unfolding fleetIn calmIn
+  decides-at n openings rounds R small good S b h i l =
+      let c = calm-parts (p .calmSpan) (p .proposes) (radiosIn (p .rules) n openings rounds) R S b h in
+      let e = facts .ends n openings rounds S b (c .0) (c .2) in
+      rw (ended-kept (p .rules) n openings rounds (S + p .calmSpan) R (c .1) e i l)
+      (state-ended p (S + p .calmSpan) (truck (trucksIn (p .rules) n openings rounds (S + p .calmSpan)) i .state) (e i l)
+      (good-at p (facts .sound) n openings small good rounds (S + p .calmSpan) i l .state))
+
+  -- the whole of demand 3 with marks of the worth that the cycle asks for
+  pub demand-by : DemandIn p (MarksIn p (p .worth))
+  demand-by =
+      record {
+        agreement = holds-by p (facts .sound) (agreesWith (MarksIn p (p .worth)))
+            (λ n openings rounds R small good marks.
+            agreed-by p (facts .sound .takes) n openings rounds R small (facts .agrees n openings rounds R small good marks));
+        deciding = holds-by p (facts .sound) (decidesIn p) decides-at;
+        same = same-by p (facts .sound);
+      }

@@ -15,3 +15,4 @@ pub mod Whole
 pub mod Demand3
 pub mod CalmCases
 pub mod ListCases
+pub mod MarkCases

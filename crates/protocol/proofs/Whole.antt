@@ -9,11 +9,13 @@ use Rattle.basics.specs.Bits.{odd}
 use Rattle.basics.proofs.Laws.{odd-suc}
 use Rattle.radio.specs.Round.{activeBit}
 use Rattle.radio.specs.Radio.{calmRound}
-use Rattle.radio.proofs.Laws.{majority-zero, CalmRounds}
+use Rattle.radio.proofs.Laws.{CalmRounds}
 use Rattle.protocol.specs.declared.Truck.{Truck}
+use Rattle.protocol.specs.Cycles.{radioIn}
 use Rattle.protocol.specs.Rules.{recorded, twoRules, isOne, after}
 use Rattle.protocol.specs.Runs.{trucksAt, radioAt}
-use Rattle.protocol.specs.Claims.{isDecided, MajorityMarks, MixedMarks}
+use Rattle.protocol.specs.Fleets.{twoWorth, twoRound}
+use Rattle.protocol.specs.Claims.{isDecided, MarksIn}
 use Rattle.protocol.proofs.AnyRound.{EndedIn, UndecidedIn, SettledIn}
 use Rattle.protocol.proofs.AnyRun.{at-suc, radio-suc, opened-truck, ended-on, agrees-by}
 use Rattle.protocol.proofs.OneRound.{sound-two}
@@ -26,7 +28,7 @@ module _ (n : ℕ) (openings : List ℕ) (rounds : ℕ → List ℕ) where
 
   module _ (small : n ≤ 32) where
     -- with mixed marks, nobody has decided or all hold one crusher
-    pub mixed-agrees : (R : ℕ) → MixedMarks n openings rounds R
+    pub mixed-agrees : (R : ℕ) → MarksIn twoRound twoWorth n openings rounds R
         → UndecidedIn recorded n (trucksAt n openings rounds R) ⊎ SettledIn recorded n (trucksAt n openings rounds R)
     mixed-agrees R marks =
         agrees-by twoRules n openings rounds (sound-two .stamps) (sound-two .takes) (λ k ts. Open n ts) (λ k ts o. o .nobody) R
@@ -36,18 +38,14 @@ module _ (n : ℕ) (openings : List ℕ) (rounds : ℕ → List ℕ) where
         })
         (λ k l o. go k l o (odd (suc k)) refl)
       where
+        worth : (k : ℕ) → k < R → twoWorth (suc k) (radioIn twoRules n (activeBit (rounds k)) (suc k) (rounds k) (at k)) ≡ true
+        worth k l = ap (twoWorth (suc k)) (sym (radio-suc twoRules n openings rounds k)) ∙ marks (suc k) (omega arith) (omega arith)
+
         go : (k : ℕ) → k < R → Open n (at k) → (b : Bool) → odd (suc k) ≡ b
             → Open n (after n (activeBit (rounds k)) (suc k) (rounds k) (at k)) ⊎ SettledIn recorded n (after n (activeBit (rounds k)) (suc k) (rounds k) (at k))
         go k l o true e =
-            inl (open-proposal n (activeBit (rounds k)) (suc k) (rounds k) (at k) e (rw (radio-suc twoRules n openings rounds) at (marks (suc k) (omega arith) (omega arith) .0 e)) o)
-        go k l o false e =
-            open-veto n (activeBit (rounds k)) (suc k) (rounds k) (at k) e (rw (radio-suc twoRules n openings rounds) at (marks (suc k) (omega arith) (omega arith) .1 e)) o
-
-    -- and so with majority complete marks in every round
-    pub majority-agrees : (R : ℕ) → MajorityMarks n openings rounds R
-        → UndecidedIn recorded n (trucksAt n openings rounds R) ⊎ SettledIn recorded n (trucksAt n openings rounds R)
-    majority-agrees R marks =
-        mixed-agrees R (λ k l m. ((λ e. marks k l m), (λ e. majority-zero (radioAt n openings rounds k) (marks k l m))))
+            inl (open-proposal n (activeBit (rounds k)) (suc k) (rounds k) (at k) e (rw e at (worth k l)) o)
+        go k l o false e = open-veto n (activeBit (rounds k)) (suc k) (rounds k) (at k) e (rw e at (worth k l)) o
 
   -- the round after k rounds is calm with b
   abbrev CalmAt : ℕ → ℕ → Type 0

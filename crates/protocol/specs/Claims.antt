@@ -6,8 +6,7 @@ use mathlib.Core.List.{List}
 use Prim.Native.Nat.{ℕ, _+_, _≤_, _<_}
 use lib.Dec.{eqb}
 use lib.ListN.{length, getD}
-use Rattle.basics.specs.Bits.{odd}
-use Rattle.radio.specs.Radio.{majorityComplete, zeroComplete, calmFor}
+use Rattle.radio.specs.Radio.{Radio, majorityComplete, calmFor}
 use Rattle.refusals.specs.declared.Outcome.the-variants.{Accepted}
 use Rattle.refusals.specs.declared.Refusal.the-variants.{RoundsDone}
 use Rattle.refusals.specs.Outcomes.{refuse}
@@ -17,7 +16,7 @@ use Rattle.protocol.specs.declared.State.{State}
 use Rattle.protocol.specs.declared.State.the-variants.{Running, Stopped, Decided}
 use Rattle.protocol.specs.declared.Fleet.{Fleet}
 use Rattle.protocol.specs.Rules.{truck}
-use Rattle.protocol.specs.Runs.{radiosIn, radioAt}
+use Rattle.protocol.specs.Runs.{radiosIn}
 use Rattle.protocol.specs.Fleets.{Protocol, twoRound, started, steppedIn, ranIn}
 use Rattle.protocol.specs.Steps.{lastRecordIn, taken, roundIn, recordingOf}
 
@@ -39,50 +38,68 @@ pub record Agreed (n : ℕ) (openings : List ℕ) (f : Fleet) : Type 0 where
   pub opening : (i : ℕ) → i < n → isDecided (truck (f .trucks) i .state) ≡ true
       → (j : ℕ) × (j < n) × (truck (f .trucks) i .estimate ≡ getD openings j 0)
 
+-- what is said of the marks of R rounds, by n, the openings, the words of the rounds and R
+abbrev pub Marks : Type 1
+Marks = ℕ → List ℕ → (ℕ → List ℕ) → ℕ → Type 0
+
+-- what is said besides of the record that the rounds leave
+abbrev pub Claim : Type 1
+Claim = ℕ → List ℕ → (ℕ → List ℕ) → ℕ → Fleet → Type 0
+
+-- the claim of agreement: with such marks in every round taken the decided trucks agree
+abbrev pub agreesWith : Marks → Claim
+agreesWith marks n openings rounds R f = marks n openings rounds R → Agreed n openings f
+
 module _ (p : Protocol) where
-  -- marks are worth what agreement asks in each of R rounds
-  abbrev pub WorthMarks : ℕ → List ℕ → (ℕ → List ℕ) → ℕ → Type 0
-  WorthMarks n openings rounds R = (k : ℕ) → 1 ≤ k → k ≤ R → p .worth k (radiosIn (p .rules) n openings rounds k) ≡ true
+  -- in each of R rounds marks are worth what is asked of them, by the round's number
+  abbrev pub MarksIn : (ℕ → Radio → Bool) → Marks
+  MarksIn worth n openings rounds R = (k : ℕ) → 1 ≤ k → k ≤ R → worth k (radiosIn (p .rules) n openings rounds k) ≡ true
 
   -- the R rounds are calm from S with b
   unfoldable pub calmIn : ℕ → List ℕ → (ℕ → List ℕ) → ℕ → ℕ → ℕ → Bool
   calmIn n openings rounds R S b = calmFor (p .calmSpan) (p .proposes) (radiosIn (p .rules) n openings rounds) R S b
 
-  -- what demand 3 says of the record f that R rounds leave
-  pub record ClaimIn (n : ℕ) (openings : List ℕ) (rounds : ℕ → List ℕ) (R : ℕ) (f : Fleet) : Type 0 where
-    -- with marks of that worth in every round taken
-    pub agreement : WorthMarks n openings rounds R → Agreed n openings f
-    -- with calm from S with b: each truck below n is decided or stopped, in a round no later than the last calm one
-    pub deciding : (S b : ℕ) → calmIn n openings rounds R S b ≡ true → (i : ℕ) → i < n → EndedBy (S + p .calmSpan) (truck (f .trucks) i .state)
+  -- the claim of deciding: with calm from S with b each truck below n is decided or stopped, in a round no later than the last calm one
+  abbrev pub decidesIn : Claim
+  decidesIn n openings rounds R f =
+      (S b : ℕ) → calmIn n openings rounds R S b ≡ true → (i : ℕ) → i < n → EndedBy (S + p .calmSpan) (truck (f .trucks) i .state)
 
-  -- of a start with n and openings and a list of steps, refused ones included: the claim for the record returned last and the rounds taken, and that
-  -- running the list's recording is accepted and returns that record
-  pub record StepsClaimIn (n : ℕ) (openings : List ℕ) (steps : List (List ℕ)) : Type 0 where
-    pub claim : ClaimIn n openings (roundIn (taken n steps)) (length (taken n steps)) (lastRecordIn p (started n openings .fleet) steps)
+  -- a claim holds of every list of steps, refused ones included, after an accepted start, that is of the rounds taken and the record returned last; and of every
+  -- accepted recording run
+  pub record HoldsIn (claim : Claim) : Type 0 where
+    pub steps : (n : ℕ) (openings : List ℕ) (steps : List (List ℕ)) → started n openings .outcome ≡ Accepted
+        → claim n openings (roundIn (taken n steps)) (length (taken n steps)) (lastRecordIn p (started n openings .fleet) steps)
+    pub run : (s : List ℕ) → ranIn p s .outcome ≡ Accepted → claim (trucksOf s) (openingsOf s) (roundAt s) (roundsOf s) (ranIn p s .fleet)
+
+  -- stepped or run, of a start with n and openings and a list of steps, refused ones included: running the list's recording is accepted and returns the record that
+  -- the list returned last
+  pub record SameIn (n : ℕ) (openings : List ℕ) (steps : List (List ℕ)) : Type 0 where
     -- of the next step only 14, 8 and 6 can be refused: no record that a start and steps returned is refused 7
     pub nextStep : (w : List ℕ) → steppedIn p (lastRecordIn p (started n openings .fleet) steps) w .outcome
         ≡ refuse (eqb (length (taken n steps)) 400) RoundsDone (roundCheck n w)
     pub asRun : ranIn p (recordingOf n openings steps) ≡ record { outcome = Accepted; fleet = lastRecordIn p (started n openings .fleet) steps }
 
-  -- of a recording
-  abbrev pub RunClaimIn : List ℕ → Type 0
-  RunClaimIn s = ClaimIn (trucksOf s) (openingsOf s) (roundAt s) (roundsOf s) (ranIn p s .fleet)
+  -- the whole of demand 3, where agreement is promised with such marks
+  pub record DemandIn (marks : Marks) : Type 0 where
+    pub agreement : HoldsIn (agreesWith marks)
+    pub deciding : HoldsIn decidesIn
+    pub same : (n : ℕ) (openings : List ℕ) (steps : List (List ℕ)) → started n openings .outcome ≡ Accepted → SameIn n openings steps
 
-  -- the whole of demand 3: of every list of steps after an accepted start, and of every accepted recording run
-  pub record DemandIn : Type 0 where
-    pub steps : (n : ℕ) (openings : List ℕ) (steps : List (List ℕ)) → started n openings .outcome ≡ Accepted → StepsClaimIn n openings steps
-    pub run : (s : List ℕ) → ranIn p s .outcome ≡ Accepted → RunClaimIn s
-
--- demand 3 of document 01's protocol
-abbrev pub Demand : Type 0
-Demand = DemandIn twoRound
-
--- marks are majority complete in each of R rounds
-abbrev pub MajorityMarks : ℕ → List ℕ → (ℕ → List ℕ) → ℕ → Type 0
-MajorityMarks n openings rounds R = (k : ℕ) → 1 ≤ k → k ≤ R → majorityComplete (radioAt n openings rounds k) ≡ true
+-- marks are majority complete in every round
+abbrev pub MajorityMarks : Marks
+MajorityMarks = MarksIn twoRound (λ k. majorityComplete)
 
 -- marks are majority complete in odd rounds and zero complete in even ones
-abbrev pub MixedMarks : ℕ → List ℕ → (ℕ → List ℕ) → ℕ → Type 0
-MixedMarks n openings rounds R =
-    (k : ℕ) → 1 ≤ k → k ≤ R
-    → (odd k ≡ true → majorityComplete (radioAt n openings rounds k) ≡ true) × (odd k ≡ false → zeroComplete (radioAt n openings rounds k) ≡ true)
+abbrev pub MixedMarks : Marks
+MixedMarks = MarksIn twoRound (twoRound .worth)
+
+-- demand 3 of document 01's protocol, and its agreement part
+abbrev pub Demand : Type 0
+Demand = DemandIn twoRound MajorityMarks
+
+abbrev pub MajorityAgreement : Type 0
+MajorityAgreement = HoldsIn twoRound (agreesWith MajorityMarks)
+
+-- agreement, and decisions being openings, with cheaper marks in even rounds (document 02, F-12); false marks are allowed, and nothing else is assumed
+abbrev pub MixedAgreement : Type 0
+MixedAgreement = HoldsIn twoRound (agreesWith MixedMarks)

@@ -1,13 +1,13 @@
 -- Starting, stepping, running and grading a fleet, with their refusals (document 01, 'Who can cause which refusal'). The laws of what refusal 7 asks are in
 -- proofs/Good.
 use Prim.Native.Nat.{ℕ, _+_}
-use mathlib.Core.Bool.{Bool, true, false, not, _&&_, _||_}
+use mathlib.Core.Bool.{Bool, true, false, cond, not, _&&_, _||_}
 use mathlib.Core.List.{List, [], _∷_}
 use lib.Dec.{eqb, leb, ltb}
 use Rattle.basics.specs.Lists.{allBelow}
 use Rattle.basics.specs.Bits.{odd}
 use Rattle.radio.specs.Round.{activeBit}
-use Rattle.radio.specs.Radio.{Radio, implies, majorityComplete}
+use Rattle.radio.specs.Radio.{Radio, implies, majorityComplete, zeroComplete}
 use Rattle.refusals.specs.declared.Refusal.the-variants.{TruckCount, Record, RoundsDone}
 use Rattle.refusals.specs.declared.Outcome.{Outcome}
 use Rattle.refusals.specs.declared.Outcome.the-variants.{Accepted, Refused}
@@ -71,6 +71,10 @@ isEmpty mark Several = false
 abbrev pub twoMemory : ℕ → Truck → Bool
 twoMemory done t = implies (not (odd done) || not (runs t)) (isEmpty (t .mark) (t .heard))
 
+-- in the two-round cycle marks must be majority complete in odd rounds and zero complete in even ones
+abbrev pub twoWorth : ℕ → Radio → Bool
+twoWorth k a = cond (odd k) (majorityComplete a) (zeroComplete a)
+
 -- document 01's protocol
 abbrev pub twoRound : Protocol
 twoRound =
@@ -78,7 +82,7 @@ twoRound =
       rules = twoRules;
       decisions = λ k. not (odd k);
       goodMemory = twoMemory;
-      worth = λ k. majorityComplete;
+      worth = twoWorth;
       calmSpan = 4;
       proposes = odd;
     }

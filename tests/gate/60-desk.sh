@@ -65,6 +65,8 @@ expect "the picture of C1" draws "8 0 4 2 0 0 0 0 2 2 2 0" < <(bytes_of tests/ca
 expect "the picture of C1 is the one in docs" cmp -s "$said/svg" docs/pictures/c1.svg
 expect "the picture of C2" draws "4 0 2 0 2 0 0 0 2 2 1 1" < <(bytes_of tests/cases/c02.hex)
 expect "the picture of C3" draws "4 0 2 2 2 2 0 0 0 2 1 0" < <(bytes_of tests/cases/c03.hex)
+expect "the picture of vetoes half heard" draws "8 0 4 2 2 1 1 0 2 2 2 0" < <(bytes_of tests/cases/half-heard.hex)
+expect "the picture of a veto missed" draws "8 0 4 1 4 0 0 0 3 3 2 1" < <(bytes_of tests/cases/veto-missed.hex)
 expect "the picture of the largest recording" draws "0 32 0 0 0 0 0 0 0 32 200 0" < <(printf '\x81\x90'; head -c 56016 /dev/zero)
 rm -rf "$said"
 finished=yes

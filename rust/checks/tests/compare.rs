@@ -326,21 +326,59 @@ fn damaged_record_bytes() {
     }
 }
 
+/// The crushers of a record's decided trucks.
+fn decided(d: &[u8; RECORD]) -> Vec<u8> {
+    let trucks = usize::from(d[0]);
+    (0..trucks).filter(|i| d[3 + 7 * i + 4] == 2).map(|i| d[3 + 7 * i + 1]).collect()
+}
+
+/// No two decided trucks of a record hold different crushers, and each holds an opening. Whether several have decided.
+fn agrees(d: &[u8; RECORD], openings: &[u8]) -> bool {
+    let decided = decided(d);
+    assert!(decided.iter().all(|v| *v == decided[0] && openings.contains(v)));
+    decided.len() > 1
+}
+
 #[test]
 fn agreement_of_the_library() {
     let mut rng = Rng::new(11);
     let mut several = 0;
     for k in 0..times(20_000) {
-        let plain = gen::majority_complete(&mut rng, if k % 10 == 0 { SMALL } else { TINY });
+        let limits = if k % 10 == 0 { SMALL } else { TINY };
+        let plain = gen::with_marks(&mut rng, limits, gen::MAJORITY);
         assert!(marks::majority_complete(&plain));
         let mut d = [0; RECORD];
         assert_eq!(checks::run(&gen::bytes_of(&plain), &mut d), 0);
-        let decided: Vec<u8> =
-            (0..plain.n).filter(|i| d[3 + 7 * i + 4] == 2).map(|i| d[3 + 7 * i + 1]).collect();
-        assert!(decided.iter().all(|v| *v == decided[0] && plain.openings.contains(v)));
-        several += usize::from(decided.len() > 1);
+        several += usize::from(agrees(&d, &plain.openings));
     }
     assert!(several > 1000);
+}
+
+/// Majority complete in odd rounds and zero complete in even ones: of runs and of lists of steps, refused ones included.
+#[test]
+fn agreement_with_mixed_marks() {
+    let mut rng = Rng::new(14);
+    let (mut several, mut weaker, mut refused) = (0, 0, 0);
+    for k in 0..times(20_000) {
+        let limits = if k % 10 == 0 { SMALL } else { TINY };
+        let plain = gen::with_marks(&mut rng, limits, gen::MIXED);
+        assert!(marks::mixed(&plain));
+        let mut ran = [0; RECORD];
+        assert_eq!(checks::run(&gen::bytes_of(&plain), &mut ran), 0);
+        if agrees(&ran, &plain.openings) {
+            several += 1;
+            weaker += usize::from(!marks::majority_complete(&plain));
+        }
+        let list = gen::list_around(&mut rng, &plain, 40);
+        let mut stepped = [0; RECORD];
+        assert_eq!(checks::start(plain.n as u32, &plain.openings, &mut stepped), 0);
+        for words in &list.steps {
+            refused += usize::from(checks::step(&mut stepped, words) != 0);
+        }
+        agrees(&stepped, &plain.openings);
+        assert_eq!(stepped, ran);
+    }
+    assert!(several > 1000 && weaker > 200 && refused > 1000, "{several} {weaker} {refused}");
 }
 
 #[test]

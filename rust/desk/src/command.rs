@@ -119,8 +119,10 @@ usage: desk timeline [FILE]
 
 Prints every round: what each truck sent, heard and missed, its mark, and its
 estimate; who stopped and who decided; which class of marks a truck broke. The
-verdict at the end says what the marks were worth, what was decided, and
-whether five rounds in a row were calm.
+verdict at the end says whether the marks guaranteed agreement, in which
+rounds the fine detector may rest, what was decided, and whether five rounds in
+a row were calm. Agreement is guaranteed where marks are majority complete in
+odd rounds and zero complete in even ones.
 ",
         ),
         (

@@ -43,20 +43,69 @@ impl Breaks {
     }
 }
 
+/// The trucks that break a class in a round.
+fn breaking(round: &Round, broken: fn(Breaks) -> bool) -> TruckSet {
+    let sent = round.senders.count();
+    TruckSet::of(round.turns.len(), |i| broken(Breaks::of(&round.turns[i], sent)))
+}
+
 /// The first round that breaks each class, or 0, by the turns of the rounds.
 pub fn grades_of(rounds: &[Round]) -> Grades {
     let first = |broken: fn(Breaks) -> bool| {
-        let breaks = |round: &&Round| {
-            let sent = round.senders.count();
-            round.turns.iter().any(|turn| broken(Breaks::of(turn, sent)))
-        };
-        rounds.iter().find(breaks).map_or(0, |round| round.number)
+        let found = rounds.iter().find(|round| !breaking(round, broken).is_empty());
+        found.map_or(0, |round| round.number)
     };
     Grades {
         complete: first(|b| b.complete),
         majority: first(|b| b.majority),
         zero: first(|b| b.zero),
         accurate: first(|b| b.accurate),
+    }
+}
+
+/// A round whose marks are less than agreement asks of it.
+#[derive(Clone, Copy, Debug, PartialEq, Eq)]
+pub struct Weak {
+    /// Its number.
+    pub round: u16,
+    /// What its marks are not: majority complete in an odd round, zero complete in an even one.
+    pub class: &'static str,
+    /// The trucks that lack a mark.
+    pub trucks: TruckSet,
+}
+
+/// The first round whose marks are less than agreement asks for. Where there is none, agreement was guaranteed.
+pub fn first_weak(rounds: &[Round]) -> Option<Weak> {
+    rounds.iter().find_map(|round| {
+        let (class, trucks) = match round.kind() {
+            Kind::Proposal => ("majority complete", breaking(round, |b| b.majority)),
+            Kind::Veto => ("zero complete", breaking(round, |b| b.zero)),
+        };
+        (!trucks.is_empty()).then_some(Weak { round: round.number, class, trucks })
+    })
+}
+
+/// The rounds that let the fine detector rest: in even ones agreement asks for no more than zero complete marks. Even rounds
+/// in which no truck runs, and so no detector is used, are left out.
+#[derive(Clone, Debug, Default, PartialEq, Eq)]
+pub struct Resting {
+    /// Their numbers.
+    pub rounds: Vec<u16>,
+    /// Those of them whose marks were zero complete and not majority complete.
+    pub only_zero: Vec<u16>,
+}
+
+/// The rounds of a run that let the fine detector rest.
+pub fn resting(rounds: &[Round]) -> Resting {
+    let numbers = |of: fn(&Round) -> bool| {
+        let vetoes = rounds.iter().filter(|round| round.kind() == Kind::Veto);
+        vetoes.filter(|round| of(round)).map(|round| round.number).collect()
+    };
+    Resting {
+        rounds: numbers(|round| !round.running().is_empty()),
+        only_zero: numbers(|round| {
+            breaking(round, |b| b.zero).is_empty() && !breaking(round, |b| b.majority).is_empty()
+        }),
     }
 }
 
@@ -98,17 +147,22 @@ fn calm_senders(rounds: &[Round]) -> Option<usize> {
     (!senders.contains(&0) && rounds.iter().all(calm)).then_some(b)
 }
 
-/// Holds the derived grades against the proved ones, and the end against what is proved of every run: under majority
-/// complete marks decided trucks agree, and after five calm rounds no truck runs.
+/// Holds the derived grades against the proved ones, and the end against what is proved of every run: where no round is weak
+/// decided trucks agree, and hold an opening; and after five calm rounds no truck runs.
 pub fn hold_against_proofs(story: &Story) -> Result<(), Failure> {
     let derived = grades_of(&story.rounds);
     hold(derived == story.grades, || {
         format!("the grades are derived as {derived:?}, but are {:?}", story.grades)
     })?;
     let crushers = decided_crushers(story);
-    hold(story.grades.majority != 0 || crushers.len() < 2, || {
-        "decided trucks differ under majority complete marks".to_string()
+    hold(first_weak(&story.rounds).is_some() || crushers.len() < 2, || {
+        "decided trucks differ, though the marks guarantee agreement".to_string()
     })?;
+    for (crusher, trucks) in crushers {
+        hold(story.openings.contains(&crusher), || {
+            format!("{} decided crusher {crusher}, with which none opened", trucks.named())
+        })?;
+    }
     if let Some(calm) = first_calm(&story.rounds) {
         let ended = story.end.iter().all(|truck| match truck.state {
             State::Running => false,
@@ -167,36 +221,65 @@ pub fn decided_crushers(story: &Story) -> Vec<(u8, TruckSet)> {
     (0..16).map(|crusher| (crusher, chosen(crusher))).filter(|(_, set)| !set.is_empty()).collect()
 }
 
-/// The closing sentences: what the marks were worth, what was decided, and whether five rounds were calm.
+/// The closing sentences: whether the marks guaranteed agreement, in which rounds the fine detector may rest if there are such,
+/// what was decided, and whether five rounds were calm.
 pub fn sentences(story: &Story) -> Vec<String> {
-    vec![marks_sentence(story), decided_sentence(story), calm_sentence(story)]
+    let mut said = vec![agreement_sentence(story)];
+    said.extend(resting_sentence(story));
+    said.extend([decided_sentence(story), calm_sentence(story)]);
+    said
 }
 
-fn marks_sentence(story: &Story) -> String {
-    let Some(round) = story.rounds.iter().find(|round| round.number == story.grades.majority)
-    else {
-        return "Marks were majority complete in every round: no two decided trucks can differ."
-            .to_string();
+fn agreement_sentence(story: &Story) -> String {
+    let Some(weak) = first_weak(&story.rounds) else {
+        let worth = match story.grades.majority {
+            0 => "majority complete in every round",
+            _ => "majority complete in odd rounds and zero complete in even ones",
+        };
+        return format!("Agreement was guaranteed: marks were {worth}.");
     };
+    let round = &story.rounds[usize::from(weak.round) - 1];
     let sent = round.senders.count();
-    let broke = |heard: usize| {
-        TruckSet::of(round.turns.len(), |i| {
-            let turn = &round.turns[i];
-            Breaks::of(turn, sent).majority && turn.heard.count() == heard
-        })
+    let heard_of = |heard: usize| {
+        let lacking = |i: usize| weak.trucks.has(i) && round.turns[i].heard.count() == heard;
+        TruckSet::of(round.turns.len(), lacking)
     };
     let parts: Vec<String> = (0..=sent)
-        .map(|heard| (heard, broke(heard)))
+        .map(|heard| (heard, heard_of(heard)))
         .filter(|(_, trucks)| !trucks.is_empty())
         .map(|(heard, trucks)| {
             format!("{} heard {heard} of {}", trucks.named(), counted(sent, "message"))
         })
         .collect();
     format!(
-        "Marks were not majority complete: first in round {}, where without a mark {}; nothing rules out that decided trucks differ.",
-        round.number,
+        "Agreement was not guaranteed: marks were not {} in round {}, where without a mark {}.",
+        weak.class,
+        weak.round,
         parts.join(", ")
     )
+}
+
+fn resting_sentence(story: &Story) -> Option<String> {
+    let Resting { rounds, only_zero } = resting(&story.rounds);
+    let last = rounds.last()?;
+    let rest = listed(&rounds).unwrap_or_else(|| format!("even rounds, 2 to {last}"));
+    let mut said = format!("The fine detector may rest in {rest}");
+    if let Some(first) = only_zero.first() {
+        let many = || format!("{} of these, first in round {first},", only_zero.len());
+        let weaker = listed(&only_zero).unwrap_or_else(many);
+        said += &format!("; in {weaker} marks were only zero complete");
+    }
+    Some(said + ".")
+}
+
+/// Up to three rounds by their numbers: `round 2`, `rounds 2, 4 and 6`.
+fn listed(rounds: &[u16]) -> Option<String> {
+    match rounds {
+        [a] => Some(format!("round {a}")),
+        [a, b] => Some(format!("rounds {a} and {b}")),
+        [a, b, c] => Some(format!("rounds {a}, {b} and {c}")),
+        _ => None,
+    }
 }
 
 fn decided_sentence(story: &Story) -> String {

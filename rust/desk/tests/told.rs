@@ -4,16 +4,20 @@
 use desk::story::{tell, Answers, Failure, Message, Story, Turn};
 use desk::trucks::TruckSet;
 use desk::verdict::{
-    counts, decided_crushers, first_calm, grades_of, hold_against_proofs, Calm, Counts,
+    counts, decided_crushers, first_calm, first_weak, grades_of, hold_against_proofs, resting,
+    Calm, Counts, Resting,
 };
 use oracle::gen::{self, Limits, Rng, FULL, SMALL, TINY};
-use oracle::marks::{airs, round_is_calm};
+use oracle::marks::{airs, classes_of, first_not_mixed, round_is_calm};
 use oracle::steps::follow;
 use rajvokshul::{Fleet, Grades, Refusal, State};
 
 const C1: [u8; 8] = [0x08, 0x04, 0x35, 0x30, 0x00, 0x03, 0x00, 0x00];
 const C2: [u8; 6] = [0x08, 0x02, 0x35, 0x31, 0x80, 0x00];
 const C3: [u8; 6] = [0x08, 0x02, 0x35, 0x3D, 0x80, 0x00];
+
+/// C1 with a false mark for truck 0 in round 1, and each truck missing the other's veto in round 2.
+const HALF_HEARD: [u8; 8] = [0x08, 0x04, 0x35, 0x38, 0x00, 0x63, 0x00, 0x00];
 
 const BOTH: TruckSet = TruckSet(0b11);
 const NOBODY: TruckSet = TruckSet(0);
@@ -216,14 +220,28 @@ fn calm_by_trying(plain: &oracle::Plain) -> Option<Calm> {
     None
 }
 
+/// The even rounds with a truck running, and those of them with zero complete marks that are not majority complete.
+fn resting_by_classes(plain: &oracle::Plain) -> Resting {
+    let mut found = Resting::default();
+    for (air, kept) in airs(plain).iter().zip(classes_of(plain)) {
+        if air.round % 2 == 0 && !air.running_trucks().is_empty() {
+            found.rounds.push(air.round);
+            if kept.zero && !kept.majority {
+                found.only_zero.push(air.round);
+            }
+        }
+    }
+    found
+}
+
 #[test]
 fn told_as_the_independent_reading_tells_it() {
     let mut rng = Rng::new(0xDE51);
-    let (mut calm, mut broken) = (0, 0);
+    let (mut calm, mut broken, mut weak, mut only_zero) = (0, 0, 0, 0);
     for k in 0..4_000 {
         let plain = match k % 4 {
             0 => gen::plain(&mut rng, mixed(k)),
-            1 => gen::majority_complete(&mut rng, mixed(k)),
+            1 => gen::with_marks(&mut rng, mixed(k), gen::MIXED),
             _ => gen::calm(&mut rng, mixed(k), k % 4 == 2).plain,
         };
         let story = tell(&gen::bytes_of(&plain)).unwrap();
@@ -237,9 +255,16 @@ fn told_as_the_independent_reading_tells_it() {
         assert_eq!(first_calm(&story.rounds), calm_by_trying(&plain));
         calm += usize::from(first_calm(&story.rounds).is_some());
         broken += usize::from(story.grades.majority != 0);
+        let found = first_weak(&story.rounds);
+        assert_eq!(found.map(|weak| usize::from(weak.round)), first_not_mixed(&plain));
+        weak += usize::from(found.is_some());
+        let rests = resting(&story.rounds);
+        assert_eq!(rests, resting_by_classes(&plain));
+        only_zero += usize::from(found.is_none() && !rests.only_zero.is_empty());
     }
     // The seeds make many of each kind.
     assert!(calm > 500 && broken > 500, "{calm} calm, {broken} broken");
+    assert!(weak > 500 && only_zero > 100, "{weak} weak, {only_zero} only zero complete");
 }
 
 fn contradicted(answers: &Answers) -> bool {
@@ -305,6 +330,15 @@ fn what_is_proved_of_every_run_is_asked_of_a_story() {
     assert!(contradicted(&differ));
     differ.end[1].estimate = differ.end[0].estimate;
     assert!(!contradicted(&differ));
+    // A crusher with which no truck opened.
+    differ.end.iter_mut().for_each(|truck| truck.estimate = 9);
+    assert!(contradicted(&differ));
+    // In a veto round with half of the vetoes heard marks still guarantee agreement.
+    let mut half_heard = tell(&HALF_HEARD).unwrap();
+    assert_eq!((half_heard.grades.majority, first_weak(&half_heard.rounds)), (2, None));
+    assert!(!contradicted(&half_heard));
+    half_heard.end[1].estimate = 5;
+    assert!(contradicted(&half_heard));
     // A truck that runs on after five calm rounds, and one that decided later than they end.
     let alone: [&[u32]; 6] = [&[0, 1, 0, 0], &[0; 4], &[0; 4], &[0; 4], &[0; 4], &[0; 4]];
     let mut calm = tell(&recorded(&[7], &alone)).unwrap();

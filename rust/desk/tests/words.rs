@@ -28,7 +28,7 @@ round 1 (proposal): 3 of 3 running, 3 proposals sent (trucks 0-2)
   truck 2  sent 9   estimate 9 -> 6    heard 2 of 3 (trucks 1, 2), missed truck 0; breaks complete
 
 verdict
-  Marks were majority complete in every round: no two decided trucks can differ.
+  Agreement was guaranteed: marks were majority complete in every round.
   No truck decided. Still running: trucks 0-2.
   No five rounds in a row were calm.
 ";
@@ -69,7 +69,8 @@ round 4 (veto): 1 of 2 running, 0 vetoes sent
 rounds 5 to 8: no truck runs
 
 verdict
-  Marks were majority complete in every round: no two decided trucks can differ.
+  Agreement was guaranteed: marks were majority complete in every round.
+  The fine detector may rest in rounds 2 and 4.
   1 of 2 trucks decided crusher 5, the last in round 4. Stopped: truck 0.
   Rounds 3 to 7 are calm, with at most 1 sender in a proposal round: every truck has decided or stopped by round 7.
 ";
@@ -84,8 +85,81 @@ fn a_breach_names_the_trucks_by_what_they_heard() {
     let said = sentences(&tell(&recording).unwrap());
     assert_eq!(
         said[0],
-        "Marks were not majority complete: first in round 1, where without a mark truck 0 heard 1 of 5 messages, \
-         trucks 1, 2 heard 2 of 5 messages; nothing rules out that decided trucks differ."
+        "Agreement was not guaranteed: marks were not majority complete in round 1, where without a mark \
+         truck 0 heard 1 of 5 messages, trucks 1, 2 heard 2 of 5 messages."
+    );
+}
+
+/// The first two sentences of the verdict.
+fn first_two(openings: &[u8], rounds: &[&[u32]]) -> [String; 2] {
+    let (n, r) = (openings.len() as u32, rounds.len() as u32);
+    let recording = rajvokshul::write(n, r, openings, &rounds.concat()).unwrap();
+    let said = sentences(&tell(&recording).unwrap());
+    [said[0].clone(), said[1].clone()]
+}
+
+#[test]
+fn agreement_guaranteed_by_mixed_marks() {
+    // Both hear both values in round 1, so both veto in round 2, where each hears its own veto alone.
+    let both: &[u32] = &[0, 0b11, 0, 0, 0];
+    let deaf: &[u32] = &[0, 0, 0, 0b10, 0b01];
+    let mixed = "Agreement was guaranteed: marks were majority complete in odd rounds and zero complete in even ones.";
+    let said = first_two(&[3, 5], &[both, deaf]);
+    assert_eq!(said[0], mixed);
+    assert_eq!(
+        said[1],
+        "The fine detector may rest in round 2; in round 2 marks were only zero complete."
+    );
+    // A mark for one of the two that hear half leaves the other without.
+    let one_marked: &[u32] = &[0, 0, 0b01, 0b10, 0b01];
+    assert_eq!(first_two(&[3, 5], &[both, one_marked])[0], mixed);
+    // With marks for both, marks are majority complete.
+    let both_marked: &[u32] = &[0, 0, 0b11, 0b10, 0b01];
+    assert_eq!(
+        first_two(&[3, 5], &[both, both_marked, both]),
+        [
+            "Agreement was guaranteed: marks were majority complete in every round.",
+            "The fine detector may rest in round 2."
+        ]
+    );
+    // Each keeps its estimate by a mark of its own, so that the two go on for ten rounds.
+    let kept: &[u32] = &[0, 0b11, 0b11, 0b10, 0b01];
+    let rounds = [kept, deaf].repeat(5);
+    let said = first_two(&[3, 5], &rounds);
+    assert_eq!(said[0], mixed);
+    assert_eq!(
+        said[1],
+        "The fine detector may rest in even rounds, 2 to 10; in 5 of these, first in round 2, marks were only zero complete."
+    );
+    let said = first_two(&[3, 5], &[kept, deaf, kept, both_marked, kept, deaf]);
+    assert_eq!(said[0], mixed);
+    assert_eq!(
+        said[1],
+        "The fine detector may rest in rounds 2, 4 and 6; in rounds 2 and 6 marks were only zero complete."
+    );
+}
+
+#[test]
+fn agreement_not_guaranteed() {
+    // Trucks 0 and 1 miss the 3 in round 1 and the veto of truck 2 in round 2.
+    let first: &[u32] = &[0, 0b111, 0, 0b100, 0b100, 0];
+    let second: &[u32] = &[0, 0, 0, 0b100, 0b100, 0];
+    assert_eq!(
+        first_two(&[5, 5, 3], &[first, second]),
+        [
+            "Agreement was not guaranteed: marks were not zero complete in round 2, where without a mark trucks 0, 1 heard 0 of 1 message.",
+            "The fine detector may rest in round 2."
+        ]
+    );
+    // An even round that is only zero complete takes nothing away; the odd round after it does.
+    let both: &[u32] = &[0, 0b11, 0, 0, 0];
+    let half: &[u32] = &[0, 0b11, 0, 0b10, 0b01];
+    assert_eq!(
+        first_two(&[3, 5], &[both, &[0, 0, 0, 0b10, 0b01], half, &[0; 5]]),
+        [
+            "Agreement was not guaranteed: marks were not majority complete in round 3, where without a mark trucks 0, 1 heard 1 of 2 messages.",
+            "The fine detector may rest in rounds 2 and 4; in round 2 marks were only zero complete."
+        ]
     );
 }
 
@@ -97,7 +171,7 @@ fn no_rounds() {
 truck 0 opens with crusher 15
 
 verdict
-  Marks were majority complete in every round: no two decided trucks can differ.
+  Agreement was guaranteed: marks were majority complete in every round.
   No truck decided. Still running: truck 0.
   No five rounds in a row were calm.
 ";
@@ -125,8 +199,11 @@ fn lines_as_the_independent_reading_counts_them() {
     for k in 0..600 {
         let plain = gen::plain(&mut rng, if k % 10 == 0 { SMALL } else { TINY });
         let said = timeline(&tell(&gen::bytes_of(&plain)).unwrap());
-        let complete = oracle::marks::majority_complete(&plain);
-        assert_eq!(said.contains("Marks were majority complete in every round"), complete);
+        let (complete, mixed) =
+            (oracle::marks::majority_complete(&plain), oracle::marks::mixed(&plain));
+        assert_eq!(said.contains("  Agreement was guaranteed: "), mixed);
+        assert_eq!(said.contains("  Agreement was not guaranteed: "), !mixed);
+        assert_eq!(said.contains("marks were majority complete in every round."), complete);
         let airs = oracle::marks::airs(&plain);
         let sent: usize = airs.iter().map(|air| air.messages()).sum();
         let turns = said.lines().filter(|line| line.starts_with("  truck ")).collect::<Vec<_>>();

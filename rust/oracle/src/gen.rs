@@ -214,26 +214,45 @@ pub fn largest(rng: &mut Rng) -> Vec<u8> {
     bytes_of(&plain_of_size(rng, Header { n: 32, rounds: 400 }))
 }
 
-/// A plain form whose marks are majority complete in every round, with marks
-/// that nothing asks for among them.
-pub fn majority_complete(rng: &mut Rng, limits: Limits) -> Plain {
+/// Whether a truck that hears so many of so many messages, above 0, in a round
+/// with this number is to have a mark.
+pub type Asked = fn(number: usize, heard: usize, messages: usize) -> bool;
+
+/// What majority complete marks ask.
+pub const MAJORITY: Asked = |_, heard, messages| 2 * heard <= messages;
+/// What zero complete marks ask.
+pub const ZERO: Asked = |_, heard, _| heard == 0;
+/// What mixed marks ask: majority complete in odd rounds, zero complete in even ones.
+pub const MIXED: Asked = |number, heard, messages| {
+    if number % 2 == 1 {
+        2 * heard <= messages
+    } else {
+        heard == 0
+    }
+};
+/// The same in odd rounds, and nothing in even ones.
+pub const ODD_MAJORITY: Asked = |number, heard, messages| number % 2 == 1 && 2 * heard <= messages;
+
+/// A plain form with the marks asked for in every round, and marks that nothing
+/// asks for among them.
+pub fn with_marks(rng: &mut Rng, limits: Limits, asked: Asked) -> Plain {
     let size = size(rng, limits);
     let openings = openings(rng, size.n);
     let habits = mild_habits(rng);
     build(rng, size, openings, |rng, fleet| {
         let mut words = round(rng, size.n, fleet.done as usize + 1, &habits);
-        words[2] |= majority_marks(fleet, &words);
+        words[2] |= marks_asked(fleet, &words, asked);
         words
     })
 }
 
-/// The marks that majority completeness asks for in the next round.
-fn majority_marks(fleet: &Fleet, words: &[u32]) -> u32 {
+/// The marks asked for in the next round.
+fn marks_asked(fleet: &Fleet, words: &[u32], asked: Asked) -> u32 {
     let air = air(fleet, words);
     let messages = air.messages();
     let mut marks = 0;
     for i in air.running_trucks() {
-        if messages > 0 && 2 * air.heard(i) <= messages {
+        if messages > 0 && asked(fleet.done as usize + 1, air.heard(i), messages) {
             marks |= 1 << i;
         }
     }
@@ -284,7 +303,7 @@ pub fn calm(rng: &mut Rng, limits: Limits, majority: bool) -> Calm {
             }
         }
         if majority {
-            words[2] |= majority_marks(fleet, &words);
+            words[2] |= marks_asked(fleet, &words, MAJORITY);
         }
         words
     });
@@ -327,7 +346,7 @@ fn calm_round(rng: &mut Rng, fleet: &Fleet, habits: &Habits, b: u64, majority: b
         }
     }
     if majority {
-        words[2] |= majority_marks(fleet, &words);
+        words[2] |= marks_asked(fleet, &words, MAJORITY);
     }
     words
 }

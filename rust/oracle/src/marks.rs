@@ -57,6 +57,21 @@ pub fn majority_complete(plain: &Plain) -> bool {
     classes_of(plain).iter().all(|c| c.majority)
 }
 
+/// Whether the marks are mixed: majority complete in odd rounds and zero
+/// complete in even ones.
+pub fn mixed(plain: &Plain) -> bool {
+    first_not_mixed(plain).is_none()
+}
+
+/// The first round whose marks are less than that.
+pub fn first_not_mixed(plain: &Plain) -> Option<usize> {
+    let kept = classes_of(plain);
+    (1..=plain.rounds).find(|round| {
+        let classes = kept[round - 1];
+        !(if round % 2 == 1 { classes.majority } else { classes.zero })
+    })
+}
+
 /// The first round that breaks each of complete, majority complete, zero
 /// complete and accurate, or 0.
 pub fn grade(bytes: &[u8]) -> Result<[u16; 4], u8> {

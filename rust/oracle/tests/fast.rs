@@ -30,7 +30,7 @@ fn random_recordings() {
 fn made_recordings() {
     let mut rng = Rng::new(52);
     for k in 0..2_000 {
-        let plain = gen::majority_complete(&mut rng, SMALL);
+        let plain = gen::with_marks(&mut rng, SMALL, gen::MAJORITY);
         assert_eq!(same(&gen::bytes_of(&plain)), 0);
         let made = gen::calm(&mut rng, SMALL, k % 2 == 0);
         assert_eq!(same(&gen::bytes_of(&made.plain)), 0);

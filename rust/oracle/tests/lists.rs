@@ -2,7 +2,7 @@
 
 use oracle::gen::{self, Limits, Rng, FULL, SMALL, TINY};
 use oracle::lists::{agreed, finished_by, play, recording_of, taken, valid};
-use oracle::marks::majority_complete;
+use oracle::marks::{classes_of, majority_complete, mixed};
 use oracle::*;
 
 /// Plays a list and compares it with the run of its recording. Answers the
@@ -81,7 +81,7 @@ fn agreement_and_validity_under_majority_complete_marks() {
             1..=60 => SMALL,
             _ => TINY,
         };
-        let plain = gen::majority_complete(&mut rng, limits);
+        let plain = gen::with_marks(&mut rng, limits, gen::MAJORITY);
         let bytes = gen::bytes_of(&plain);
         let (_, fleet) = run(&bytes);
         assert!(agreed(&fleet), "{bytes:02x?}");
@@ -98,6 +98,60 @@ fn agreement_and_validity_under_majority_complete_marks() {
     assert!(several_decide > 4_000, "{several_decide}");
     assert!(in_different_rounds > 1_000, "{in_different_rounds}");
     assert!(with_losses > 1_000, "{with_losses}");
+}
+
+#[test]
+fn agreement_and_validity_under_mixed_marks() {
+    let mut rng = Rng::new(37);
+    let mut several_decide = 0;
+    let mut not_majority = 0;
+    let mut with_false_marks = 0;
+    let mut with_refused_steps = 0;
+    for k in 0..40_000 {
+        let limits = match k % 400 {
+            0 => FULL,
+            1..=60 => SMALL,
+            _ => TINY,
+        };
+        let plain = gen::with_marks(&mut rng, limits, gen::MIXED);
+        let fleet = if k % 8 == 0 {
+            let bad = rng.pick(&[0, 40, 120]);
+            let list = gen::list_around(&mut rng, &plain, bad);
+            with_refused_steps += (list.steps.len() > plain.rounds) as usize;
+            played_as_run(&list)
+        } else {
+            run(&gen::bytes_of(&plain)).1
+        };
+        assert!(agreed(&fleet) && valid(&fleet, &plain.openings), "{plain:?}");
+        if lists::decisions(&fleet).len() > 1 {
+            several_decide += 1;
+            not_majority += !majority_complete(&plain) as usize;
+            with_false_marks += classes_of(&plain).iter().any(|c| !c.accurate) as usize;
+        }
+    }
+    assert!(several_decide > 4_000, "{several_decide}");
+    assert!(not_majority > 1_000, "{not_majority}");
+    assert!(with_false_marks > 1_000, "{with_false_marks}");
+    assert!(with_refused_steps > 1_000, "{with_refused_steps}");
+}
+
+/// With zero complete marks throughout, and with majority complete ones in odd
+/// rounds alone, trucks come to differ.
+#[test]
+fn each_half_of_mixed_marks_is_needed() {
+    let mut rng = Rng::new(38);
+    for asked in [gen::ZERO, gen::ODD_MAJORITY] {
+        let mut disagreements = 0;
+        for _ in 0..20_000 {
+            let plain = gen::with_marks(&mut rng, TINY, asked);
+            let (_, fleet) = run(&gen::bytes_of(&plain));
+            if !agreed(&fleet) {
+                assert!(!mixed(&plain));
+                disagreements += 1;
+            }
+        }
+        assert!(disagreements > 50, "{disagreements}");
+    }
 }
 
 #[test]
@@ -158,6 +212,7 @@ fn lists_of_calm_and_majority_complete_recordings() {
 #[test]
 fn every_pair_of_rounds_of_two_trucks() {
     let mut complete = 0;
+    let mut weaker = 0;
     for bits in 0u32..1 << 16 {
         let pick = |place: u32, width: u32| bits >> place & ((1 << width) - 1);
         let round = |at: u32| {
@@ -171,10 +226,13 @@ fn every_pair_of_rounds_of_two_trucks() {
         assert!(valid(&fleet, &[3, 5]));
         let grades = grade(&bytes).unwrap();
         assert_eq!(fast::grade(&bytes), Ok(grades));
-        if grades[1] == 0 {
+        if mixed(&read(&bytes).unwrap()) {
             assert!(agreed(&fleet));
-            complete += 1;
+            complete += (grades[1] == 0) as usize;
+            weaker += (grades[1] != 0) as usize;
+        } else {
+            assert!(grades[1] != 0);
         }
     }
-    assert!(complete > 10_000, "{complete}");
+    assert!(complete > 10_000 && weaker > 100, "{complete} {weaker}");
 }

@@ -1,7 +1,7 @@
 //! The four classes, grading, and calm.
 
 use oracle::gen::{self, Rng, FULL, SMALL, TINY};
-use oracle::marks::{airs, classes_of, majority_complete};
+use oracle::marks::{airs, classes_of, first_not_mixed, majority_complete, mixed};
 use oracle::*;
 
 fn plain(openings: &[u8], rounds: &[&[u32]]) -> Plain {
@@ -122,13 +122,63 @@ fn made_majority_complete() {
     let mut false_marks = 0;
     for k in 0..2_000 {
         let limits = if k % 100 == 0 { FULL } else { SMALL };
-        let plain = gen::majority_complete(&mut rng, limits);
+        let plain = gen::with_marks(&mut rng, limits, gen::MAJORITY);
         assert!(majority_complete(&plain));
         let [_, majority, zero, accurate] = grade(&gen::bytes_of(&plain)).unwrap();
         assert_eq!((majority, zero), (0, 0));
         false_marks += (accurate > 0) as usize;
     }
     assert!(false_marks > 200);
+}
+
+#[test]
+fn made_mixed() {
+    let mut rng = Rng::new(23);
+    let (mut weaker, mut false_marks) = (0, 0);
+    for k in 0..2_000 {
+        let limits = if k % 100 == 0 { FULL } else { SMALL };
+        let plain = gen::with_marks(&mut rng, limits, gen::MIXED);
+        assert!(mixed(&plain));
+        let kept = classes_of(&plain);
+        assert!(kept.iter().all(|classes| classes.zero));
+        assert!(kept.iter().step_by(2).all(|classes| classes.majority));
+        weaker += !majority_complete(&plain) as usize;
+        false_marks += kept.iter().any(|classes| !classes.accurate) as usize;
+    }
+    assert!(weaker > 200 && false_marks > 200, "{weaker} {false_marks}");
+}
+
+/// Recordings on which the marks that agreement asks for are met and not met.
+/// How they run is worked out by hand from the rules.
+#[test]
+fn mixed_marks_met_and_broken() {
+    let met = |bytes: &[u8]| {
+        let plain = read(bytes).unwrap();
+        let (_, fleet) = run(bytes);
+        let end: Vec<_> = fleet.trucks_below_n().iter().map(|t| (t.state, t.estimate)).collect();
+        (first_not_mixed(&plain), grade(bytes).unwrap(), end)
+    };
+    let decided = |round, crusher| (State::Decided(round), crusher);
+    // Two trucks hear each other in rounds 1 and 3, truck 0 with a false mark in round 1. In round 2 both veto and hear
+    // half: each its own veto. Both decide the lower crusher.
+    let half_heard = [0x08, 0x04, 0x35, 0x38, 0x00, 0x63, 0x00, 0x00];
+    assert_eq!(met(&half_heard), (None, [2, 2, 0, 1], vec![decided(4, 3), decided(4, 3)]));
+    // C2: half of the messages in an odd round.
+    let c2 = [0x08, 0x02, 0x35, 0x31, 0x80, 0x00];
+    assert_eq!(met(&c2), (Some(1), [1, 1, 0, 0], vec![decided(2, 3), decided(2, 5)]));
+    // Trucks 0 and 1 open with 5 and truck 2 with 3. In round 1 they miss the 3, and hear two of three; in round 2 they miss
+    // the veto of truck 2, and hear none of one. They decide 5, and truck 2, alone by then, decides 3.
+    let veto_missed =
+        [0x0C, 0x04, 0x55, 0x31, 0xC1, 0x20, 0x00, 0x48, 0x04, 0x00, 0x00, 0x00, 0x00];
+    let ends = vec![decided(2, 5), decided(2, 5), decided(4, 3)];
+    assert_eq!(met(&veto_missed), (Some(2), [1, 2, 2, 0], ends));
+    // With a mark in round 2 the two do not decide, and nothing is broken.
+    let mut marked = read(&veto_missed).unwrap();
+    marked.words[6 + 2] = 0b011;
+    let bytes = gen::bytes_of(&marked);
+    let (broken, grades, _) = met(&bytes);
+    assert_eq!((broken, grades), (None, [1, 0, 0, 0]));
+    assert!(lists::decisions(&run(&bytes).1).iter().all(|crusher| *crusher == 3));
 }
 
 /// Two trucks, both active with nothing lost, six rounds: 3 and 5 agree in

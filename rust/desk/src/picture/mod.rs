@@ -15,7 +15,7 @@ use rajvokshul::State;
 
 use crate::story::{Kind, Story};
 use crate::trucks::{counted, grouped};
-use crate::verdict::{counts, first_calm, sentences};
+use crate::verdict::{counts, first_calm, first_weak, sentences};
 
 use layout::{wrapped, Layout};
 
@@ -184,17 +184,18 @@ fn rest(story: &Story, layout: &Layout, truck: usize) -> String {
     )
 }
 
-/// The first round that breaks majority completeness, and five calm rounds, each with its name above the round numbers.
+/// The first round whose marks are less than agreement asks for, and five calm rounds, each with its name above the round
+/// numbers.
 fn highlights(story: &Story, layout: &Layout) -> String {
     let mut svg = String::new();
     let (top, end) = (layout.rows_top, layout.rows_end());
-    if story.grades.majority != 0 {
-        let (x, width) = (layout.round_x(story.grades.majority), layout.scale.cell);
+    if let Some(weak) = first_weak(&story.rounds) {
+        let (x, width) = (layout.round_x(weak.round), layout.scale.cell);
         let (y, height) = (top - 34, end - top + 36);
         svg += &format!(
             "<rect class=\"broken\" x=\"{x}\" y=\"{y}\" width=\"{width}\" height=\"{height}\" rx=\"2\"/>\n"
         );
-        let said = format!("round {}: not majority complete", story.grades.majority);
+        let said = format!("round {}: not {}", weak.round, weak.class);
         svg += &layout.beside("broken-label", &said, (x, x + width), y - 2);
     }
     if let Some(calm) = first_calm(&story.rounds) {

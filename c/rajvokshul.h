@@ -145,7 +145,8 @@ RAJVOKSHUL_NODISCARD
 uint32_t rajvokshul_run(const uint8_t *bytes, size_t bytes_len, uint8_t *record, size_t record_len);
 
 /* Grades a recording: for each class of marks the first round that breaks it, or 0. Four numbers: complete, majority
- * complete, zero complete, accurate. Refusals: 1 to 6, 9. */
+ * complete, zero complete, accurate. Where marks are majority complete in odd rounds and zero complete in even ones, so
+ * wherever the second number is 0, no two trucks decide different crushers. Refusals: 1 to 6, 9. */
 #define RAJVOKSHUL_GRADE_COMPLETE 0
 #define RAJVOKSHUL_GRADE_MAJORITY 1
 #define RAJVOKSHUL_GRADE_ZERO 2

@@ -34,7 +34,7 @@ agreed-by p takes n openings rounds R small h =
       opening = λ i l d. estimates-open (p .rules) n openings rounds small takes R i l;
     }
 
--- with marks that are such marks, a claim of agreement with these holds too
+-- where strong marks are weak marks, agreement with weak ones gives agreement with strong ones
 pub holds-with : (p : Protocol) (strong weak : Marks)
     → ((n : ℕ) (openings : List ℕ) (rounds : ℕ → List ℕ) (R : ℕ) → strong n openings rounds R → weak n openings rounds R)
     → HoldsIn p (agreesWith weak) → HoldsIn p (agreesWith strong)

@@ -34,22 +34,22 @@ abbrev vetoMissed : List ℕ
 vetoMissed = 0x0c ∷ 0x04 ∷ 0x55 ∷ 0x31 ∷ 0xc1 ∷ 0x20 ∷ 0x00 ∷ 0x48 ∷ 0x04 ∷ 0x00 ∷ 0x00 ∷ 0x00 ∷ 0x00 ∷ []
 
 -- round k of a recording, counted from 1, on the radio
-abbrev radioOf : List ℕ → ℕ → Radio
-radioOf s k = radioAt (trucksOf s) (openingsOf s) (roundAt s) k
+abbrev roundOf : List ℕ → ℕ → Radio
+roundOf s k = radioAt (trucksOf s) (openingsOf s) (roundAt s) k
 
 -- whether the marks of each round of a recording are of a worth
 abbrev worths : (ℕ → Radio → Bool) → List ℕ → List Bool
-worths worth s = tab (λ e. worth (suc e) (radioOf s (suc e))) (roundsOf s)
+worths worth s = tab (λ e. worth (suc e) (roundOf s (suc e))) (roundsOf s)
 
 -- how each truck of a recording ends, and its crusher
 abbrev ends : List ℕ → List (State × ℕ)
 ends s = tab (λ i. (truck (ran s .fleet .trucks) i .state, truck (ran s .fleet .trucks) i .estimate)) (trucksOf s)
 
 -- what holds of the rounds of a recording one by one holds of each
-rounds-have : (worth : ℕ → Radio → Bool) (s : List ℕ) → allBelow (λ e. worth (suc e) (radioOf s (suc e))) (roundsOf s) ≡ true
+rounds-have : (worth : ℕ → Radio → Bool) (s : List ℕ) → allBelow (λ e. worth (suc e) (roundOf s (suc e))) (roundsOf s) ≡ true
     → MarksIn twoRound worth (trucksOf s) (openingsOf s) (roundAt s) (roundsOf s)
 rounds-have worth s h zero l m = absurd (omega arith)
-rounds-have worth s h (suc e) l m = allBelow-at (λ e. worth (suc e) (radioOf s (suc e))) (roundsOf s) h e (omega arith)
+rounds-have worth s h (suc e) l m = allBelow-at (λ e. worth (suc e) (roundOf s (suc e))) (roundsOf s) h e (omega arith)
 
 -- majority complete marks but for round 2, mixed marks throughout, false ones among them; both trucks decide 3 in round 4
 pub half-heard : (worths (λ k. majorityComplete) halfHeard ≡ true ∷ false ∷ true ∷ true ∷ []) × (worths twoWorth halfHeard ≡ true ∷ true ∷ true ∷ true ∷ [])
@@ -57,14 +57,11 @@ pub half-heard : (worths (λ k. majorityComplete) halfHeard ≡ true ∷ false �
 unfolding tabFrom tab filled allBelow who first someBelow sent hears heardBy heard judged majorityComplete zeroComplete stateAt bitAt numAt rowAt trucksOf roundsOf openingAt openingsOf wordAt wordsOf roundAt allSame different leastOr radioIn valuesIn playsIn afterIn openedIn trucksIn radiosIn misses missesAny accurate bitsFor bytesFor tooShort badTrucks badRounds badLength endBit ownBit ownLoss frameCheck ownCheck checkOf blank fleetIn ranIn
 half-heard = (refl, refl, refl, refl, refl)
 
--- so the hypothesis of the one claim is met where that of the other is not
-pub mixed-met : MixedMarks (trucksOf halfHeard) (openingsOf halfHeard) (roundAt halfHeard) (roundsOf halfHeard)
+-- so what agreement asks is met, and what demand 3 asks is not
+pub mixed-not-majority : MixedMarks (trucksOf halfHeard) (openingsOf halfHeard) (roundAt halfHeard) (roundsOf halfHeard)
+    × (MajorityMarks (trucksOf halfHeard) (openingsOf halfHeard) (roundAt halfHeard) (roundsOf halfHeard) → ⊥)
 unfolding tabFrom tab filled allBelow who first someBelow sent hears heardBy heard judged majorityComplete zeroComplete stateAt bitAt numAt rowAt trucksOf roundsOf openingAt openingsOf wordAt wordsOf roundAt allSame different leastOr radioIn valuesIn playsIn afterIn openedIn trucksIn radiosIn
-mixed-met = rounds-have twoWorth halfHeard refl
-
-pub majority-unmet : MajorityMarks (trucksOf halfHeard) (openingsOf halfHeard) (roundAt halfHeard) (roundsOf halfHeard) → ⊥
-unfolding tabFrom tab filled allBelow who first someBelow sent hears heardBy heard judged majorityComplete zeroComplete stateAt bitAt numAt rowAt trucksOf roundsOf openingAt openingsOf wordAt wordsOf roundAt allSame different leastOr radioIn valuesIn playsIn afterIn openedIn trucksIn radiosIn
-majority-unmet marks = false≢true (marks 2 (omega arith) (omega arith))
+mixed-not-majority = (rounds-have twoWorth halfHeard refl, λ marks. false≢true (marks 2 (omega arith) (omega arith)))
 
 -- in C2 only the marks of an odd round are too weak, and with a veto missed only those of an even one; in both, two trucks decide differently
 pub too-weak : (worths twoWorth c2 ≡ false ∷ true ∷ []) × (worths (λ k. zeroComplete) c2 ≡ true ∷ true ∷ []) × (ends c2 ≡ (Decided 2, 3) ∷ (Decided 2, 5) ∷ [])

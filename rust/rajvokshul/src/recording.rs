@@ -34,6 +34,10 @@ impl Class {
 
 /// For each class of marks the first round that breaks it, or 0.
 ///
+/// It is proved that no two trucks decide different crushers where marks are majority complete in odd rounds and zero complete
+/// in even ones. So `majority` 0 guarantees agreement, and so does an even `majority` with `zero` 0 where no odd round breaks
+/// [`Class::Majority`] later, which these numbers do not tell: each is the first round alone.
+///
 /// ```
 /// use rajvokshul::{grade, Class};
 ///

@@ -16,8 +16,8 @@ use Rattle.protocol.specs.declared.Fleet.{Fleet}
 use Rattle.protocol.specs.Rules.{recorded, truck}
 use Rattle.protocol.specs.Runs.{openedTrucks, trucksIn, radiosIn}
 use Rattle.protocol.specs.Fleets.{Protocol, blank, startCheck, started, fleetIn, ranIn}
-use Rattle.protocol.specs.Steps.{taken, roundIn}
-use Rattle.protocol.specs.Claims.{Agreed, Marks, Claim, agreesWith, MarksIn, calmIn, decidesIn, HoldsIn, SameIn, DemandIn}
+use Rattle.protocol.specs.Steps.{lastRecordIn, taken, roundIn}
+use Rattle.protocol.specs.Claims.{Agreed, Claim, agreesWith, MarksIn, calmIn, decidesIn, HoldsIn, SameIn, DemandIn}
 use Rattle.protocol.proofs.AnyRound.{Takes, EndedIn, UndecidedIn, SettledIn}
 use Rattle.protocol.proofs.AnyRun.{estimates-open, ended-kept}
 use Rattle.protocol.proofs.Good.{Sound, state-ended, good-at}
@@ -34,14 +34,15 @@ agreed-by p takes n openings rounds R small h =
       opening = λ i l d. estimates-open (p .rules) n openings rounds small takes R i l;
     }
 
--- where strong marks are weak marks, agreement with weak ones gives agreement with strong ones
-pub holds-with : (p : Protocol) (strong weak : Marks)
-    → ((n : ℕ) (openings : List ℕ) (rounds : ℕ → List ℕ) (R : ℕ) → strong n openings rounds R → weak n openings rounds R)
-    → HoldsIn p (agreesWith weak) → HoldsIn p (agreesWith strong)
-holds-with p strong weak are h =
+-- what follows from a claim that holds, holds
+pub holds-of : (p : Protocol) (claim other : Claim)
+    → ((n : ℕ) (openings : List ℕ) (rounds : ℕ → List ℕ) (R : ℕ) (f : Fleet) → claim n openings rounds R f → other n openings rounds R f)
+    → HoldsIn p claim → HoldsIn p other
+holds-of p claim other follows h =
     record {
-      steps = λ n openings steps a marks. h .steps n openings steps a (are n openings (roundIn (taken n steps)) (length (taken n steps)) marks);
-      run = λ s a marks. h .run s a (are (trucksOf s) (openingsOf s) (roundAt s) (roundsOf s) marks);
+      steps = λ n openings steps a.
+          follows n openings (roundIn (taken n steps)) (length (taken n steps)) (lastRecordIn p (started n openings .fleet) steps) (h .steps n openings steps a);
+      run = λ s a. follows (trucksOf s) (openingsOf s) (roundAt s) (roundsOf s) (ranIn p s .fleet) (h .run s a);
     }
 
 -- the facts of a cycle from which its whole claim follows
@@ -55,13 +56,13 @@ pub record Facts (p : Protocol) : Type 0 where
       → CalmRounds (p .calmSpan) (p .proposes) (radiosIn (p .rules) n openings rounds) S b
       → EndedIn recorded n (trucksIn (p .rules) n openings rounds (S + p .calmSpan))
 
-module _ (p : Protocol) (sound : Sound p) where
-  -- an accepted start
-  start : (n : ℕ) (openings : List ℕ) → started n openings .outcome ≡ Accepted → Start n openings
-  unfolding started
-  start n openings h =
-      start-by n openings (accepted-by (startCheck n openings) (record { n = n; done = 0; trucks = openedTrucks openings }) blank h .0)
+-- what an accepted start fixes
+accepted-start : (n : ℕ) (openings : List ℕ) → started n openings .outcome ≡ Accepted → Start n openings
+unfolding started
+accepted-start n openings h =
+    start-by n openings (accepted-by (startCheck n openings) (record { n = n; done = 0; trucks = openedTrucks openings }) blank h .0)
 
+module _ (p : Protocol) (sound : Sound p) where
   -- a claim that holds of what any rounds leave of up to 32 trucks holds of lists of steps and of runs
   pub holds-by : (claim : Claim)
       → ((n : ℕ) (openings : List ℕ) (rounds : ℕ → List ℕ) (R : ℕ) → n ≤ 32 → GoodOpenings n openings
@@ -71,7 +72,7 @@ module _ (p : Protocol) (sound : Sound p) where
   holds-by claim at =
       record {
         steps = λ n openings steps h.
-            (let s = start n openings h in
+            (let s = accepted-start n openings h in
             rw (steps-are p sound n openings s steps)
             (at n openings (roundIn (taken n steps)) (length (taken n steps)) (s .most) (openings-in n openings (s .crushers))));
         run = λ s h.
@@ -82,7 +83,7 @@ module _ (p : Protocol) (sound : Sound p) where
   -- stepped or run the same
   pub same-by : (n : ℕ) (openings : List ℕ) (steps : List (List ℕ)) → started n openings .outcome ≡ Accepted → SameIn p n openings steps
   same-by n openings steps h =
-      let s = start n openings h in
+      let s = accepted-start n openings h in
       let e = steps-are p sound n openings s steps in
       record {
         nextStep = λ w. rw e (step-outcome p sound n openings s (roundIn (taken n steps)) (length (taken n steps)) w (omega (arith, taken-few n 0 steps (omega arith))));

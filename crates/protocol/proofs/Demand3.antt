@@ -1,9 +1,9 @@
 -- The whole of demand 3, for the definitions that the contracts of starting, stepping and running cite, and agreement with cheaper marks, from which its agreement
 -- part follows.
-use mathlib.Core.Path.{_≡_, refl, ap, _∙_}
+use mathlib.Core.Path.{_≡_, refl}
 use mathlib.Core.Bool.{Bool, true, false}
 use mathlib.Core.List.{List}
-use Prim.Native.Nat.{ℕ, _+_, _≤_, _<_}
+use Prim.Native.Nat.{ℕ, _+_, _<_}
 use Rattle.basics.specs.Bits.{odd}
 use Rattle.radio.specs.Radio.{Radio, majorityComplete}
 use Rattle.radio.proofs.Laws.{majority-zero}
@@ -11,10 +11,10 @@ use Rattle.protocol.specs.declared.Fleet.{Fleet}
 use Rattle.protocol.specs.Rules.{truck}
 use Rattle.protocol.specs.Runs.{radioAt, calm}
 use Rattle.protocol.specs.Fleets.{twoWorth, twoRound}
-use Rattle.protocol.specs.Claims.{EndedBy, MarksIn, calmIn, decidesIn, DemandIn, MajorityMarks, MixedMarks, Demand, MajorityAgreement, MixedAgreement}
+use Rattle.protocol.specs.Claims.{EndedBy, agreesWith, MarksIn, calmIn, decidesIn, DemandIn, MajorityMarks, MixedMarks, Demand, MajorityAgreement, MixedAgreement}
 use Rattle.protocol.proofs.OneRound.{sound-two}
 use Rattle.protocol.proofs.Whole.{mixed-agrees, calm-ends}
-use Rattle.protocol.proofs.Demand.{Facts, holds-with, demand-by}
+use Rattle.protocol.proofs.Demand.{Facts, holds-of, demand-by}
 
 facts-two : Facts twoRound
 facts-two =
@@ -42,7 +42,8 @@ majority-mixed n openings rounds R marks k l m = go (radioAt n openings rounds k
 
 -- so the agreement part of demand 3 follows
 pub majority-agreement : MixedAgreement → MajorityAgreement
-majority-agreement = holds-with twoRound MajorityMarks MixedMarks majority-mixed
+majority-agreement =
+    holds-of twoRound (agreesWith MixedMarks) (agreesWith MajorityMarks) (λ n openings rounds R f agrees marks. agrees (majority-mixed n openings rounds R marks))
 
 -- demand 3
 pub demand-3 : Demand

@@ -224,14 +224,12 @@ pub const MAJORITY: Asked = |_, heard, messages| 2 * heard <= messages;
 pub const ZERO: Asked = |_, heard, _| heard == 0;
 /// What mixed marks ask: majority complete in odd rounds, zero complete in even ones.
 pub const MIXED: Asked = |number, heard, messages| {
-    if number % 2 == 1 {
-        2 * heard <= messages
-    } else {
-        heard == 0
-    }
+    let asked = if number % 2 == 1 { MAJORITY } else { ZERO };
+    asked(number, heard, messages)
 };
-/// The same in odd rounds, and nothing in even ones.
-pub const ODD_MAJORITY: Asked = |number, heard, messages| number % 2 == 1 && 2 * heard <= messages;
+/// Majority complete in odd rounds, and nothing in even ones.
+pub const ODD_MAJORITY: Asked =
+    |number, heard, messages| number % 2 == 1 && MAJORITY(number, heard, messages);
 
 /// A plain form with the marks asked for in every round, and marks that nothing
 /// asks for among them.

@@ -1,4 +1,4 @@
--- The starred cases C1 to C12 of document 01, a row for each thing that it says of them.
+-- The starred cases C1 to C12 of document 01, a row for each thing that it says of them, and cases of F-2 of document 02.
 use mathlib.Core.List.{List, [], _∷_}
 use Prim.Native.Nat.{ℕ}
 use lib.ListN.{replicate}
@@ -72,4 +72,20 @@ table =
     ∷ (opens (500 ∷ 900 ∷ []) (0 ∷ 300 ∷ []) (40 ∷ 60 ∷ []) ⟶ opening (0, 1 ∷ []))
     ∷ (opens (500 ∷ []) (0 ∷ []) (40 ∷ []) ⟶ opening (13, []))
     ∷ (opens (500 ∷ []) (1 ∷ []) (0 ∷ []) ⟶ opening (12, []))
+    -- F-2: a road of length 0 takes 0 seconds, idle or not; alone, beside a longer road, beside a longer idle one
+    ∷ (takes 0 0 40 ⟶ exactly (0, 0))
+    ∷ (takes 0 0 0 ⟶ exactly (0, 0))
+    ∷ (takes 0 5 60 ⟶ exactly (0, 0))
+    ∷ (opens (0 ∷ []) (0 ∷ []) (40 ∷ []) ⟶ opening (0, 0 ∷ []))
+    ∷ (opens (900 ∷ 0 ∷ []) (300 ∷ 0 ∷ []) (60 ∷ 0 ∷ []) ⟶ opening (0, 1 ∷ []))
+    ∷ (opens (500 ∷ 0 ∷ []) (0 ∷ 0 ∷ []) (40 ∷ 0 ∷ []) ⟶ opening (0, 1 ∷ []))
+    -- two roads of length 0, the idle one before and after the other
+    ∷ (opens (900 ∷ 0 ∷ 0 ∷ []) (300 ∷ 0 ∷ 5 ∷ []) (60 ∷ 40 ∷ 60 ∷ []) ⟶ opening (0, 1 ∷ []))
+    ∷ (opens (900 ∷ 0 ∷ 0 ∷ []) (300 ∷ 5 ∷ 0 ∷ []) (60 ∷ 60 ∷ 0 ∷ []) ⟶ opening (0, 1 ∷ []))
+    -- 11 and 12 are asked of length 0 too, and 12 of a longer road beside it; every road idle and longer than 0
+    ∷ (opens (0 ∷ []) (0 ∷ []) (3601 ∷ []) ⟶ opening (11, []))
+    ∷ (opens (0 ∷ []) (5 ∷ []) (0 ∷ []) ⟶ opening (12, []))
+    ∷ (opens (500 ∷ []) (7 ∷ []) (0 ∷ []) ⟶ opening (12, []))
+    ∷ (opens (0 ∷ 500 ∷ []) (0 ∷ 7 ∷ []) (40 ∷ 0 ∷ []) ⟶ opening (12, []))
+    ∷ (opens (500 ∷ 1 ∷ []) (0 ∷ 0 ∷ []) (40 ∷ 0 ∷ []) ⟶ opening (13, []))
     ∷ []

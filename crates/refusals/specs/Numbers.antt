@@ -33,7 +33,7 @@ numberOf RoadLists = 10
 numberOf Seconds = 11
 -- metres above 0 in 0 seconds
 numberOf NoTime = 12
--- every road idle
+-- every road idle and longer than 0
 numberOf AllIdle = 13
 -- a step with 400 rounds already done
 numberOf RoundsDone = 14

@@ -17,10 +17,10 @@ use Rattle.roads.specs.declared.Opening.{Opening}
 use Rattle.roads.specs.declared.Opening.the-variants.{Crusher, Refused}
 use Rattle.roads.specs.declared.Fastest.{Fastest}
 use Rattle.roads.specs.declared.Fastest.the-variants.{Road as Chose, NoRoad}
-use Rattle.roads.specs.Opening.{Road, roadAt, idle, numerator, denominator, badLists, secondsAbove, noTime, allIdle, leastRoad, openingCheck, crusherAs, openingOf}
+use Rattle.roads.specs.Opening.{Road, roadAt, passedOver, numerator, denominator, badLists, secondsAbove, noTime, allPassedOver, leastRoad, openingCheck, crusherAs, openingOf}
 use Rattle.roads.specs.Choice.{chosenBelow, estimateAt}
-use Rattle.roads.proofs.Estimates.{estimate-exact, in-range}
-use Rattle.roads.proofs.Least.{time-there, least-is}
+use Rattle.roads.proofs.Estimates.{SixteenBits, estimate-exact, in-range}
+use Rattle.roads.proofs.Least.{LeastRoad, least-is}
 use Rattle.roads.proofs.Chosen.{Chosen, chosen-least}
 
 -- ---- the answer by its four tests
@@ -28,7 +28,7 @@ abbrev pub openingBy : Bool → Bool → Bool → Bool → ℕ → Opening
 openingBy a b c d k = crusherAs (refuse a RoadLists (refuse b Seconds (refuse c NoTime (refuse d AllIdle Accepted)))) k
 
 pub opening-by : (l m s : List ℕ)
-    → openingOf l m s ≡ openingBy (badLists l m s) (secondsAbove s) (noTime m s) (allIdle (roadAt l m s) (length l)) (leastRoad (roadAt l m s) (length l))
+    → openingOf l m s ≡ openingBy (badLists l m s) (secondsAbove s) (noTime m s) (allPassedOver (roadAt l m s) (length l)) (leastRoad (roadAt l m s) (length l))
 unfolding openingOf openingCheck
 opening-by l m s = refl
 
@@ -54,19 +54,22 @@ abbrev pub Short : List ℕ → Type 0
 Short l = (k : ℕ) → getD l k 0 < 2 ^ 16
 
 abbrev ChosenRoad : (ℕ → Road) → ℕ → Fastest → Type 0
-ChosenRoad road n best = Chosen (λ k. idle (road k)) (λ k. numerator (road k)) (λ k. denominator (road k)) n best
+ChosenRoad road n best = Chosen (λ k. passedOver (road k)) (λ k. numerator (road k)) (λ k. denominator (road k)) n best
 
 module _ (l m s : List ℕ) (L : Short l) (M : Short m) (S : Short s) where
-  small : (k : ℕ) → idle (roadAt l m s k) ≡ false → Small (numerator (roadAt l m s k)) (denominator (roadAt l m s k))
-  small k h = in-range (getD l k 0) (getD m k 0) (getD s k 0) (L k) (M k) (S k) (time-there (roadAt l m s k) h)
+  bits : (k : ℕ) → SixteenBits (roadAt l m s k)
+  bits k = (L k, M k, S k)
 
   chosen : (best : Fastest) → best ≡ chosenBelow (estimateAt l m s) (length l) → ChosenRoad (roadAt l m s) (length l) best
   chosen best e =
       subst (ChosenRoad (roadAt l m s) (length l)) (sym e)
-      (chosen-least (λ k. idle (roadAt l m s k)) (λ k. numerator (roadAt l m s k)) (λ k. denominator (roadAt l m s k)) small (estimateAt l m s)
-      (λ k. estimate-exact (getD l k 0) (getD m k 0) (getD s k 0) (L k) (M k) (S k)) (length l))
+      (chosen-least (λ k. passedOver (roadAt l m s k)) (λ k. numerator (roadAt l m s k)) (λ k. denominator (roadAt l m s k)) (λ k. in-range (roadAt l m s k) (bits k)) (estimateAt l m s)
+      (λ k. estimate-exact (roadAt l m s k) (bits k)) (length l))
 
 -- ---- the answer at each return
+at-crusher : {a b c d : Bool} {i k : ℕ} → a ≡ false → b ≡ false → c ≡ false → d ≡ false → i ≡ k → Crusher k ≡ openingBy a b c d i
+at-crusher p q r t e = rw (p, q, r, t, e)
+
 not-all : (p : ℕ → Bool) (n k : ℕ) → k < n → p k ≡ false → allBelow p n ≡ false
 not-all p n k l h = go (allBelow p n) (λ e. allBelow-at p n e k l)
   where
@@ -84,18 +87,17 @@ module _ (l m s : List ℕ) where
   pub opening-12 : badLists l m s ≡ false → secondsAbove s ≡ false → noTime m s ≡ true → Refused NoTime ≡ openingOf l m s
   opening-12 p q r = rw (opening-by l m s, p, q, r)
 
-  module _ (p : badLists l m s ≡ false) (q : secondsAbove s ≡ false) (r : noTime m s ≡ false) (L : Short l) (M : Short m) (S : Short s) (best : Fastest) (e : best ≡ chosenBelow (estimateAt l m s) (length l)) where
-    pub opening-13 : best ≡ NoRoad → Refused AllIdle ≡ openingOf l m s
-    opening-13 f = rw (opening-by l m s, p, q, r, allBelow-all (λ k. idle (roadAt l m s k)) (length l) (chosen l m s L M S NoRoad (sym f ∙ e)))
+  module _ (p : badLists l m s ≡ false) (q : secondsAbove s ≡ false) (r : noTime m s ≡ false) where
+    -- the road of least exact time, where there is one
+    pub opening-at : (k : ℕ) → LeastRoad (roadAt l m s) (length l) k → Crusher k ≡ openingOf l m s
+    opening-at k h =
+        at-crusher p q r (not-all (λ j. passedOver (roadAt l m s j)) (length l) k (h .below) (h .takes-part))
+        (least-is (λ j. passedOver (roadAt l m s j)) (λ j. numerator (roadAt l m s j)) (λ j. denominator (roadAt l m s j)) (length l) k h)
+        ∙ sym (opening-by l m s)
 
-    pub opening-road : (k : ℕ) (t : Float) → best ≡ Chose k t → Crusher k ≡ openingOf l m s
-    opening-road k t f =
-        let h = chosen l m s L M S (Chose k t) (sym f ∙ e) .1 in
-        rw (
-          opening-by l m s,
-          p,
-          q,
-          r,
-          not-all (λ j. idle (roadAt l m s j)) (length l) k (h .below) (h .moving),
-          least-is (λ j. idle (roadAt l m s j)) (λ j. numerator (roadAt l m s j)) (λ j. denominator (roadAt l m s j)) (length l) k h,
-        )
+    module _ (L : Short l) (M : Short m) (S : Short s) (best : Fastest) (e : best ≡ chosenBelow (estimateAt l m s) (length l)) where
+      pub opening-13 : best ≡ NoRoad → Refused AllIdle ≡ openingOf l m s
+      opening-13 f = rw (opening-by l m s, p, q, r, allBelow-all (λ k. passedOver (roadAt l m s k)) (length l) (chosen l m s L M S NoRoad (sym f ∙ e)))
+
+      pub opening-road : (k : ℕ) (t : Float) → best ≡ Chose k t → Crusher k ≡ openingOf l m s
+      opening-road k t f = opening-at k (chosen l m s L M S (Chose k t) (sym f ∙ e) .1)

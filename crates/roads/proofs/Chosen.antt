@@ -24,7 +24,7 @@ module _ (passed : ℕ → Bool) (num den : ℕ → ℕ) (small : (k : ℕ) → 
   -- one comparison of two estimates is one of the fractions
   compared : (n k : ℕ) (t : Float) (b : Bool) → passed n ≡ false → Chosen passed num den n (Road k t) → lt (round binary64 false (num n) (den n)) t ≡ b
       → Chosen passed num den (suc n) (cond b (Road n (round binary64 false (num n) (den n))) (Road k t))
-  compared n k t b p h e = go b (sym (order (num n) (den n) (num k) (den k) (small n p) (small k (h .1 .moving))) ∙ ap (lt (round binary64 false (num n) (den n))) (sym (h .0)) ∙ e)
+  compared n k t b p h e = go b (sym (order (num n) (den n) (num k) (den k) (small n p) (small k (h .1 .takes-part))) ∙ ap (lt (round binary64 false (num n) (den n))) (sym (h .0)) ∙ e)
     where
       go : (b : Bool) → ltb (num n * den k) (num k * den n) ≡ b → Chosen passed num den (suc n) (cond b (Road n (round binary64 false (num n) (den n))) (Road k t))
       go true l = (refl, takes-over passed num den (λ i q. small i q .0) n k (h .1) p (ltb-true (num n * den k) (num k * den n) l))

@@ -3,31 +3,27 @@ use mathlib.Core.Path.{_≡_, refl, sym, _∙_}
 use mathlib.Core.Logic.{_⊎_, inl, inr}
 use mathlib.Core.Bool.{Bool, true, false, not, _&&_, _||_, true≢false, false≢true}
 use Prim.Native.Nat.{ℕ, zero, suc, _*_, _≤_, _<_}
-use native.Mathlib.Nat.{le-refl, le-of-lt, mul-lt-mul-of-pos-right, mul-le-mul-right, lt-of-mul-lt-mul-right}
+use native.Mathlib.Nat.{le-refl, le-of-lt, zero-mul, mul-pos, mul-lt-mul-of-pos-right, mul-le-mul-right, lt-of-mul-lt-mul-right}
 use native.Mathlib.Decide.{decLt}
 use native.Mathlib.Omega.{arith}
-use borrow.Author.Tests.{lt-ltb, le-ltb, eqb-false}
+use borrow.Author.Tests.{lt-ltb, le-ltb}
 use borrow.Author.Count.{below-more}
 use Rattle.basics.specs.Lists.{allBelow}
 use Rattle.basics.proofs.Laws.{and-both, allBelow-at, allBelow-all, first-unique}
-use Rattle.roads.specs.Opening.{Road, idle, numerator, denominator, faster, fastest, least}
+use Rattle.roads.specs.Opening.{Road, passedOver, numerator, denominator, faster, fastest, least}
 
 -- k is the least of the fractions num / den below n that are not passed over, and the first of those equal to it
 pub record LeastBelow (passed : ℕ → Bool) (num den : ℕ → ℕ) (n k : ℕ) : Type 0 where
   pub below : k < n
-  pub moving : passed k ≡ false
+  pub takes-part : passed k ≡ false
   -- no fraction is smaller
   pub smallest : (j : ℕ) → j < n → passed j ≡ false → num k * den j ≤ num j * den k
   -- each one before it is larger, so none of the same size has a lower number
   pub lowest : (j : ℕ) → j < k → passed j ≡ false → num k * den j < num j * den k
 
--- Of roads: road k is not idle, no road that is not idle takes less exact time, and none of the same time has a lower number.
+-- Of roads: road k is not passed over, no road that takes part takes less exact time, and none of the same time has a lower number.
 abbrev pub LeastRoad : (ℕ → Road) → ℕ → ℕ → Type 0
-LeastRoad road n k = LeastBelow (λ j. idle (road j)) (λ j. numerator (road j)) (λ j. denominator (road j)) n k
-
--- the time of a road that is not idle is a fraction
-pub time-there : (r : Road) → idle r ≡ false → 0 < denominator r
-time-there r h = omega (arith, eqb-false (r .metres) 0 h)
+LeastRoad road n k = LeastBelow (λ j. passedOver (road j)) (λ j. numerator (road j)) (λ j. denominator (road j)) n k
 
 -- x / p < y / q ≤ z / r
 strictly : (x y z p q r : ℕ) → 0 < r → x * q < y * p → y * r ≤ z * q → x * r < z * p
@@ -45,11 +41,11 @@ module _ (passed : ℕ → Bool) (num den : ℕ → ℕ) where
   slower n j k h l false p = go (allBelow (λ i. passed i || not (faster num den i j)) n) (λ e. allBelow-at (λ i. passed i || not (faster num den i j)) n e k (h .below))
     where
       go : (b : Bool) → (b ≡ true → (passed k || not (faster num den k j)) ≡ true) → b ≡ false
-      go true f = absurd (false≢true (rw (h .moving, lt-ltb (num k * den j) (num j * den k) (h .lowest j l p)) at (f refl)))
+      go true f = absurd (false≢true (rw (h .takes-part, lt-ltb (num k * den j) (num j * den k) (h .lowest j l p)) at (f refl)))
       go false f = refl
 
   not-slower : (n k : ℕ) → LeastBelow passed num den n k → fastest passed num den n k ≡ true
-  not-slower n k h = and-both (not (passed k)) (allBelow (λ j. passed j || not (faster num den j k)) n) (rw (h .moving)) (allBelow-all (λ j. passed j || not (faster num den j k)) n (λ j l. go j l (passed j) refl))
+  not-slower n k h = and-both (not (passed k)) (allBelow (λ j. passed j || not (faster num den j k)) n) (rw (h .takes-part)) (allBelow-all (λ j. passed j || not (faster num den j k)) n (λ j l. go j l (passed j) refl))
     where
       go : (j : ℕ) → j < n → (b : Bool) → passed j ≡ b → (b || not (faster num den j k)) ≡ true
       go j l true p = refl
@@ -65,7 +61,7 @@ module _ (passed : ℕ → Bool) (num den : ℕ → ℕ) where
   pub stays : (n k : ℕ) → LeastBelow passed num den n k → (passed n ≡ false → num k * den n ≤ num n * den k) → LeastBelow passed num den (suc n) k
   stays n k h f = record {
     below = omega (arith, h .below);
-    moving = h .moving;
+    takes-part = h .takes-part;
     smallest = λ j l. below-more (λ i. passed i ≡ false → num k * den i ≤ num i * den k) n (h .smallest) f j (omega arith);
     lowest = h .lowest;
   }
@@ -74,10 +70,22 @@ module _ (passed : ℕ → Bool) (num den : ℕ → ℕ) where
   pub begins : (n : ℕ) → ((j : ℕ) → j < n → passed j ≡ true) → passed n ≡ false → LeastBelow passed num den (suc n) n
   begins n f p = record {
     below = omega arith;
-    moving = p;
+    takes-part = p;
     smallest = λ j l. below-more (λ i. passed i ≡ false → num n * den i ≤ num i * den n) n (λ i o q. absurd (true≢false (sym (f i o) ∙ q))) (λ q. le-refl (num n * den n)) j (omega arith);
     lowest = λ j l q. absurd (true≢false (sym (f j l) ∙ q));
   }
+
+  -- 0, where none before it is
+  pub zero-least : (n k : ℕ) → k < n → passed k ≡ false → num k ≡ 0 → 0 < den k → ((j : ℕ) → j < k → passed j ≡ false → 0 < num j) → LeastBelow passed num den n k
+  zero-least n k l p z d f = record {
+    below = l;
+    takes-part = p;
+    smallest = λ j o q. omega (arith, none j);
+    lowest = λ j o q. omega (arith, none j, mul-pos (f j o q) d);
+  }
+    where
+      none : (j : ℕ) → num k * den j ≡ 0
+      none j = rw z (zero-mul (den j))
 
   module _ (den-pos : (k : ℕ) → passed k ≡ false → 0 < den k) where
     -- n is smaller
@@ -86,7 +94,7 @@ module _ (passed : ℕ → Bool) (num den : ℕ → ℕ) where
         let over : (j : ℕ) → j < n → passed j ≡ false → num n * den j < num j * den n = λ j o q. strictly (num n) (num k) (num j) (den n) (den k) (den j) (den-pos j q) l (h .smallest j o q) in
         record {
           below = omega arith;
-          moving = p;
+          takes-part = p;
           smallest = λ j o. below-more (λ i. passed i ≡ false → num n * den i ≤ num i * den n) n (λ i e q. le-of-lt (over i e q)) (λ q. le-refl (num n * den n)) j (omega arith);
           lowest = over;
         }

@@ -1,4 +1,5 @@
 pub mod Meaning
+pub mod Roads
 pub mod Least
 pub mod Estimates
 pub mod Choice

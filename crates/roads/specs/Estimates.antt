@@ -1,4 +1,4 @@
--- A road's leg and its estimate (document 01, 'The opening crusher').
+-- A road's leg and its estimate (document 01, 'The opening crusher'; document 02, F-2).
 use Prim.Native.Nat.{ℕ}
 use mathlib.Core.Bool.{cond}
 use lib.IntN.{pos}
@@ -19,6 +19,6 @@ legOf length metres seconds = record { length = float length; metres = float met
 abbrev pub quotientOf : Leg → Float
 quotientOf leg = div binary64 (mul binary64 (leg .length) (leg .seconds)) (leg .metres)
 
--- 01's estimate: idle where the last run covered 0 metres, else the number of seconds
+-- F-2's estimate: 0 seconds at length 0, idle or not; else 01's, idle where the last run covered 0 metres, else the number of seconds
 abbrev pub estimateOf : Leg → Estimate
-estimateOf leg = cond (eq (leg .metres) (float 0)) Idle (Seconds (quotientOf leg))
+estimateOf leg = cond (eq (leg .length) (float 0)) (Seconds (float 0)) (cond (eq (leg .metres) (float 0)) Idle (Seconds (quotientOf leg)))

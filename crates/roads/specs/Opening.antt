@@ -1,6 +1,7 @@
--- The opening crusher of three lists of whole numbers, and its refusals (document 01, 'The opening crusher' and refusals 10 to 13).
+-- The opening crusher of three lists of whole numbers, and its refusals (document 01, 'The opening crusher' and refusals 10 to 13; document
+-- 02, F-2).
 use Prim.Native.Nat.{ℕ, _*_}
-use mathlib.Core.Bool.{Bool, not, _&&_, _||_}
+use mathlib.Core.Bool.{Bool, cond, not, _&&_, _||_}
 use mathlib.Core.List.{List, [], _∷_}
 use lib.Dec.{ltb, eqb}
 use lib.ListN.{length, getD}
@@ -27,12 +28,17 @@ roadAt lengths metres seconds k = record { length = getD lengths k 0; metres = g
 abbrev pub idle : Road → Bool
 idle r = eqb (r .metres) 0
 
--- a road's exact time is the fraction `numerator` / `denominator`: length times seconds, divided by metres
+-- passed over: idle and longer than 0
+abbrev pub passedOver : Road → Bool
+passedOver r = idle r && ltb 0 (r .length)
+
+-- The exact time of a road that is not passed over is the fraction `numerator` / `denominator`: length times seconds, divided by metres.
+-- A road of length 0, idle or not, takes 0 / 1 seconds.
 abbrev pub numerator : Road → ℕ
 numerator r = r .length * r .seconds
 
 abbrev pub denominator : Road → ℕ
-denominator r = r .metres
+denominator r = cond (eqb (r .length) 0) 1 (r .metres)
 
 -- ---- the least of n fractions, some of them passed over
 
@@ -64,9 +70,9 @@ secondsAbove seconds = someBelow (λ k. ltb 3600 (getD seconds k 0)) (length sec
 abbrev pub noTime : List ℕ → List ℕ → Bool
 noTime metres seconds = someBelow (λ k. ltb 0 (getD metres k 0) && eqb (getD seconds k 0) 0) (length seconds)
 
--- 13: every road idle
-abbrev pub allIdle : (ℕ → Road) → ℕ → Bool
-allIdle road n = allBelow (λ k. idle (road k)) n
+-- 13: every road idle and longer than 0
+abbrev pub allPassedOver : (ℕ → Road) → ℕ → Bool
+allPassedOver road n = allBelow (λ k. passedOver (road k)) n
 
 -- 10 to 13, in this order
 unfoldable pub openingCheck : List ℕ → List ℕ → List ℕ → Outcome
@@ -74,14 +80,14 @@ openingCheck lengths metres seconds =
     refuse (badLists lengths metres seconds) RoadLists
     (refuse (secondsAbove seconds) Seconds
     (refuse (noTime metres seconds) NoTime
-    (refuse (allIdle (roadAt lengths metres seconds) (length lengths)) AllIdle
+    (refuse (allPassedOver (roadAt lengths metres seconds) (length lengths)) AllIdle
     Accepted)))
 
 -- ---- the answer
 
--- the road of least exact time, idle roads passed over
+-- the road of least exact time among those that are not passed over
 abbrev pub leastRoad : (ℕ → Road) → ℕ → ℕ
-leastRoad road n = least (λ k. idle (road k)) (λ k. numerator (road k)) (λ k. denominator (road k)) n
+leastRoad road n = least (λ k. passedOver (road k)) (λ k. numerator (road k)) (λ k. denominator (road k)) n
 
 -- by the outcome of the check: crusher k where it accepts
 abbrev pub crusherAs : Outcome → ℕ → Opening

@@ -1,5 +1,5 @@
-// The opening crusher (document 01): the road of least exact time. The code chooses by float estimates, whose order is proved
-// to be that of the exact fractions.
+// The opening crusher (document 01, and F-2 of document 02): the road of least exact time. The code chooses by float estimates,
+// whose order is proved to be that of the exact fractions.
 use refusals::Refusal;
 ghost use mathlib.Core.Path.{_≡_};
 ghost use Prim.Native.Nat.{_≤_};
@@ -15,7 +15,8 @@ pub struct Leg {
     pub seconds: f64,
 }
 
-// A road's estimate. There is no quotient for an idle road.
+// A road's estimate: the seconds that it takes, or that it is passed over, being idle and longer than 0. There is no quotient by 0
+// metres.
 pub enum Estimate {
     Seconds(f64),
     Idle,
@@ -44,10 +45,13 @@ pub fn leg_of(length: u16, metres: u16, seconds: u16) -> Leg
     }
 }
 
-// One product and one division. 0 metres is tested first, so that no quotient is formed by it.
+// One product and one division. Length 0 takes 0 seconds, and 0 metres are tested before a quotient is formed by them.
 pub fn estimate_of(leg: Leg) -> Estimate
     ensures { λ r. ⌜ r ≡ estimateOf leg ⌝ }
 {
+    if leg.length == 0.0 {
+        return Estimate::Seconds(0.0);
+    }
     if leg.metres == 0.0 {
         return Estimate::Idle;
     }
@@ -110,7 +114,7 @@ fn without_time(metres: &[u16], seconds: &[u16]) -> bool
     false
 }
 
-// The road of the smallest estimate, idle roads passed over.
+// The road of the smallest estimate, among those that are not passed over.
 fn fastest_road(lengths: &[u16], metres: &[u16], seconds: &[u16]) -> Fastest
     requires { ⌜ (length (now metres) ≡ length (now lengths)) × (length (now seconds) ≡ length (now lengths)) × (length (now lengths) ≤ 16) ⌝ }
     ensures { λ r. ⌜ r ≡ chosenBelow (estimateAt (now (lengths .entry)) (now (metres .entry)) (now (seconds .entry))) (length (now (lengths .entry))) ⌝ }

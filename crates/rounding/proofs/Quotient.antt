@@ -46,7 +46,7 @@ module _ (f : Format) (x y : Float) (a c b d : ℕ) (C : 0 < c) (D : 0 < d) (p :
 -- ---- of whole numbers
 
 -- a whole number that the format holds, as a float
-whole : (n : ℕ) → n ≤ 2 ^ 53 → HasValue (ofInt binary64 (pos n)) false n 1
+pub whole : (n : ℕ) → n ≤ 2 ^ 53 → HasValue (ofInt binary64 (pos n)) false n 1
 unfolding ofInt
 whole n h = round-whole binary64 false n h
 

@@ -397,22 +397,24 @@ fn deciding_in_calm_rounds() {
     }
 }
 
+/// The library answers road lists as the independent reading does; the crusher, where they are accepted.
+fn check_roads(r: &gen::Roads) -> Option<u8> {
+    let mut crusher = 99;
+    let number = checks::opening(&r.lengths, &r.metres, &r.seconds, &mut crusher);
+    match oracle::opening(&r.lengths, &r.metres, &r.seconds) {
+        Ok(k) => assert_eq!((number, crusher), (0, k), "{r:?}"),
+        Err(k) => assert_eq!((number, crusher), (u32::from(k), 99), "{r:?}"),
+    }
+    (number == 0).then_some(crusher)
+}
+
 #[test]
 fn roads() {
     let mut rng = Rng::new(13);
-    let check = |r: &gen::Roads| {
-        let mut crusher = 99;
-        let number = checks::opening(&r.lengths, &r.metres, &r.seconds, &mut crusher);
-        match oracle::opening(&r.lengths, &r.metres, &r.seconds) {
-            Ok(k) => assert_eq!((number, crusher), (0, k)),
-            Err(k) => assert_eq!((number, crusher), (u32::from(k), 99)),
-        }
-    };
     for k in 0..times(60_000) {
-        let r = gen::roads(&mut rng);
-        check(&r);
-        check(&gen::refused_roads(&mut rng, 10 + (k % 4) as u8));
-        check(&gen::Roads::of(&gen::near_tie(&mut rng)));
+        check_roads(&gen::roads(&mut rng));
+        check_roads(&gen::refused_roads(&mut rng, 10 + (k % 4) as u8));
+        check_roads(&gen::Roads::of(&gen::near_tie(&mut rng)));
     }
     // a tie at every pair of places of 16 roads
     for a in 0..16 {
@@ -420,15 +422,30 @@ fn roads() {
             let mut roads = [(60_000, 1, 3_600); 16];
             roads[a] = (1200, 600, 90);
             roads[b] = (900, 300, 60);
-            let r = gen::Roads::of(&roads);
-            let mut crusher = 99;
-            assert_eq!(checks::opening(&r.lengths, &r.metres, &r.seconds, &mut crusher), 0);
-            assert_eq!(crusher, a as u8);
+            assert_eq!(check_roads(&gen::Roads::of(&roads)), Some(a as u8));
         }
     }
     for pair in gen::CLOSE_PAIRS {
-        check(&gen::Roads::of(&pair));
-        check(&gen::Roads::of(&[pair[1], pair[0]]));
+        check_roads(&gen::Roads::of(&pair));
+        check_roads(&gen::Roads::of(&[pair[1], pair[0]]));
+    }
+}
+
+/// Two roads of length 0 at every pair of places of 16, idle or not, the others short or passed over; and every list of small roads.
+#[test]
+fn roads_of_length_0() {
+    let pairs = [[(0, 0, 40), (0, 5, 60)], [(0, 5, 60), (0, 0, 0)], [(0, 0, 0), (0, 0, 0)]];
+    for (a, b) in (0..16).flat_map(|a| (a + 1..16).map(move |b| (a, b))) {
+        for pair in pairs {
+            for other in [(1, 65_535, 1), (1, 0, 0)] {
+                let mut roads = [other; 16];
+                [roads[a], roads[b]] = pair;
+                assert_eq!(check_roads(&gen::Roads::of(&roads)), Some(a as u8));
+            }
+        }
+    }
+    for list in gen::small_roads() {
+        check_roads(&gen::Roads::of(&list));
     }
 }
 

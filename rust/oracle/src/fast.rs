@@ -504,10 +504,13 @@ pub fn opening(lengths: &[u16], metres: &[u16], seconds: &[u16]) -> Result<u8, u
     let mut best = None;
     let mut least = f64::INFINITY;
     for (k, ((length, metres), seconds)) in lengths.iter().zip(metres).zip(seconds).enumerate() {
-        if *metres == 0 {
+        let time = if *length == 0 {
+            0.0
+        } else if *metres == 0 {
             continue;
-        }
-        let time = f64::from(*length) * f64::from(*seconds) / f64::from(*metres);
+        } else {
+            f64::from(*length) * f64::from(*seconds) / f64::from(*metres)
+        };
         if time < least {
             least = time;
             best = Some(k as u8);

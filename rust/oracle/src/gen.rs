@@ -951,12 +951,13 @@ pub const CLOSE_PAIRS: [[(u16, u16, u16); 2]; 9] = [
     [(1200, 600, 90), (900, 300, 60)],
 ];
 
-/// One road in range: idle at times, extremes at times.
+/// One road in range: of length 0 at times, idle at times, extremes at times.
 pub fn road(rng: &mut Rng) -> (u16, u16, u16) {
-    let length = match rng.below(6) {
-        0 => rng.pick(&[0, 1, 65_535]),
-        1 => rng.within(0, 100) as u16,
-        _ => rng.within(0, 65_535) as u16,
+    let length = match rng.below(12) {
+        0..=4 => 0,
+        5 => rng.pick(&[1, 65_535]),
+        6 => rng.within(1, 100) as u16,
+        _ => rng.within(1, 65_535) as u16,
     };
     let metres = match rng.below(6) {
         0 => 0,
@@ -1007,20 +1008,25 @@ pub fn near_tie(rng: &mut Rng) -> [(u16, u16, u16); 2] {
     }
 }
 
-/// Roads that are accepted: any, with ties, with near ties, one alone, or all
-/// idle but one.
+/// Makes a road idle and longer than 0, so that it is passed over.
+fn pass_over(road: &mut (u16, u16, u16)) {
+    road.0 = road.0.max(1);
+    road.1 = 0;
+}
+
+/// Roads that are accepted: any, all longer than 0, all idle, with ties, with
+/// near ties, one alone, or all passed over but one. One road of five has
+/// length 0, in about half of the lists none has.
 pub fn roads(rng: &mut Rng) -> Roads {
     let any = rng.within(1, 16);
     let count = rng.pick(&[1, 2, 3, 16, any]);
     let mut list: Vec<_> = (0..count).map(|_| road(rng)).collect();
-    match rng.below(5) {
+    match rng.below(9) {
         0 => list = equal_roads(rng, count),
         1 if count >= 2 => {
             let pair = if rng.chance(64) { rng.pick(&CLOSE_PAIRS) } else { near_tie(rng) };
             let (a, b) = two_places(rng, count);
-            for road in &mut list {
-                road.1 = 0;
-            }
+            list.iter_mut().for_each(pass_over);
             list[a] = pair[0];
             list[b] = pair[1];
         }
@@ -1028,7 +1034,7 @@ pub fn roads(rng: &mut Rng) -> Roads {
             let kept = rng.below(count);
             for (k, road) in list.iter_mut().enumerate() {
                 if k != kept {
-                    road.1 = 0;
+                    pass_over(road);
                 }
             }
         }
@@ -1040,13 +1046,37 @@ pub fn roads(rng: &mut Rng) -> Roads {
                 }
             }
         }
+        4 => {
+            for road in &mut list {
+                road.0 = road.0.max(1);
+            }
+        }
+        5 => {
+            for road in &mut list {
+                road.1 = 0;
+            }
+        }
         _ => {}
     }
-    if list.iter().all(|road| road.1 == 0) {
+    if list.iter().all(|road| road.0 > 0 && road.1 == 0) {
         let k = rng.below(count);
-        list[k] = (rng.within(0, 65_535) as u16, rng.within(1, 65_535) as u16, 3_600);
+        list[k] = if rng.chance(128) {
+            (0, 0, rng.within(0, 3_600) as u16)
+        } else {
+            (rng.within(0, 65_535) as u16, rng.within(1, 65_535) as u16, 3_600)
+        };
     }
     Roads::of(&list)
+}
+
+/// Every list of one to three roads of length and metres up to 2 and seconds of
+/// 0, 1, 3,600 or 3,601.
+pub fn small_roads() -> impl Iterator<Item = Vec<(u16, u16, u16)>> {
+    let road = |k: u16| (k % 3, k / 3 % 3, [0, 1, 3_600, 3_601][k as usize / 9]);
+    (1..=3).flat_map(move |count: u32| {
+        (0..36u32.pow(count))
+            .map(move |list| (0..count).map(|k| road((list / 36u32.pow(k) % 36) as u16)).collect())
+    })
 }
 
 fn two_places(rng: &mut Rng, count: usize) -> (usize, usize) {
@@ -1087,6 +1117,9 @@ pub fn refused_roads(rng: &mut Rng, refusal: u8) -> Roads {
                 lists.metres[at] = 0;
             }
             if rng.chance(100) {
+                lists.lengths[at] = 0;
+            }
+            if rng.chance(100) {
                 lists.metres[first] = 5;
                 lists.seconds[first] = 0;
             }
@@ -1098,11 +1131,15 @@ pub fn refused_roads(rng: &mut Rng, refusal: u8) -> Roads {
                     *metres = 0;
                 }
             }
+            if rng.chance(100) {
+                lists.lengths[at] = 0;
+            }
             lists.metres[at] = rng.pick(&[1, 65_535, 300]);
             lists.seconds[at] = 0;
         }
         _ => {
-            for metres in &mut lists.metres {
+            for (length, metres) in lists.lengths.iter_mut().zip(&mut lists.metres) {
+                *length = (*length).max(1);
                 *metres = 0;
             }
             lists.seconds[at] = rng.pick(&[0, 40, 3_600]);

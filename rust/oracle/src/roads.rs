@@ -14,8 +14,12 @@ pub struct Time {
     pub metres: u64,
 }
 
-/// The exact time of a road, or nothing where it is idle.
+/// The exact time of a road: 0 seconds at length 0, idle or not, and nothing
+/// where it is idle and longer.
 pub fn exact_time(length: u16, metres: u16, seconds: u16) -> Option<Time> {
+    if length == 0 {
+        return Some(Time { product: 0, metres: 1 });
+    }
     if metres == 0 {
         return None;
     }
@@ -27,8 +31,11 @@ pub fn compare(a: Time, b: Time) -> Ordering {
     (a.product * b.metres).cmp(&(b.product * a.metres))
 }
 
-/// The estimate in binary64: one product and one division.
+/// The estimate in binary64: 0 at length 0, else one product and one division.
 pub fn float_time(length: u16, metres: u16, seconds: u16) -> Option<f64> {
+    if length == 0 {
+        return Some(0.0);
+    }
     if metres == 0 {
         return None;
     }

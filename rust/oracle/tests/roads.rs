@@ -62,7 +62,7 @@ fn floats_order_as_fractions_do() {
     let mut equal = 0;
     for _ in 0..100_000 {
         let pair = [gen::road(&mut rng), gen::road(&mut rng)];
-        if pair.iter().all(|road| road.1 > 0) {
+        if pair.iter().all(|road| exact_time(road.0, road.1, road.2).is_some()) {
             let (exact, float) = orders(pair);
             assert_eq!(exact, float, "{pair:?}");
             equal += (exact == Ordering::Equal) as usize;
@@ -120,7 +120,87 @@ fn refusals_are_asked_over_all_roads_in_order() {
     // 12 of the second road before 13 could be asked.
     assert_eq!(ask(&[(5, 0, 0), (5, 1, 0)]), Err(12));
     assert_eq!(ask(&[(5, 0, 0), (5, 0, 40)]), Err(13));
-    // A road of length 0 takes 0 seconds and wins, if it isn't idle.
+}
+
+#[test]
+fn a_road_of_length_0_takes_0_seconds_idle_or_not() {
+    let ask = |roads: &[(u16, u16, u16)]| ask(&Roads::of(roads));
+    for (metres, seconds) in [(0, 0), (0, 40), (0, 3_600), (1, 1), (65_535, 3_600)] {
+        let time = exact_time(0, metres, seconds).unwrap();
+        assert_eq!((time.product, time.metres), (0, 1));
+        assert_eq!(float_time(0, metres, seconds).map(f64::to_bits), Some(0));
+    }
+    assert_eq!(ask(&[(0, 0, 40)]), Ok(0));
+    assert_eq!(ask(&[(900, 300, 60), (0, 0, 0)]), Ok(1));
+    assert_eq!(ask(&[(0, 0, 0), (65_535, 1, 3_600)]), Ok(0));
     assert_eq!(ask(&[(1, 65_535, 1), (0, 1, 3_600)]), Ok(1));
-    assert_eq!(ask(&[(0, 0, 0), (65_535, 1, 3_600)]), Ok(1));
+    // Two of them: the lower number, whichever is idle.
+    assert_eq!(ask(&[(900, 300, 60), (0, 0, 40), (0, 5, 60)]), Ok(1));
+    assert_eq!(ask(&[(900, 300, 60), (0, 5, 60), (0, 0, 0)]), Ok(1));
+    assert_eq!(ask(&[(0, 0, 0); 16]), Ok(0));
+    // 11 and 12 come first, of a road of length 0 as of all others.
+    assert_eq!(ask(&[(0, 0, 3_601)]), Err(11));
+    assert_eq!(ask(&[(0, 5, 0)]), Err(12));
+    assert_eq!(ask(&[(0, 5, 0), (0, 0, 3_601)]), Err(11));
+    assert_eq!(ask(&[(0, 0, 0), (500, 7, 0)]), Err(12));
+    assert_eq!(ask(&[(500, 7, 0)]), Err(12));
+    // 13 only where every road is idle and longer than 0.
+    assert_eq!(ask(&[(500, 0, 40), (0, 0, 0)]), Ok(1));
+    assert_eq!(ask(&[(500, 0, 40), (1, 0, 0)]), Err(13));
+}
+
+#[test]
+fn the_lowest_road_of_length_0_is_the_opening() {
+    let mut rng = Rng::new(44);
+    let (mut roads, mut of_length_0, mut without) = (0, 0, 0);
+    let (mut idle, mut not_first) = (0, 0);
+    for _ in 0..20_000 {
+        let lists = gen::roads(&mut rng);
+        let here = lists.lengths.iter().filter(|length| **length == 0).count();
+        roads += lists.lengths.len();
+        of_length_0 += here;
+        without += (here == 0) as usize;
+        if let Some(k) = lists.lengths.iter().position(|length| *length == 0) {
+            assert_eq!(ask(&lists), Ok(k as u8), "{lists:?}");
+            idle += (lists.metres[k] == 0) as usize;
+            not_first += (k > 0) as usize;
+        }
+    }
+    // One road of five has length 0, and many of these are idle.
+    assert!(5 * of_length_0 >= roads, "{of_length_0} of {roads}");
+    assert!(idle > 3_000 && not_first > 3_000, "{idle} {not_first}");
+    assert!(without > 8_000, "{without}");
+}
+
+/// Every list of one to three roads of small numbers, by a reading of its own:
+/// the times as fractions of one common denominator.
+#[test]
+fn every_list_of_small_roads() {
+    let mut met = [0; 14];
+    for list in gen::small_roads() {
+        let answer = ask(&Roads::of(&list));
+        assert_eq!(answer, by_halves(&list), "{list:?}");
+        met[answer.map_or_else(usize::from, usize::from)] += 1;
+    }
+    assert_eq!(met.iter().sum::<usize>(), 36 + 36 * 36 + 36 * 36 * 36);
+    for answer in [0, 1, 2, 11, 12, 13] {
+        assert!(met[answer] > 100, "{met:?}");
+    }
+}
+
+/// With metres up to 2, twice the seconds of every road is a whole number.
+fn by_halves(roads: &[(u16, u16, u16)]) -> Result<u8, u8> {
+    if roads.iter().any(|road| road.2 == 3_601) {
+        return Err(11);
+    }
+    if roads.iter().any(|road| road.1 != 0 && road.2 == 0) {
+        return Err(12);
+    }
+    let halves = |k: &usize| match roads[*k] {
+        (0, _, _) => Some(0),
+        (_, 0, _) => None,
+        (length, metres, seconds) => Some(length as u32 * seconds as u32 * (2 / metres as u32)),
+    };
+    let least = (0..roads.len()).filter(|k| halves(k).is_some()).min_by_key(halves);
+    least.map(|k| k as u8).ok_or(13)
 }

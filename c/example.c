@@ -54,12 +54,16 @@ int main(void) {
         print_fleet(record);
     }
 
-    /* The first road is idle, so the second one is taken. */
-    const uint16_t lengths[] = {500, 900}, metres[] = {0, 300}, seconds[] = {40, 60};
+    /* The first road is idle, so the second one is taken; but a truck that stands at crusher 0 opens with it. */
+    const uint16_t far[] = {500, 900}, standing[] = {0, 900}, metres[] = {0, 300}, seconds[] = {40, 60};
     uint8_t crusher = 0;
-    if (refused("opening", rajvokshul_opening(lengths, 2, metres, 2, seconds, 2, &crusher))) {
+    if (refused("opening", rajvokshul_opening(far, 2, metres, 2, seconds, 2, &crusher))) {
         return 1;
     }
     printf("opening %u\n", crusher);
+    if (refused("opening", rajvokshul_opening(standing, 2, metres, 2, seconds, 2, &crusher))) {
+        return 1;
+    }
+    printf("standing at 0: opening %u\n", crusher);
     return 0;
 }

@@ -57,7 +57,7 @@ extern "C" {
 #define RAJVOKSHUL_ROAD_LISTS 10 /* no roads, more than 16, or lists of unequal length */
 #define RAJVOKSHUL_SECONDS 11    /* seconds above 3,600 */
 #define RAJVOKSHUL_NO_TIME 12    /* metres above 0 in 0 seconds */
-#define RAJVOKSHUL_ALL_IDLE 13   /* every road idle */
+#define RAJVOKSHUL_ALL_IDLE 13   /* every road idle and longer than 0 */
 
 /* What was wrong, in words; a text that lasts. 0 is "accepted". */
 static inline const char *rajvokshul_reason(uint32_t number) {
@@ -89,7 +89,7 @@ static inline const char *rajvokshul_reason(uint32_t number) {
     case RAJVOKSHUL_NO_TIME:
         return "a road's last run covered metres in 0 seconds";
     case RAJVOKSHUL_ALL_IDLE:
-        return "every road is idle";
+        return "every road is idle and longer than 0";
     case RAJVOKSHUL_ROUNDS_DONE:
         return "400 rounds are done already";
     default:
@@ -235,7 +235,8 @@ uint32_t rajvokshul_step(uint8_t *record, size_t record_len, const uint32_t *wor
 
 /* The crusher that a truck opens with: that of the road with the least exact travel time, the lowest number on a tie. An
  * entry for each road: its length in metres, the metres of the last run on it, and the seconds of that run (0 to 3,600).
- * A road whose last run covered 0 metres is idle and passed over. Refusals: 10, 11, 12, 13. */
+ * A road of length 0 takes 0 seconds: the truck stands at that crusher. A longer one whose last run covered 0 metres is
+ * idle and passed over. Refusals: 10, 11, 12, 13. */
 RAJVOKSHUL_NODISCARD
 uint32_t rajvokshul_opening(const uint16_t *lengths, size_t lengths_len, const uint16_t *metres, size_t metres_len,
                             const uint16_t *seconds, size_t seconds_len, uint8_t *crusher);

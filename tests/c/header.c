@@ -150,6 +150,16 @@ static void null_fleets_and_roads(void) {
     EXPECT(crusher, 77);
 }
 
+static void standing_at_a_crusher(void) {
+    const uint16_t lengths[2] = {500, 0}, idle[2] = {0, 0}, seconds[2] = {40, 0}, moved[2] = {0, 5};
+    uint8_t crusher = 77;
+    EXPECT(rajvokshul_opening(lengths, 1, idle, 1, seconds, 1, &crusher), RAJVOKSHUL_ALL_IDLE);
+    EXPECT(rajvokshul_opening(lengths, 2, moved, 2, seconds, 2, &crusher), RAJVOKSHUL_NO_TIME);
+    EXPECT(crusher, 77);
+    EXPECT(rajvokshul_opening(lengths, 2, idle, 2, seconds, 2, &crusher), RAJVOKSHUL_ACCEPTED);
+    EXPECT(crusher, 1);
+}
+
 int main(void) {
     sizes();
     fields_after_a_round();
@@ -158,5 +168,6 @@ int main(void) {
     null_recordings();
     null_writing();
     null_fleets_and_roads();
+    standing_at_a_crusher();
     return failed;
 }

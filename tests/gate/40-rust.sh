@@ -25,9 +25,9 @@ expect "rustfmt" quiet cargo fmt --all --check
 expect "clippy" quiet cargo clippy --offline --release --workspace --all-targets -- -D warnings
 expect "cargo doc" quiet env RUSTDOCFLAGS='-D warnings' cargo doc --offline --release --workspace --no-deps
 
-# The examples print case C1's listing, and the opening of case C12; what the recorder's prints is worked out by hand.
+# The examples print case C1's listing, the opening of case C12, and that of a truck that stands at crusher 0; what the recorder's prints is worked out by hand.
 shows_c1() { # OUTPUT
-    grep -qx 'opening 1' "$1" && grep -A 2 -x 'trucks 2 rounds 4' "$1" | cmp -s - tests/cases/c01.out
+    grep -qx 'opening 1' "$1" && grep -qx 'standing at 0: opening 0' "$1" && grep -A 2 -x 'trucks 2 rounds 4' "$1" | cmp -s - tests/cases/c01.out
 }
 out=$(mktemp -d)
 (cd rust && cargo run --offline --release -q -p rajvokshul --example quarry) > "$out/rust" 2>&1

@@ -12,15 +12,14 @@ use Rattle.basics.proofs.Laws.{or-left, or-right, allBelow-at, allBelow-all}
 use Rattle.refusals.specs.declared.Refusal.the-variants.{RoadLists, Seconds, NoTime, AllIdle}
 use Rattle.refusals.specs.declared.Outcome.the-variants.{Accepted}
 use Rattle.refusals.specs.Outcomes.{refuse}
-use Rattle.rounding.proofs.Order.{Small}
 use Rattle.roads.specs.declared.Opening.{Opening}
 use Rattle.roads.specs.declared.Opening.the-variants.{Crusher, Refused}
 use Rattle.roads.specs.declared.Fastest.{Fastest}
 use Rattle.roads.specs.declared.Fastest.the-variants.{Road as Chose, NoRoad}
-use Rattle.roads.specs.Opening.{Road, roadAt, passedOver, numerator, denominator, badLists, secondsAbove, noTime, allPassedOver, leastRoad, openingCheck, crusherAs, openingOf}
+use Rattle.roads.specs.Opening.{Road, roadAt, passedOver, numerator, denominator, badLists, secondsAbove, noTime, allPassedOver, leastRoad, LeastRoad, openingCheck, crusherAs, openingOf}
 use Rattle.roads.specs.Choice.{chosenBelow, estimateAt}
 use Rattle.roads.proofs.Estimates.{SixteenBits, estimate-exact, in-range}
-use Rattle.roads.proofs.Least.{LeastRoad, least-is}
+use Rattle.roads.proofs.Least.{least-is}
 use Rattle.roads.proofs.Chosen.{Chosen, chosen-least}
 
 -- ---- the answer by its four tests

@@ -12,8 +12,9 @@ use Rattle.roads.specs.declared.Estimate.{Estimate}
 use Rattle.roads.specs.declared.Estimate.the-variants.{Seconds, Idle}
 use Rattle.roads.specs.declared.Fastest.{Fastest}
 use Rattle.roads.specs.declared.Fastest.the-variants.{Road, NoRoad}
+use Rattle.roads.specs.Opening.{LeastBelow}
 use Rattle.roads.specs.Choice.{betterOf, chosenBelow}
-use Rattle.roads.proofs.Least.{LeastBelow, stays, begins, takes-over}
+use Rattle.roads.proofs.Least.{stays, begins, takes-over}
 
 -- what a choice among the roads below n is to be
 abbrev pub Chosen : (ℕ → Bool) → (ℕ → ℕ) → (ℕ → ℕ) → ℕ → Fastest → Type 0

@@ -40,9 +40,12 @@ pub float-0 : HasValue (float 0) false 0 1
 float-0 = whole 0 (omega arith)
 
 -- ---- of a road whose numbers have 16 bits
+
+-- a road's leg
 abbrev pub legFor : Road → Leg
 legFor r = legOf (r .length) (r .metres) (r .seconds)
 
+-- its three numbers have 16 bits
 abbrev pub SixteenBits : Road → Type 0
 SixteenBits r = (r .length < 2 ^ 16) × (r .metres < 2 ^ 16) × (r .seconds < 2 ^ 16)
 
@@ -51,6 +54,7 @@ abbrev pub rounded : Road → Float
 rounded r = round binary64 false (numerator r) (denominator r)
 
 module _ (r : Road) (R : SixteenBits r) where
+  -- the two tests of floats are tests of whole numbers
   estimate-tests : estimateOf (legFor r) ≡ estimateBy (legFor r) (eqb (r .length) 0) (idle r)
   estimate-tests = ap₂ (estimateBy (legFor r)) (whole-eq (r .length) 0 (omega (arith, R .0)) (omega arith)) (whole-eq (r .metres) 0 (omega (arith, R .1)) (omega arith))
 
@@ -80,11 +84,11 @@ module _ (r : Road) (R : SixteenBits r) where
       let a : r .length ≤ 65535 = omega (arith, R .0) in
       let b : r .seconds ≤ 65535 = omega (arith, R .2) in
       let c : numerator r ≤ 65535 * 65535 = mul-le-mul a b in
-      (time-there r h, go (eq-zero-or-pos (r .length)), omega arith)
-    where
-      go : (r .length ≡ 0) ⊎ (0 < r .length) → denominator r < 2 ^ 16
-      go (inl e) = omega (arith, length-0 r e .2)
-      go (inr l) = omega (arith, longer r l .1, R .1)
+      let d : denominator r < 2 ^ 16 = elim (eq-zero-or-pos (r .length)) [
+        | inl e ↦ omega (arith, length-0 r e .2)
+        | inr l ↦ omega (arith, longer r l .1, R .1)
+      ] in
+      (time-there r h, d, omega arith)
 
   -- a number of seconds as estimate: the road takes part, and the float is its exact time, rounded once
   pub seconds-exact : (t : Float) → estimateOf (legFor r) ≡ Seconds t → (passedOver r ≡ false) × (t ≡ rounded r)

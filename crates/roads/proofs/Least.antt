@@ -10,20 +10,7 @@ use borrow.Author.Tests.{lt-ltb, le-ltb}
 use borrow.Author.Count.{below-more}
 use Rattle.basics.specs.Lists.{allBelow}
 use Rattle.basics.proofs.Laws.{and-both, allBelow-at, allBelow-all, first-unique}
-use Rattle.roads.specs.Opening.{Road, passedOver, numerator, denominator, faster, fastest, least}
-
--- k is the least of the fractions num / den below n that are not passed over, and the first of those equal to it
-pub record LeastBelow (passed : ℕ → Bool) (num den : ℕ → ℕ) (n k : ℕ) : Type 0 where
-  pub below : k < n
-  pub takes-part : passed k ≡ false
-  -- no fraction is smaller
-  pub smallest : (j : ℕ) → j < n → passed j ≡ false → num k * den j ≤ num j * den k
-  -- each one before it is larger, so none of the same size has a lower number
-  pub lowest : (j : ℕ) → j < k → passed j ≡ false → num k * den j < num j * den k
-
--- Of roads: road k is not passed over, no road that takes part takes less exact time, and none of the same time has a lower number.
-abbrev pub LeastRoad : (ℕ → Road) → ℕ → ℕ → Type 0
-LeastRoad road n k = LeastBelow (λ j. passedOver (road j)) (λ j. numerator (road j)) (λ j. denominator (road j)) n k
+use Rattle.roads.specs.Opening.{faster, fastest, least, LeastBelow}
 
 -- x / p < y / q ≤ z / r
 strictly : (x y z p q r : ℕ) → 0 < r → x * q < y * p → y * r ≤ z * q → x * r < z * p

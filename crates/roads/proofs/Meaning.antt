@@ -6,7 +6,7 @@ use mathlib.Core.List.{List, [], _∷_}
 use Prim.Native.Nat.{ℕ, _<_}
 use native.Mathlib.Omega.{arith}
 use borrow.Author.Tests.{eq-eqb, eqb-true, eqb-false}
-use lib.Dec.{ltb, eqb}
+use lib.Dec.{eqb}
 use lib.ListN.{length}
 use Rattle.basics.specs.Lists.{first}
 use Rattle.basics.proofs.Laws.{allBelow-at, allBelow-all, someBelow-by, someBelow-none, some-first, first-at, first-before}
@@ -16,10 +16,10 @@ use Rattle.refusals.specs.declared.Outcome.the-variants as outcome
 use Rattle.refusals.specs.Numbers.{numbered}
 use Rattle.roads.specs.declared.Opening.{Opening}
 use Rattle.roads.specs.declared.Opening.the-variants.{Crusher, Refused}
-use Rattle.roads.specs.Opening.{Road, roadAt, idle, passedOver, numerator, denominator, badLists, secondsAbove, noTime, allPassedOver, openingCheck, leastRoad, crusherAs, openingOf, openingAnswer}
+use Rattle.roads.specs.Opening.{Road, roadAt, idle, passedOver, numerator, denominator, badLists, secondsAbove, noTime, allPassedOver, openingCheck, leastRoad, LeastRoad, crusherAs, openingOf, openingAnswer}
 use Rattle.roads.proofs.Answers.{right, openingBy, opening-by, opening-at}
 use Rattle.roads.proofs.Roads.{length-0, passed-over, time-there, time-above-0}
-use Rattle.roads.proofs.Least.{LeastRoad, least-is, zero-least, least-there}
+use Rattle.roads.proofs.Least.{least-is, zero-least, least-there}
 
 abbrev number : Opening → ℕ
 number o = openingAnswer o .0

@@ -1,6 +1,6 @@
 -- Laws of one road: whether it takes part, and its exact time.
 use mathlib.Core.Path.{_≡_, sym, ap, _∙_}
-use mathlib.Core.Logic.{_⊎_, _↔_, inl, inr}
+use mathlib.Core.Logic.{_↔_, inl, inr}
 use mathlib.Core.Bool.{Bool, true, false, cond, _&&_, and-true, and-false}
 use Prim.Native.Nat.{ℕ, _*_, _<_}
 use native.Mathlib.Nat.{zero-mul, mul-pos, eq-zero-or-pos}
@@ -35,11 +35,10 @@ module _ (r : Road) where
 
   -- the time of a road that takes part is a fraction
   pub time-there : passedOver r ≡ false → 0 < denominator r
-  time-there h = go (eq-zero-or-pos (r .length))
-    where
-      go : (r .length ≡ 0) ⊎ (0 < r .length) → 0 < denominator r
-      go (inl e) = omega (arith, length-0 e .2)
-      go (inr l) = omega (arith, eqb-false (r .metres) 0 (sym (longer l .0) ∙ h), longer l .1)
+  time-there h = elim (eq-zero-or-pos (r .length)) [
+    | inl e ↦ omega (arith, length-0 e .2)
+    | inr l ↦ omega (arith, eqb-false (r .metres) 0 (sym (longer l .0) ∙ h), longer l .1)
+  ]
 
   -- that of a longer road that 12 does not refuse is above 0
   pub time-above-0 : 0 < r .length → passedOver r ≡ false → (ltb 0 (r .metres) && eqb (r .seconds) 0) ≡ false → 0 < numerator r
@@ -48,10 +47,9 @@ module _ (r : Road) where
       let s : 0 < r .seconds = omega (arith, eqb-false (r .seconds) 0 (rw (lt-ltb 0 (r .metres) m) at e)) in
       mul-pos l s
 
-  -- by cross products: of a road that is not idle it is length times seconds, divided by metres, at length 0 too
-  pub time-moved : numerator r * r .metres ≡ r .length * r .seconds * denominator r
-  time-moved = go (eq-zero-or-pos (r .length))
-    where
-      go : (r .length ≡ 0) ⊎ (0 < r .length) → numerator r * r .metres ≡ r .length * r .seconds * denominator r
-      go (inl e) = simp (e, zero-mul)
-      go (inr l) = ap (λ (d : ℕ). numerator r * d) (sym (longer l .1))
+  -- that of a road that is not idle is length times seconds, divided by metres, at length 0 too: by cross products
+  pub time-fraction : numerator r * r .metres ≡ r .length * r .seconds * denominator r
+  time-fraction = elim (eq-zero-or-pos (r .length)) [
+    | inl e ↦ simp (e, zero-mul)
+    | inr l ↦ ap (λ (d : ℕ). numerator r * d) (sym (longer l .1))
+  ]

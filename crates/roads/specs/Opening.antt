@@ -1,7 +1,8 @@
 -- The opening crusher of three lists of whole numbers, and its refusals (document 01, 'The opening crusher' and refusals 10 to 13; document
 -- 02, F-2).
-use Prim.Native.Nat.{ℕ, _*_}
-use mathlib.Core.Bool.{Bool, cond, not, _&&_, _||_}
+use Prim.Native.Nat.{ℕ, _*_, _≤_, _<_}
+use mathlib.Core.Path.{_≡_}
+use mathlib.Core.Bool.{Bool, false, cond, not, _&&_, _||_}
 use mathlib.Core.List.{List, [], _∷_}
 use lib.Dec.{ltb, eqb}
 use lib.ListN.{length, getD}
@@ -28,7 +29,7 @@ roadAt lengths metres seconds k = record { length = getD lengths k 0; metres = g
 abbrev pub idle : Road → Bool
 idle r = eqb (r .metres) 0
 
--- passed over: idle and longer than 0
+-- F-2's passed over: idle and longer than 0
 abbrev pub passedOver : Road → Bool
 passedOver r = idle r && ltb 0 (r .length)
 
@@ -53,6 +54,15 @@ fastest passed num den n k = not (passed k) && allBelow (λ j. passed j || not (
 -- the first of these: least exact time, lowest number on a tie
 unfoldable pub least : (ℕ → Bool) → (ℕ → ℕ) → (ℕ → ℕ) → ℕ → ℕ
 least passed num den n = first (fastest passed num den n) n
+
+-- k is the least of the fractions num / den below n that are not passed over, and the first of those equal to it
+pub record LeastBelow (passed : ℕ → Bool) (num den : ℕ → ℕ) (n k : ℕ) : Type 0 where
+  pub below : k < n
+  pub takes-part : passed k ≡ false
+  -- no fraction is smaller
+  pub smallest : (j : ℕ) → j < n → passed j ≡ false → num k * den j ≤ num j * den k
+  -- each one before it is larger, so none of the same size has a lower number
+  pub lowest : (j : ℕ) → j < k → passed j ≡ false → num k * den j < num j * den k
 
 -- ---- the refusals
 
@@ -88,6 +98,10 @@ openingCheck lengths metres seconds =
 -- the road of least exact time among those that are not passed over
 abbrev pub leastRoad : (ℕ → Road) → ℕ → ℕ
 leastRoad road n = least (λ k. passedOver (road k)) (λ k. numerator (road k)) (λ k. denominator (road k)) n
+
+-- Of roads: road k is not passed over, no road that takes part takes less exact time, and none of the same time has a lower number.
+abbrev pub LeastRoad : (ℕ → Road) → ℕ → ℕ → Type 0
+LeastRoad road n k = LeastBelow (λ j. passedOver (road j)) (λ j. numerator (road j)) (λ j. denominator (road j)) n k
 
 -- by the outcome of the check: crusher k where it accepts
 abbrev pub crusherAs : Outcome → ℕ → Opening

@@ -5,6 +5,8 @@ use rajvokshul::{grade, list, opening, read, Fleet, Refusal, State};
 fn main() -> Result<(), Refusal> {
     // Roads to crushers 0 and 1: length, metres and seconds of the last run. The first road is idle.
     println!("opening {}", opening(&[500, 900], &[0, 300], &[40, 60])?);
+    // The same roads for a truck that stands at crusher 0.
+    println!("standing at 0: opening {}", opening(&[0, 900], &[0, 300], &[40, 60])?);
 
     // Two trucks that open with crushers 3 and 5, four rounds, both active in rounds 1 and 3.
     let recording = [0x08, 0x04, 0x35, 0x30, 0x00, 0x03, 0x00, 0x00];

@@ -29,7 +29,7 @@ pub enum Refusal {
     Seconds = 11,
     /// Metres above 0 in 0 seconds.
     NoTime = 12,
-    /// Every road idle.
+    /// Every road idle and longer than 0.
     AllIdle = 13,
     /// A step with 400 rounds already done.
     RoundsDone = 14,
@@ -94,7 +94,7 @@ impl Refusal {
             }
             Refusal::Seconds => "the seconds of a road's last run are above 3,600",
             Refusal::NoTime => "a road's last run covered metres in 0 seconds",
-            Refusal::AllIdle => "every road is idle",
+            Refusal::AllIdle => "every road is idle and longer than 0",
             Refusal::RoundsDone => "400 rounds are done already",
         }
     }

@@ -98,6 +98,19 @@ fn c11_and_c12_roads() {
 }
 
 #[test]
+fn standing_at_a_crusher() {
+    assert_eq!(opening(&[0], &[0], &[40]), Ok(0));
+    assert_eq!(opening(&[900, 0], &[300, 0], &[60, 0]), Ok(1));
+    assert_eq!(opening(&[900, 0, 0], &[300, 0, 5], &[60, 40, 60]), Ok(1));
+    assert_eq!(opening(&[500, 0], &[0, 0], &[40, 0]), Ok(1));
+    assert_eq!(opening(&[0], &[0], &[3601]), Err(Refusal::Seconds));
+    assert_eq!(opening(&[0], &[5], &[0]), Err(Refusal::NoTime));
+    assert_eq!(opening(&[500], &[7], &[0]), Err(Refusal::NoTime));
+    assert_eq!(opening(&[500, 1], &[0, 0], &[40, 0]), Err(Refusal::AllIdle));
+    assert_eq!(Refusal::AllIdle.to_string(), "refused 13: every road is idle and longer than 0");
+}
+
+#[test]
 fn c13_two_of_three_messages_are_a_majority() {
     // All three are active in round 1, and truck 0 misses truck 2.
     let recording = write(3, 1, &[1, 1, 1], &[0, 0b111, 0, 0b100, 0, 0]).unwrap();

@@ -16,7 +16,7 @@ use Rattle.refusals.specs.declared.Outcome.the-variants as outcome
 use Rattle.refusals.specs.Numbers.{numbered}
 use Rattle.roads.specs.declared.Opening.{Opening}
 use Rattle.roads.specs.declared.Opening.the-variants.{Crusher, Refused}
-use Rattle.roads.specs.Opening.{Road, roadAt, idle, passedOver, numerator, denominator, badLists, secondsAbove, noTime, allPassedOver, openingCheck, leastRoad, LeastRoad, crusherAs, openingOf, openingAnswer}
+use Rattle.roads.specs.Opening.{Road, roadAt, passedOver, numerator, denominator, badLists, secondsAbove, noTime, allPassedOver, openingCheck, leastRoad, LeastRoad, crusherAs, openingOf, openingAnswer}
 use Rattle.roads.proofs.Answers.{right, openingBy, opening-by, opening-at}
 use Rattle.roads.proofs.Roads.{length-0, passed-over, time-there, time-above-0}
 use Rattle.roads.proofs.Least.{least-is, zero-least, least-there}

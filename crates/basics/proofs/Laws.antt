@@ -9,7 +9,6 @@ use native.Mathlib.Decide.{decLt}
 use native.Mathlib.Omega.{arith}
 use borrow.Author.Tests.{ltb-true, ltb-false, lt-ltb, le-ltb, eq-eqb, ne-eqb, eqb-true, eqb-false}
 use borrow.Author.Count.{below-more}
-use lib.Arith.{digits-lt}
 use lib.Dec.{ltb}
 use lib.ListN.{length, getD, drop, set, length-append, length-drop, List·getD-append}
 use lib.Seq.{drop-cons, drop-append-add, drop-drop, set-at, getD-append-add, getD-drop, ext-getD}
@@ -304,6 +303,12 @@ module _ (p : ℕ → Bool) where
           sym (someBelow-by n (k .0) (omega (arith, k .1)) (k .2))
       go false e = sym (none-someBelow n (λ k u. past e k u (decLt k m)))
 
+  -- the least number below m that has p is the least below every larger bound
+  pub first-past : (m n : ℕ) → m ≤ n → someBelow p m ≡ true → first p m ≡ first p n
+  first-past m n l h =
+      let o : first p m < m = some-first m h in
+      sym (first-unique n (first p m) (omega arith) (first-before m) (λ u. first-at m o))
+
   -- a loop that looks for a number with p: it finds one, or has passed all of them
   pub some-hit : (m k : ℕ) → k < m → p k ≡ true → true ≡ someBelow p m
   some-hit m k l h = sym (someBelow-by m k l h)
@@ -311,27 +316,13 @@ module _ (p : ℕ → Bool) where
   pub some-end : (m k : ℕ) → m ≤ k → ((i : ℕ) → i < k → p i ≡ false) → false ≡ someBelow p m
   some-end m k l h = sym (none-someBelow m (λ i e. h i (omega arith)))
 
--- a search that goes by rows of n numbers: q is p on row r, and the rows before it have none
-module _ (p q : ℕ → Bool) (n r : ℕ) (same : (i : ℕ) → i < n → q i ≡ p (r * n + i)) where
-  -- no number before the first of row r has p
-  before-row : someBelow p (r * n) ≡ false → (k : ℕ) → k < r * n + first q n → p k ≡ false
-  before-row h k l = go (decLt k (r * n))
-    where
-      go : Dec (k < r * n) → p k ≡ false
-      go (yes o) = someBelow-none p (r * n) h k o
-      go (no o) =
-          let z : r * n + (k - r * n) ≡ k = omega arith in
-          ap p (sym z) ∙ sym (same (k - r * n) (omega (arith, first-le q n))) ∙ first-before q n (k - r * n) (omega arith)
+-- tests that agree below m: the same number is the first, and both hold of one or neither does
+module _ (p q : ℕ → Bool) (m : ℕ) (same : (k : ℕ) → k < m → p k ≡ q k) where
+  pub first-ext : first p m ≡ first q m
+  first-ext =
+      first-unique p m (first q m) (first-le q m) (λ k l. same k (omega (arith, first-le q m)) ∙ first-before q m k l)
+      (λ l. same (first q m) l ∙ first-at q m l)
 
-  pub none-row : someBelow p (r * n) ≡ false → someBelow q n ≡ false → someBelow p ((r + 1) * n) ≡ false
-  none-row h e = none-someBelow p ((r + 1) * n) (λ k l. before-row h k (omega (arith, none-first q n e)))
-
-  pub some-row : (R : ℕ) → r < R → someBelow q n ≡ true → someBelow p (R * n) ≡ true
-  some-row R l e =
-      let k = someBelow-at q n e in
-      someBelow-by p (R * n) (r * n + k .0) (digits-lt l (k .1)) (sym (same (k .0) (k .1)) ∙ k .2)
-
-  pub first-row : (R : ℕ) → r < R → someBelow p (r * n) ≡ false → someBelow q n ≡ true → r * n + first q n ≡ first p (R * n)
-  first-row R l h e =
-      let o : first q n < n = some-first q n e in
-      sym (first-unique p (R * n) (r * n + first q n) (omega (arith, digits-lt l o)) (before-row h) (λ u. sym (same (first q n) o) ∙ first-at q n o))
+  pub some-ext : someBelow p m ≡ someBelow q m
+  unfolding someBelow
+  some-ext = ap (λ (k : ℕ). ltb k m) first-ext

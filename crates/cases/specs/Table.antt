@@ -63,7 +63,7 @@ table =
     -- C9: C2 with last byte 01
     ∷ (prints (0x08 ∷ 0x02 ∷ 0x35 ∷ 0x31 ∷ 0x80 ∷ 0x01 ∷ []) ⟶ says "refused 5\n")
     -- C10: C2 with fourth byte 33, truck 0's own bit
-    ∷ (prints (0x08 ∷ 0x02 ∷ 0x35 ∷ 0x33 ∷ 0x80 ∷ 0x00 ∷ []) ⟶ says "refused 6\n")
+    ∷ (prints (0x08 ∷ 0x02 ∷ 0x35 ∷ 0x33 ∷ 0x80 ∷ 0x00 ∷ []) ⟶ says "refused 6 round 1 truck 0\n")
     -- C11: both roads take 180 seconds
     ∷ (takes 1200 600 90 ⟶ exactly (180, 0))
     ∷ (takes 900 300 60 ⟶ exactly (180, 0))

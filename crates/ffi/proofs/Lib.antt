@@ -2,3 +2,4 @@ pub mod Narrow
 pub mod Answers
 pub mod Records
 pub mod Lists
+pub mod OwnLoss

@@ -31,7 +31,7 @@ use Rattle.protocol.proofs.Steps.{accepted-by, start-by}
 use Rattle.recordbytes.specs.Layout.{sizeFor, recordByte, packedRecord, packedWhole, unpacked}
 use Rattle.recordbytes.proofs.RoundTrip.{Tidy, record-tidy, whole-tidy, undamaged, taken-whole}
 use Rattle.ffi.specs.Calls.{recordAs, storeCall, startCall, stepCall, runCall, bytesAfter}
-use Rattle.ffi.proofs.Records.{step-trucks, room-for, start-range, step-range, run-range}
+use Rattle.ffi.proofs.Records.{record-number, step-trucks, room-for, start-range, step-range, run-range}
 
 -- a round keeps the places n and above
 tidy-after : (n : ℕ) (active : ℕ → Bool) (k : ℕ) (w : List ℕ) (ts : List Truck) → n ≤ 32 → Tidy n ts → Tidy n (after n active k w ts)
@@ -88,11 +88,7 @@ module _ (d w : List ℕ) (f : Fleet) (holds : Holds d f) where
   step-as = rw (holds .read)
 
   step-number : stepCall d w .number ≡ outcomeNumber (stepped f w .outcome)
-  step-number = rw step-as (go (stepped f w .outcome))
-    where
-      go : (o : Outcome) → recordAs o (stepped f w .fleet .n) (stepped f w .fleet) d .number ≡ outcomeNumber o
-      go Accepted = refl
-      go (Refused r) = refl
+  step-number = rw step-as (record-number (stepped f w .outcome) (stepped f w .fleet .n) (stepped f w .fleet) d)
 
   step-holds : Holds (stepCall d w .bytes) (stepped f w .fleet)
   unfolding packedRecord

@@ -1,14 +1,12 @@
 -- What is left of a lent record: after a start or a run, and after a step.
 use mathlib.Core.Path.{_≡_, refl, ap, sym, _∙_}
-use mathlib.Core.Bool.{true, false, not, _&&_}
+use mathlib.Core.Bool.{true, false, not}
 use mathlib.Core.List.{List}
-use Prim.Native.Nat.{ℕ, min, _≤_}
+use Prim.Native.Nat.{ℕ, min, _+_, _≤_}
 use native.Mathlib.Omega.{arith}
-use lib.Dec.{leb, eqb}
+use lib.Dec.{eqb}
 use lib.ListN.{length}
-use borrow.Author.Tests.{le-ltb, not-true, not-false}
-use Rattle.basics.specs.Lists.{allBelow}
-use Rattle.basics.proofs.Laws.{and-left}
+use borrow.Author.Tests.{le-ltb, not-false}
 use Rattle.refusals.specs.Numbers.{numberOf, outcomeNumber}
 use Rattle.refusals.specs.declared.Refusal.{Refusal}
 use Rattle.refusals.specs.declared.Refusal.the-variants.{TruckCount, Record, RoundsDone}
@@ -21,33 +19,32 @@ use Rattle.recording.specs.Checks.{checkOf, badTrucks, roundCheck}
 use Rattle.recording.proofs.Accepted.{in-trucks, bytes-good}
 use Rattle.protocol.specs.declared.Fleet.{Fleet}
 use Rattle.protocol.specs.declared.Answer.{Answer}
-use Rattle.protocol.specs.Rules.{truck}
 use Rattle.protocol.specs.Runs.{openedTrucks}
-use Rattle.protocol.specs.Fleets.{blank, startCheck, started, stepCheck, stepped, nextFleet, goodTruck, goodFleet, fleetAt, ran, goodFleetIn, stepCheckIn, steppedIn, nextFleetIn, ranIn, fleetIn}
+use Rattle.protocol.specs.Fleets.{blank, startCheck, started, stepCheck, stepped, nextFleet, goodFleet, fleetAt, ran, twoRound, stepCheckIn, steppedIn, nextFleetIn, ranIn, fleetIn}
+use Rattle.protocol.proofs.Good.{record-parts}
 use Rattle.protocol.proofs.Steps.{accepted-by, start-by}
 use Rattle.recordbytes.proofs.RoundTrip.{undamaged, taken-whole}
 use Rattle.recordbytes.specs.Layout.{sizeFor, packCheck, packFor, packedRecord, packedWhole, unpacked}
 use Rattle.ffi.specs.Calls.{RecordLeft, recordLeft, recordAs, storeCall, runCall, startCall, stepCall}
 use Rattle.ffi.proofs.Narrow.{many-trucks, narrowed}
 
--- a record that refusal 7 lets pass has an n in range
-good-range : (f : Fleet) → not (goodFleet f) ≡ false → badTrucks (f .n) ≡ false
-unfolding goodFleetIn
-good-range f h =
-    let range = not (badTrucks (f .n)) in
-    let few = leb (f .done) 400 in
-    let all = allBelow (λ i. goodTruck (f .done) (truck (f .trucks) i)) (f .n) in
-    not-true (badTrucks (f .n)) (and-left range few (and-left (range && few) all (not-false (range && few && all) h)))
-
--- so has the record of an accepted step
+-- the record of an accepted step has an n in range
 pub step-trucks : (f : Fleet) (w : List ℕ) → stepCheck f w ≡ Accepted → badTrucks (f .n) ≡ false
 unfolding stepCheckIn
-step-trucks f w h = good-range f (refuse-false (not (goodFleet f)) Record (refuse (eqb (f .done) 400) RoundsDone (roundCheck (f .n) w)) h)
+step-trucks f w h =
+    record-parts twoRound f
+    (not-false (goodFleet f) (refuse-false (not (goodFleet f)) Record (refuse (eqb (f .done) 400) RoundsDone (roundCheck (f .n) (f .done + 1) w)) h))
+    .trucks
 
 -- a buffer with room for a record of n trucks
 pub room-for : (n : ℕ) (d : List ℕ) → badTrucks n ≡ false → sizeFor 32 ≤ length d → packCheck n (length d) ≡ Accepted
 unfolding packCheck
 room-for n d range room = rw (range, le-ltb (length d) (sizeFor 32) room)
+
+-- the number that is answered
+pub record-number : (o : Outcome) (m : ℕ) (f : Fleet) (d : List ℕ) → recordAs o m f d .number ≡ outcomeNumber o
+record-number Accepted m f d = refl
+record-number (Refused r) m f d = refl
 
 -- the number and the buffer that packing m places leaves
 packed-as : (f : Fleet) (m : ℕ) (d l : List ℕ) (o : Outcome) (k : ℕ) → o ≡ packCheck (f .n) (length d) → l ≡ packFor (packCheck (f .n) (length d)) m f d → k ≡ outcomeNumber o

@@ -8,10 +8,12 @@ use lib.Dec.{ltb}
 use lib.ListN.{length, getD, drop}
 use Rattle.basics.specs.Lists.{filled}
 use Rattle.refusals.specs.Numbers.{numberOf}
+use Rattle.refusals.specs.Places.{outcomePlace, placeNumber}
 use Rattle.refusals.specs.declared.Refusal.the-variants.{ShortBuffer}
 use Rattle.refusals.specs.declared.Outcome.{Outcome}
 use Rattle.refusals.specs.declared.Outcome.the-variants.{Accepted, Refused}
 use Rattle.refusals.specs.Outcomes.{refuse, andThen}
+use Rattle.recording.specs.Checks.{checkOf, plainCheck}
 use Rattle.roads.specs.Opening.{openingOf, openingAnswer}
 use Rattle.plain.specs.Forms.{readAnswer, readPlain, writeAnswer, writePlain}
 use Rattle.protocol.specs.declared.Fleet.{Fleet}
@@ -145,3 +147,19 @@ stepCall d words =
 unfoldable pub bytesAfter : List ℕ → List (List ℕ) → List ℕ
 bytesAfter d [] = d
 bytesAfter d (w ∷ ws) = bytesAfter (stepCall d w .bytes) ws
+
+-- ---- where an own loss bit is: the round and the truck that refusal 6 names, as one number, and 0 where the call does not refuse 6
+
+-- reading, running, listing and grading a recording
+unfoldable pub recordingOwnLoss : List ℕ → ℕ
+recordingOwnLoss bytes = placeNumber (outcomePlace (checkOf bytes))
+
+-- writing
+unfoldable pub writeOwnLoss : ℕ → ℕ → List ℕ → List ℕ → ℕ
+writeOwnLoss n R openings words = placeNumber (outcomePlace (plainCheck n R openings words))
+
+-- a step
+unfoldable pub stepOwnLoss : List ℕ → List ℕ → ℕ
+stepOwnLoss d words =
+    let u = unpacked d in
+    placeNumber (outcomePlace (andThen (u .outcome) (stepped (u .fleet) words .outcome)))

@@ -1,13 +1,15 @@
 // The library for callers in other languages: functions on numbers and slices. A slice is passed as a pointer and then a length.
-// Each answers document 01's number of the refusal, or 0; a refusal changes nothing that was lent.
+// Each answers document 01's number of the refusal, or 0; a refusal changes nothing that was lent. What refusal 6 names besides is asked for by the last three.
 ghost use mathlib.Core.Path.{_≡_};
 ghost use mathlib.Core.Bool.{false};
 ghost use Prim.Native.Nat.{min};
 ghost use Rattle.refusals.specs.Numbers.{numberOf, outcomeNumber};
+ghost use Rattle.refusals.specs.Places.{outcomePlace, placeNumber};
 ghost use Rattle.refusals.specs.declared.Outcome.the-variants.{Accepted};
 ghost use Rattle.recording.specs.Checks.{badTrucks};
 ghost use Rattle.ffi.specs.Calls.{openingLeft, openingCall, readLeft, readCall, writeLeft, writeCall};
 ghost use Rattle.ffi.specs.Calls.{recordLeft, storeCall, runCall, startCall, stepCall, listLeft, listCall, gradeLeft, gradeCall};
+ghost use Rattle.ffi.specs.Calls.{recordingOwnLoss, writeOwnLoss, stepOwnLoss};
 use listing::Listed;
 use plain::ReadOutcome;
 use plain::WriteOutcome;
@@ -27,6 +29,12 @@ fn outcome_number(o: Outcome) -> u32
     ensures { λ k. ⌜ k ≡ outcomeNumber o ⌝ }
 {
     refusals::outcome_number(o) as u32
+}
+
+fn own_loss(o: Outcome) -> u32
+    ensures { λ k. ⌜ k ≡ placeNumber (outcomePlace o) ⌝ }
+{
+    refusals::place_number(refusals::outcome_place(o))
 }
 
 // The crusher that a truck opens with.
@@ -201,6 +209,47 @@ pub extern "C" fn rajvokshul_step(fleet: &mut [u8], words: &[u32]) -> u32
                     outcome_number(recordbytes::pack(g, fleet))
                 }
             }
+        }
+    }
+}
+
+// Where the own loss bit is for which a recording is refused.
+#[no_mangle]
+pub extern "C" fn rajvokshul_recording_own_loss(bytes: &[u8]) -> u32
+    ensures { λ r. ⌜ r ≡ recordingOwnLoss (now (bytes .entry)) ⌝ }
+{
+    own_loss(recording::check(bytes))
+}
+
+// Where the own loss bit is for which plain form is not written.
+#[no_mangle]
+pub extern "C" fn rajvokshul_write_own_loss(
+    trucks: u32,
+    rounds: u32,
+    openings: &[u8],
+    words: &[u32],
+) -> u32
+    ensures { λ r. ⌜ r ≡ writeOwnLoss trucks rounds (now (openings .entry)) (now (words .entry)) ⌝ }
+{
+    let n = narrow_trucks(trucks);
+    let k = narrow_rounds(rounds);
+    own_loss(plain::check_plain(n, k, openings, words))
+}
+
+// Where the own loss bit is for which a step is refused.
+#[no_mangle]
+pub extern "C" fn rajvokshul_step_own_loss(fleet: &[u8], words: &[u32]) -> u32
+    ensures { λ r. ⌜ r ≡ stepOwnLoss (now (fleet .entry)) (now (words .entry)) ⌝ }
+{
+    let u = recordbytes::unpack(fleet);
+    let whole = u.outcome;
+    match whole {
+        Outcome::Refused(r) => own_loss(Outcome::Refused(r)),
+        Outcome::Accepted => {
+            let f = u.fleet;
+            let a = fleet::step(f, words);
+            let taken = a.outcome;
+            own_loss(taken)
         }
     }
 }

@@ -25,7 +25,7 @@ fn check_step(f: Fleet, words: &[u32]) -> Outcome
     if f.done == 400 {
         return Outcome::Refused(Refusal::RoundsDone);
     }
-    plain::check_round(f.n, words)
+    plain::check_round(f.n, f.done + 1, words)
 }
 
 // A step by a round in plain form.

@@ -142,10 +142,14 @@ unfolding truckLine
 line-text i t =
     ap (λ (x : List ℕ). x ++ text "\n") (sym (append-assoc (openingText i (t .opening)) (text " ") (stateText (t .state) (t .estimate))))
 
+-- no text
+pub put-none : (d : List ℕ) (at : ℕ) → Put d at [] d at
+put-none d at = record { next = omega arith; front = sym (append-nil (take at d)); rest = refl }
+
 -- the lines of the trucks, one after the other
 pub lines-none : (d : List ℕ) (at : ℕ) (ts : List Truck) → Put d at (truckLines ts 0) d at
 unfolding truckLines
-lines-none d at ts = record { next = omega arith; front = sym (append-nil (take at d)); rest = refl }
+lines-none d at ts = put-none d at
 
 pub lines-more : {d d′ d″ : List ℕ} {at r q : ℕ} (ts : List Truck) (i : ℕ)
     → Put d at (truckLines ts i) d′ r → Put d′ r (truckLine i (truck ts i)) d″ q → Put d at (truckLines ts (i + 1)) d″ q

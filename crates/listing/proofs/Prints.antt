@@ -27,7 +27,7 @@ use Rattle.listing.specs.Text.{listingOf, refusalText, printedFor, print
 use Rattle.listing.specs.Listed.{Left, left, listAnswer, textIn, listedFor, listed, listCheck, refusalListed}
 use Rattle.listing.specs.Program.{longestListing, longestRefusal, inputLimit}
 use Rattle.listing.proofs.Laws.{sizeOf}
-use Rattle.listing.proofs.Sizes.{listing-size, refusal-size}
+use Rattle.listing.proofs.Sizes.{listing-size, refused-size}
 
 -- a text in a buffer that is long enough for it
 text-suffices : (t d : List ℕ) → length t ≤ length d → textIn t d ≡ left (Text (length t)) (t ++ drop (length t) d)
@@ -80,10 +80,14 @@ list-suffices s d r h = go (checkOf s) refl
         absurd (true≢false (sym (ap (λ (l : Left). isText (l .answer)) (text-suffices (listingOf f) d (omega arith))) ∙ ap isText a))
     go (outcome.Refused q) e a = ap outcomeFor a
 
--- nor is one of the size named for the line of a refusal
-pub refusal-suffices : (r : Refusal) (d : List ℕ) → longestRefusal ≤ length d → refusalListed r d .answer ≡ Text (length (refusalText r))
+-- nor is one of the size named for the line of a refused recording
+line-suffices : (r : Refusal) (d : List ℕ) → length (refusalText r) ≤ length d → refusalListed r d .answer ≡ Text (length (refusalText r))
 unfolding refusalListed
-refusal-suffices r d h = ap (λ (l : Left). l .answer) (text-suffices (refusalText r) d (omega (arith, refusal-size r)))
+line-suffices r d h = ap (λ (l : Left). l .answer) (text-suffices (refusalText r) d h)
+
+pub refusal-suffices : (s : List ℕ) (r : Refusal) (d : List ℕ) → checkOf s ≡ outcome.Refused r → longestRefusal ≤ length d
+    → refusalListed r d .answer ≡ Text (length (refusalText r))
+refusal-suffices s r d e h = line-suffices r d (omega (arith, refused-size s r e))
 
 -- a refused recording prints the line of its refusal
 refused-printed : (s : List ℕ) (r : Refusal) → checkOf s ≡ outcome.Refused r → printed s ≡ refusalText r
@@ -106,12 +110,15 @@ module _ (s d d′ : List ℕ) (l : Listed) (left-so : left l d′ ≡ listed s 
   pub list-refused : (r : Refusal) → l ≡ Refused r → longestListing ≤ length d → refusalText r ≡ printed s
   list-refused r h g = sym (refused-printed s r (list-suffices s d r g (answered ∙ h)))
 
+  pub list-room : (r : Refusal) → l ≡ Refused r → longestListing ≤ length d → length (refusalText r) ≤ length d
+  list-room r h g = omega (arith, refused-size s r (list-suffices s d r g (answered ∙ h)))
+
 module _ (r : Refusal) (d d′ : List ℕ) (l : Listed) (left-so : left l d′ ≡ refusalListed r d) where
   pub line-text : (k : ℕ) → l ≡ Text k → take k d′ ≡ refusalText r
   line-text k h = ap (λ (x : Left). take k (x .buffer)) left-so ∙ refusal-printed r d k (sym (ap (λ (x : Left). x .answer) left-so) ∙ h)
 
-  pub line-refused : (q : Refusal) → l ≡ Refused q → longestRefusal ≤ length d → ⊥
-  line-refused q h g = true≢false (sym (ap isText (refusal-suffices r d g)) ∙ ap (λ (x : Left). isText (x .answer)) (sym left-so) ∙ ap isText h)
+  pub line-refused : (q : Refusal) → l ≡ Refused q → length (refusalText r) ≤ length d → ⊥
+  line-refused q h g = true≢false (sym (ap isText (line-suffices r d g)) ∙ ap (λ (x : Left). isText (x .answer)) (sym left-so) ∙ ap isText h)
 
 -- ---- answers by document 01's number and values
 text-answer : (t d : List ℕ) → listAnswer (textIn t d .answer) ≡ numbered (refuse (ltb (length d) (length t)) ShortBuffer outcome.Accepted) (length t ∷ [])

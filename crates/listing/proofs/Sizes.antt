@@ -1,5 +1,5 @@
 -- How long a listing and the line of a refusal can be.
-use mathlib.Core.Path.{_≡_, refl, ap, subst}
+use mathlib.Core.Path.{_≡_, refl, ap, subst, _∙_}
 use mathlib.Core.Bool.{Bool, true, false, cond}
 use mathlib.Core.List.{List, [], _∷_, _++_}
 use Prim.Native.Nat.{ℕ, zero, suc, _+_, _*_, _-_, _/_, _%_, _^_, _≤_, _<_}
@@ -11,13 +11,18 @@ use lib.Dec.{ltb}
 use lib.ListN.{length, length-append, replicate}
 use Rattle.basics.specs.Lists.{allBelow}
 use Rattle.refusals.specs.declared.Refusal.{Refusal}
-use Rattle.refusals.specs.declared.Refusal.the-variants.{RoundsDone}
-use Rattle.refusals.specs.declared.Outcome.the-variants.{Accepted}
+use Rattle.refusals.specs.declared.Refusal.the-variants.{OwnLoss}
+use Rattle.refusals.specs.declared.Place.{Place}
+use Rattle.refusals.specs.declared.Place.the-variants.{Unnamed, At}
+use Rattle.refusals.specs.declared.Outcome.the-variants.{Accepted, Refused}
 use Rattle.refusals.specs.Numbers.{numberOf}
+use Rattle.refusals.specs.Places.{placeOf}
 use Rattle.refusals.proofs.Numbers.{number-range}
+use Rattle.refusals.proofs.Places.{named-6}
 use Rattle.recording.specs.Packed.{trucksOf, roundsOf}
 use Rattle.recording.specs.Checks.{badTrucks, checkOf}
 use Rattle.recording.proofs.Accepted.{bytes-good}
+use Rattle.recording.proofs.Named.{check-in}
 use Rattle.protocol.specs.declared.Heard.the-variants.{Nothing}
 use Rattle.protocol.specs.declared.State.{State}
 use Rattle.protocol.specs.declared.State.the-variants.{Running, Stopped, Decided}
@@ -28,7 +33,7 @@ use Rattle.protocol.specs.Fleets.{twoRound, goodState, goodTruckIn, goodFleetIn
 use Rattle.protocol.proofs.Good.{Good, state-ended}
 use Rattle.protocol.proofs.OneRound.{sound-two}
 use Rattle.protocol.proofs.Ran.{ran-fleet, ran-good}
-use Rattle.listing.specs.Text.{text, decimalIn, decimal, stateText, truckLine, truckLines, listingOf, refusalText}
+use Rattle.listing.specs.Text.{text, decimalIn, decimal, stateText, truckLine, truckLines, listingOf, placeText, refusalText}
 use Rattle.listing.specs.Program.{longestListing, longestRefusal}
 
 -- a number below 10 to the m + 1 has at most m + 1 digits
@@ -154,21 +159,61 @@ listing-size s h =
     fleet-size (ran s .fleet) (rw (ran-fleet twoRound s h) (b .most)) (rw (ran-fleet twoRound s h) (b .rounds))
     (λ i l. rw (ap (λ (f : Fleet). f .done) (ran-fleet twoRound s h)) (ran-good twoRound s sound-two h i (subst (λ (f : Fleet). i < f .n) (ran-fleet twoRound s h) l)))
 
-pub refusal-size : (r : Refusal) → length (refusalText r) ≤ longestRefusal
-unfolding refusalText
-refusal-size r =
-    let a = text "refused " in
-    let b = decimal (numberOf r) in
-    let la : length (text "refused ") ≡ 8 = refl in
-    let lc : length (text "\n") ≡ 1 = refl in
+-- a round within the limits and a truck below 32
+place-size : (round truck : ℕ) → round ≤ 400 → truck < 32 → length (placeText (At round truck)) ≤ 19
+unfolding placeText
+place-size round truck h l =
+    let a = text " round " ++ decimal round in
+    let lb : length (text " round ") ≡ 7 = refl in
+    let lc : length (text " truck ") ≡ 7 = refl in
     omega (
       arith,
-      length-append a b,
-      length-append (a ++ b) (text "\n"),
-      digits 1 (numberOf r) (let o : numberOf r < 10 ^ 2 = omega (arith, number-range r) in o),
+      length-append (text " round ") (decimal round),
+      length-append a (text " truck "),
+      length-append (a ++ text " truck ") (decimal truck),
+      round-size round h,
+      digits 1 truck (let o : truck < 10 ^ 2 = omega arith in o),
     )
 
--- no size is larger than it has to be: a record that refusal 7 lets pass has the longest listing, and 14 the longest line
+-- a line by its parts
+line-parts : (r : Refusal) → length (refusalText r) ≡ 9 + length (decimal (numberOf r)) + length (placeText (placeOf r))
+unfolding refusalText
+line-parts r =
+    let a = text "refused " ++ decimal (numberOf r) in
+    let b = placeText (placeOf r) in
+    let la : length (text "refused ") ≡ 8 = refl in
+    let lc : length (text "\n") ≡ 1 = refl in
+    omega (arith, length-append (text "refused ") (decimal (numberOf r)), length-append a b, length-append (a ++ b) (text "\n"))
+
+-- the line of a refusal that names a round and a truck within the limits, or none
+pub refusal-size : (r : Refusal) → ((round truck : ℕ) → r ≡ OwnLoss round truck → (round ≤ 400) × (truck < 32)) → length (refusalText r) ≤ longestRefusal
+unfolding placeText
+refusal-size r within = go (placeOf r) refl
+  where
+    go : (p : Place) → placeOf r ≡ p → length (refusalText r) ≤ longestRefusal
+    go Unnamed e =
+        omega (
+          arith,
+          line-parts r,
+          ap (λ (p : Place). length (placeText p)) e,
+          digits 1 (numberOf r) (let o : numberOf r < 10 ^ 2 = omega (arith, number-range r) in o),
+        )
+    go (At round truck) e =
+        let six : r ≡ OwnLoss round truck = named-6 r round truck e in
+        let l = within round truck six in
+        omega (
+          arith,
+          line-parts r,
+          ap (λ (p : Place). length (placeText p)) e,
+          place-size round truck (l .0) (l .1),
+          digits 0 (numberOf r) (let o : numberOf r < 10 ^ 1 = omega (arith, ap numberOf six) in o),
+        )
+
+-- and so of a refused recording
+pub refused-size : (s : List ℕ) (r : Refusal) → checkOf s ≡ Refused r → length (refusalText r) ≤ longestRefusal
+refused-size s r h = refusal-size r (λ round truck e. check-in s round truck (h ∙ ap Refused e))
+
+-- no size is larger than it has to be: a record that refusal 7 lets pass has the longest listing, and the last truck of the last round the longest line
 pub fullest : Fleet
 fullest = record { n = 32; done = 400; trucks = replicate 32 (record { opening = 15; estimate = 15; mark = false; heard = Nothing; state = Decided 400 }) }
 
@@ -176,6 +221,6 @@ pub listing-longest : (goodFleet fullest ≡ true) × (length (listingOf fullest
 unfolding fullest goodTruckIn goodFleetIn badTrucks allBelow decimalIn decimal stateText truckLine truckLines listingOf
 listing-longest = (refl, refl)
 
-pub refusal-longest : length (refusalText RoundsDone) ≡ longestRefusal
-unfolding decimalIn decimal refusalText
+pub refusal-longest : length (refusalText (OwnLoss 400 31)) ≡ longestRefusal
+unfolding decimalIn decimal placeText refusalText
 refusal-longest = refl

@@ -7,7 +7,7 @@ abbrev pub longestListing : ℕ
 longestListing = 1099
 
 abbrev pub longestRefusal : ℕ
-longestRefusal = 11
+longestRefusal = 29
 
 -- how many bytes of its input the program reads at most: one more than the largest recording has
 abbrev pub inputLimit : ℕ

@@ -7,7 +7,10 @@ use mathlib.Core.Bool.{cond}
 use mathlib.Core.List.{List, [], _∷_, _++_}
 use lib.Dec.{ltb}
 use Rattle.refusals.specs.Numbers.{numberOf}
+use Rattle.refusals.specs.Places.{placeOf}
 use Rattle.refusals.specs.declared.Refusal.{Refusal}
+use Rattle.refusals.specs.declared.Place.{Place}
+use Rattle.refusals.specs.declared.Place.the-variants.{Unnamed, At}
 use Rattle.refusals.specs.declared.Outcome.{Outcome}
 use Rattle.refusals.specs.declared.Outcome.the-variants.{Accepted, Refused}
 use Rattle.protocol.specs.declared.State.{State}
@@ -52,9 +55,14 @@ truckLines ts (suc i) = truckLines ts i ++ truckLine i (truck ts i)
 unfoldable pub listingOf : Fleet → List ℕ
 listingOf f = text "trucks " ++ decimal (f .n) ++ text " rounds " ++ decimal (f .done) ++ text "\n" ++ truckLines (f .trucks) (f .n)
 
+-- the round and the truck that a refusal names, where it names them
+unfoldable pub placeText : Place → List ℕ
+placeText Unnamed = []
+placeText (At round truck) = text " round " ++ decimal round ++ text " truck " ++ decimal truck
+
 -- the one line of a refused recording
 unfoldable pub refusalText : Refusal → List ℕ
-refusalText r = text "refused " ++ decimal (numberOf r) ++ text "\n"
+refusalText r = text "refused " ++ decimal (numberOf r) ++ placeText (placeOf r) ++ text "\n"
 
 -- the listing of a run, or the line of a refusal
 abbrev pub printedFor : Outcome → Fleet → List ℕ

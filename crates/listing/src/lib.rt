@@ -3,13 +3,14 @@ ghost use mathlib.Core.Path.{_≡_};
 ghost use mathlib.Core.List.{_∷_, []};
 ghost use Prim.Native.Nat.{_+_, _<_, _≤_};
 ghost use lib.ListN.{length};
-ghost use Rattle.listing.specs.Text.{decimal, stateText, truckLine, truckLines, listingOf, refusalText};
+ghost use Rattle.listing.specs.Text.{decimal, stateText, truckLine, truckLines, listingOf, placeText, refusalText};
 ghost use Rattle.listing.specs.Listed.{left, textIn, listed, refusalListed};
 ghost use Rattle.listing.specs.Writing.{Put, openingText, endedText, headerText, spaced};
 use protocol::Fleet;
 use protocol::State;
 use protocol::Truck;
 use refusals::Outcome;
+use refusals::Place;
 use refusals::Refusal;
 
 // A text of so many bytes in the lent buffer, or why there is none.
@@ -160,22 +161,40 @@ fn lend_text(t: &[u8], buf: &mut [u8]) -> Listed
     }
 }
 
+// Puts the round and the truck that a refusal names.
+fn put_place(buf: &mut [u8], at: usize, p: Place) -> usize
+    requires { ⌜ at + 24 ≤ length (now buf) ⌝ }
+    ensures placed { λ r. ⌜ Put (now (buf .entry)) at (placeText p) (now (buf .exit)) r ⌝ }
+    ensures within { λ r. ⌜ r ≤ at + 24 ⌝ }
+{
+    match p {
+        Place::Unnamed => at,
+        Place::At { round, truck } => {
+            let a = put(buf, at, b" round ");
+            let b = put_number(buf, a, round);
+            let c = put(buf, b, b" truck ");
+            put_number(buf, c, truck as u16)
+        }
+    }
+}
+
 // Puts the line of a refused recording.
 fn put_refusal(buf: &mut [u8], r: Refusal) -> usize
-    requires { ⌜ 16 ≤ length (now buf) ⌝ }
+    requires { ⌜ 38 ≤ length (now buf) ⌝ }
     ensures placed { λ k. ⌜ Put (now (buf .entry)) 0 (refusalText r) (now (buf .exit)) k ⌝ }
-    ensures within { λ k. ⌜ k ≤ 16 ⌝ }
+    ensures within { λ k. ⌜ k ≤ 38 ⌝ }
 {
     let a = put(buf, 0, b"refused ");
     let b = put_number(buf, a, refusals::number(r) as u16);
-    put(buf, b, b"\n")
+    let c = put_place(buf, b, refusals::place_of(r));
+    put(buf, c, b"\n")
 }
 
 // The line that is printed for a refused recording.
 pub fn refusal_line(r: Refusal, buf: &mut [u8]) -> Listed
     ensures { λ k. ⌜ left k (now (buf .exit)) ≡ refusalListed r (now (buf .entry)) ⌝ }
 {
-    let mut work = [0u8; 16];
+    let mut work = [0u8; 38];
     let k = put_refusal(&mut work, r);
     lend_text(&work[..k], buf)
 }

@@ -11,11 +11,10 @@ use lib.Dec.{leb, ltb, eqb, lit<}
 use lib.ListN.{length, getD}
 use lib.Pow.{pow-mono, pow-pos, pow-add, shl-exact}
 use Rattle.basics.specs.Bits.{digit, bit}
-use Rattle.basics.specs.Lists.{someBelow}
-use Rattle.basics.proofs.Laws.{someBelow-by, some-past}
+use Rattle.basics.specs.Lists.{first, someBelow}
+use Rattle.basics.proofs.Laws.{someBelow-by, some-past, some-ext, first-past, first-ext}
 use Rattle.bitreader.proofs.Digits.{digit-lt}
-use Rattle.recording.specs.Checks.{highBit, ownBit, badOpenings, badWords}
-use Rattle.recording.proofs.RoundTrip.{own-at}
+use Rattle.recording.specs.Checks.{highBit, ownBit, ownIn, ownTruck, badOpenings, badWords}
 
 -- a shift in place of a power
 pub high-shift : (n w : ℕ) → leb 1 (w / 2 ^ n) ≡ highBit n w
@@ -71,10 +70,6 @@ bit-alone w i h =
 abbrev pub ownPlain : List ℕ → ℕ → ℕ → Bool
 ownPlain words base i = bit (getD words (base + (3 + i)) 0) i
 
--- that place in round r
-pub own-plain : (words : List ℕ) (n r base : ℕ) → base ≡ r * (3 + n) → (i : ℕ) → i < n → ownPlain words base i ≡ ownBit (λ w. getD words w 0) n (r * n + i)
-own-plain words n r base e i h = ap (λ (b : ℕ). ownPlain words b i) e ∙ sym (own-at (λ w. getD words w 0) n r i h)
-
 -- ---- openings and words as a whole
 or-true : (a b : Bool) → b ≡ true → true ≡ (a || b)
 or-true true b h = refl
@@ -108,7 +103,24 @@ module _ (n R : ℕ) (words : List ℕ) where
 pub words-small : (n R : ℕ) → n < 256 → R < 65536 → R * (3 + n) ≤ 16908030
 words-small n R h l = mul-le-mul (let o : R ≤ 65535 = omega arith in o) (let o : 3 + n ≤ 258 = omega arith in o)
 
--- the first 32 trucks alone have an own loss bit
-pub own-held : (words : List ℕ) (base n m : ℕ) → ((k : ℕ) → getD words k 0 < 2 ^ 32) → m ≡ min n 32 → someBelow (ownPlain words base) m ≡ someBelow (ownPlain words base) n
-own-held words base n m fits e =
-    some-past (ownPlain words base) m n (omega arith) (λ k l u. sym (bit-none (getD words (base + (3 + k)) 0) k (omega arith) (fits (base + (3 + k)))))
+-- what a look at round r says, whose words begin at a place; the first 32 trucks alone have an own loss bit
+module _ (words : List ℕ) (n m r base : ℕ) (fits : (k : ℕ) → getD words k 0 < 2 ^ 32) (held : m ≡ min n 32) (placed : base ≡ r * (3 + n)) where
+  own-plain : (i : ℕ) → ownPlain words base i ≡ ownBit (λ w. getD words w 0) n r i
+  unfolding ownBit
+  own-plain i = ap (λ (b : ℕ). ownPlain words b i) placed
+
+  none-above : (k : ℕ) → m ≤ k → k < n → ownPlain words base k ≡ false
+  none-above k l u = sym (bit-none (getD words (base + (3 + k)) 0) k (omega arith) (fits (base + (3 + k))))
+
+  pub own-looked : (b : Bool) → b ≡ someBelow (ownPlain words base) m → ownIn (λ w. getD words w 0) n r ≡ b
+  unfolding ownIn
+  own-looked b e =
+      sym (e ∙ some-past (ownPlain words base) m n (omega arith) none-above ∙ some-ext (ownPlain words base) (ownBit (λ w. getD words w 0) n r) n (λ i l. own-plain i))
+
+  pub own-searched : (truck : ℕ) → someBelow (ownPlain words base) m ≡ true → truck ≡ first (ownPlain words base) m → ownTruck (λ w. getD words w 0) n r ≡ truck
+  unfolding ownTruck
+  own-searched truck h e =
+      sym
+      (e
+      ∙ first-past (ownPlain words base) m n (omega arith) h
+      ∙ first-ext (ownPlain words base) (ownBit (λ w. getD words w 0) n r) n (λ i l. own-plain i))

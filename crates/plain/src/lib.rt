@@ -6,9 +6,9 @@ ghost use Prim.Native.Nat.{_+_, _*_, _-_, _<_, _≤_, _^_, _/_, _%_, min, ℕ};
 ghost use lib.ListN.{length, getD};
 ghost use Rattle.refusals.specs.declared.Outcome.the-variants.{Accepted};
 ghost use Rattle.basics.specs.Bits.{bit};
-ghost use Rattle.basics.specs.Lists.{someBelow, filled};
+ghost use Rattle.basics.specs.Lists.{first, someBelow, filled};
 ghost use Rattle.recording.specs.Packed.{trucksOf, openingPlace, wordAt, bytesFor, packBit};
-ghost use Rattle.recording.specs.Checks.{highBit, badOpenings, badWords, ownLoss, roundsCheck, roundCheck, plainCheck};
+ghost use Rattle.recording.specs.Checks.{highBit, badOpenings, badWords, ownLossCheck, roundsCheck, roundCheck, plainCheck};
 ghost use Rattle.plain.specs.Forms.{afterRead, readPlain, afterWrite, writePlain};
 ghost use Rattle.plain.specs.Steps.{swapped, gatheredWord, turnedWord, over, byteOf, packedByte, added, BitsPut};
 use refusals::Outcome;
@@ -83,6 +83,21 @@ fn own_any(words: &[u32], base: usize, n: usize) -> bool
     1 <= any
 }
 
+// The lowest of the first n trucks whose own loss bit is 1 in that round, or n where none is.
+fn own_truck(words: &[u32], base: usize, n: usize) -> usize
+    requires { ⌜ (n ≤ 32) × ((base < 2 ^ 32) × (base + (3 + n) ≤ length (now words))) ⌝ }
+    ensures { λ r. ⌜ r ≡ first (λ i. bit (getD (now (words .entry)) (base + (3 + i)) 0) i) n ⌝ }
+{
+    let mut i = 0;
+    while i < n {
+        if (words[base + (3 + i)] >> i) % 2 == 1 {
+            return i;
+        }
+        i += 1;
+    }
+    n
+}
+
 // How many of m trucks have a bit in a word.
 fn trucks_held(m: usize) -> usize
     ensures { λ r. ⌜ r ≡ min m 32 ⌝ }
@@ -90,10 +105,10 @@ fn trucks_held(m: usize) -> usize
     if m < 32 { m } else { 32 }
 }
 
-// Refusal 6, of rounds of the right number of words.
-fn own_loss(n: u8, rounds: u16, words: &[u32]) -> bool
-    requires { ⌜ length (now words) ≡ rounds * (3 + n) ⌝ }
-    ensures { λ r. ⌜ r ≡ ownLoss (λ w. getD (now (words .entry)) w 0) n rounds ⌝ }
+// Refusal 6, of rounds of the right number of words, the first of which is round `k`.
+fn check_own(n: u8, k: u16, rounds: u16, words: &[u32]) -> Outcome
+    requires { ⌜ (length (now words) ≡ rounds * (3 + n)) × (k + rounds ≤ 65536) ⌝ }
+    ensures { λ r. ⌜ r ≡ ownLossCheck (λ w. getD (now (words .entry)) w 0) n k rounds ⌝ }
 {
     let m = n as usize;
     let held = trucks_held(m);
@@ -101,32 +116,33 @@ fn own_loss(n: u8, rounds: u16, words: &[u32]) -> bool
     let mut r: u16 = 0;
     while r < rounds {
         if own_any(words, base, held) {
-            return true;
+            return Outcome::Refused(Refusal::OwnLoss {
+                round: k + r,
+                truck: own_truck(words, base, held) as u8,
+            });
         }
         base = base + (3 + m);
         r += 1;
     }
-    false
+    Outcome::Accepted
 }
 
-// Refusals 8 and 6, of rounds one after the other.
-fn check_rounds(n: u8, rounds: u16, words: &[u32]) -> Outcome
-    ensures { λ r. ⌜ r ≡ roundsCheck n rounds (now (words .entry)) ⌝ }
+// Refusals 8 and 6, of rounds one after the other, the first of which is round `k`.
+fn check_rounds(n: u8, k: u16, rounds: u16, words: &[u32]) -> Outcome
+    requires { ⌜ k + rounds ≤ 65536 ⌝ }
+    ensures { λ r. ⌜ r ≡ roundsCheck n k rounds (now (words .entry)) ⌝ }
 {
     if bad_words(n, rounds, words) {
         return Outcome::Refused(Refusal::PlainRound);
     }
-    if own_loss(n, rounds, words) {
-        return Outcome::Refused(Refusal::OwnLoss);
-    }
-    Outcome::Accepted
+    check_own(n, k, rounds, words)
 }
 
-// Refusals 8 and 6, of one round.
-pub fn check_round(trucks: u8, words: &[u32]) -> Outcome
-    ensures { λ r. ⌜ r ≡ roundCheck trucks (now (words .entry)) ⌝ }
+// Refusals 8 and 6, of round `k`.
+pub fn check_round(trucks: u8, k: u16, words: &[u32]) -> Outcome
+    ensures { λ r. ⌜ r ≡ roundCheck trucks k (now (words .entry)) ⌝ }
 {
-    check_rounds(trucks, 1, words)
+    check_rounds(trucks, k, 1, words)
 }
 
 // Refusals 2, 3, 7, 8 and 6.
@@ -142,7 +158,7 @@ pub fn check_plain(trucks: u8, rounds: u16, openings: &[u8], words: &[u32]) -> O
     if bad_openings(trucks, openings) {
         return Outcome::Refused(Refusal::Record);
     }
-    check_rounds(trucks, rounds, words)
+    check_rounds(trucks, 1, rounds, words)
 }
 
 fn swap_bytes(x: u32) -> u32

@@ -1,24 +1,27 @@
--- Laws of what refusal 7 asks of a truck; and a record that it lets pass is one after a round, too, by any protocol.
+-- Laws of what refusal 7 asks of a truck and of a record; and a record that it lets pass is one after a round, too, by any protocol.
 use mathlib.Core.Path.{_≡_, refl, ap, _∙_}
-use mathlib.Core.Bool.{Bool, true, false, _&&_, true≢false}
+use mathlib.Core.Bool.{Bool, true, false, not, _&&_, true≢false}
 use mathlib.Core.List.{List}
 use mathlib.Core.Logic.{_⊎_, inl, inr}
 use Prim.Native.Nat.{ℕ, suc, _≤_, _<_}
 use native.Mathlib.Omega.{arith}
-use borrow.Author.Tests.{lt-ltb, le-leb, leb-true}
+use borrow.Author.Tests.{lt-ltb, le-leb, leb-true, not-true}
 use lib.Dec.{ltb, leb}
 use lib.ListN.{getD}
-use Rattle.basics.proofs.Laws.{and-left, and-right, and-both}
+use Rattle.basics.specs.Lists.{allBelow}
+use Rattle.basics.proofs.Laws.{and-left, and-right, and-both, allBelow-at}
 use Rattle.radio.specs.Round.{activeBit}
 use Rattle.radio.specs.Radio.{Radio}
+use Rattle.recording.specs.Checks.{badTrucks}
 use Rattle.recording.proofs.Accepted.{GoodOpenings}
 use Rattle.protocol.specs.declared.State.{State}
 use Rattle.protocol.specs.declared.State.the-variants.{Running, Stopped, Decided}
 use Rattle.protocol.specs.declared.Truck.{Truck}
+use Rattle.protocol.specs.declared.Fleet.{Fleet}
 use Rattle.protocol.specs.Cycles.{isRunning, valuesIn}
 use Rattle.protocol.specs.Rules.{opened, recorded, truck, runs}
 use Rattle.protocol.specs.Runs.{trucksIn}
-use Rattle.protocol.specs.Fleets.{Protocol, isDone, goodStateIn, goodTruckIn}
+use Rattle.protocol.specs.Fleets.{Protocol, isDone, goodStateIn, goodTruckIn, goodFleetIn}
 use Rattle.protocol.specs.Claims.{EndedBy}
 use Rattle.protocol.proofs.AnyRound.{Stamps, Takes, radio, next, after-cases, plays-is, estimate-next}
 use Rattle.protocol.proofs.AnyRun.{opened-truck, throughout}
@@ -45,6 +48,25 @@ good-parts p done t h =
 pub good-whole : (p : Protocol) (done : ℕ) (t : Truck) → Good p done t → goodTruckIn p done t ≡ true
 unfolding goodTruckIn
 good-whole p done t g = rw (g .opening, g .estimate, g .state, g .memory)
+
+-- what it asks of a record, part by part
+pub record GoodRecord (p : Protocol) (f : Fleet) : Type 0 where
+  pub trucks : badTrucks (f .n) ≡ false
+  pub done : f .done ≤ 400
+  pub each : (i : ℕ) → i < f .n → Good p (f .done) (truck (f .trucks) i)
+
+pub record-parts : (p : Protocol) (f : Fleet) → goodFleetIn p f ≡ true → GoodRecord p f
+unfolding goodFleetIn
+record-parts p f h =
+    let good : ℕ → Bool = λ i. goodTruckIn p (f .done) (truck (f .trucks) i) in
+    let two = and-left (not (badTrucks (f .n)) && leb (f .done) 400) (allBelow good (f .n)) h in
+    record {
+      trucks = not-true (badTrucks (f .n)) (and-left (not (badTrucks (f .n))) (leb (f .done) 400) two);
+      done = leb-true (f .done) 400 (and-right (not (badTrucks (f .n))) (leb (f .done) 400) two);
+      each = λ i l.
+          good-parts p (f .done) (truck (f .trucks) i)
+          (allBelow-at good (f .n) (and-right (not (badTrucks (f .n)) && leb (f .done) 400) (allBelow good (f .n)) h) i l);
+    }
 
 -- a round done stays one with one more done, and the one done now is one
 done-later : (done k : ℕ) → isDone done k ≡ true → isDone (suc done) k ≡ true

@@ -7,7 +7,7 @@ use Prim.Native.Nat.{ℕ}
 use Rattle.basics.specs.Lists.{tabFrom, tab, filled, allBelow, who, first, someBelow}
 use Rattle.radio.specs.Radio.{hears, heardBy, heard}
 use Rattle.recording.specs.Packed.{joined, packed, pack, packBit, roundBit, openingBit, bitsFor, bytesFor, numAt}
-use Rattle.recording.specs.Checks.{badTrucks, badOpenings, highBit, badWords, ownBit, ownLoss, roundsCheck, roundCheck}
+use Rattle.recording.specs.Checks.{badTrucks, badOpenings, highBit, badWords, ownBit, ownIn, ownLoss, ownRound, ownTruck, ownLossCheck, roundsCheck, roundCheck}
 use Rattle.protocol.specs.declared.Heard.the-variants.{One}
 use Rattle.protocol.specs.declared.State.the-variants.{Running}
 use Rattle.protocol.specs.Cycles.{radioIn, valuesIn, playsIn, afterIn}
@@ -26,17 +26,17 @@ abbrev steps : List (List ℕ)
 steps = (0 ∷ 3 ∷ 0 ∷ 0 ∷ []) ∷ both ∷ (0 ∷ 0 ∷ 0 ∷ 1 ∷ 0 ∷ []) ∷ none ∷ (0 ∷ 4 ∷ 0 ∷ 0 ∷ 0 ∷ []) ∷ both ∷ []
 
 pub taken-case : taken 2 steps ≡ both ∷ none ∷ both ∷ []
-unfolding takenFrom isTaken badTrucks highBit badWords ownBit ownLoss roundsCheck roundCheck first someBelow
+unfolding takenFrom isTaken badTrucks highBit badWords ownBit ownIn ownLoss ownRound ownTruck ownLossCheck roundsCheck roundCheck first someBelow
 taken-case = refl
 
 -- 6 bits of 2, 10 of 3, openings 3 and 5, then the three rounds of ten bits
 pub recording-case : recordingOf 2 (3 ∷ 5 ∷ []) steps ≡ 0x08 ∷ 0x03 ∷ 0x35 ∷ 0x30 ∷ 0x00 ∷ 0x03 ∷ 0x00 ∷ []
-unfolding recordingOf takenFrom isTaken highBit badWords ownBit ownLoss roundsCheck roundCheck first someBelow joined packed pack packBit roundBit openingBit bitsFor bytesFor numAt tab tabFrom
+unfolding recordingOf takenFrom isTaken highBit badWords ownBit ownIn ownLoss ownRound ownTruck ownLossCheck roundsCheck roundCheck first someBelow joined packed pack packBit roundBit openingBit bitsFor bytesFor numAt tab tabFrom
 recording-case = refl
 
 -- both trucks have come to crusher 3, run, and remember one value
 pub record-case : (lastRecord (started 2 (3 ∷ 5 ∷ []) .fleet) steps .done ≡ 3)
     × (truck (lastRecord (started 2 (3 ∷ 5 ∷ []) .fleet) steps .trucks) 0 ≡ record { opening = 3; estimate = 3; mark = false; heard = One; state = Running })
     × (truck (lastRecord (started 2 (3 ∷ 5 ∷ []) .fleet) steps .trucks) 1 ≡ record { opening = 5; estimate = 3; mark = false; heard = One; state = Running })
-unfolding badOpenings lastRecordIn steppedIn stepCheckIn nextFleetIn goodFleetIn goodTruckIn started startCheck badTrucks highBit badWords ownBit ownLoss roundsCheck roundCheck first someBelow allBelow tab tabFrom filled who hears heardBy heard radioIn valuesIn playsIn afterIn openedIn allSame different leastOr
+unfolding badOpenings lastRecordIn steppedIn stepCheckIn nextFleetIn goodFleetIn goodTruckIn started startCheck badTrucks highBit badWords ownBit ownIn ownLoss ownRound ownTruck ownLossCheck roundsCheck roundCheck first someBelow allBelow tab tabFrom filled who hears heardBy heard radioIn valuesIn playsIn afterIn openedIn allSame different leastOr
 record-case = (refl, refl, refl)

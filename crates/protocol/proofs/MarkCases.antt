@@ -11,7 +11,7 @@ use Rattle.radio.specs.Radio.{Radio, implies, sent, hears, heardBy, heard, miss
 use Rattle.radio.specs.Runs.{stateAt}
 use Rattle.refusals.specs.declared.Outcome.the-variants.{Accepted}
 use Rattle.recording.specs.Packed.{bitAt, numAt, rowAt, trucksOf, roundsOf, openingAt, openingsOf, wordAt, wordsOf, roundAt, bitsFor, bytesFor}
-use Rattle.recording.specs.Checks.{tooShort, badTrucks, badRounds, badLength, endBit, ownBit, ownLoss, frameCheck, ownCheck, checkOf}
+use Rattle.recording.specs.Checks.{tooShort, badTrucks, badRounds, badLength, endBit, ownBit, ownIn, ownLoss, ownRound, ownTruck, ownLossCheck, frameCheck, ownCheck, checkOf}
 use Rattle.protocol.specs.declared.State.{State}
 use Rattle.protocol.specs.declared.State.the-variants.{Decided}
 use Rattle.protocol.specs.Cycles.{radioIn, valuesIn, playsIn, afterIn}
@@ -54,7 +54,7 @@ rounds-have worth s h (suc e) l m = allBelow-at (λ e. worth (suc e) (roundOf s 
 -- majority complete marks but for round 2, mixed marks throughout, false ones among them; both trucks decide 3 in round 4
 pub half-heard : (worths (λ k. majorityComplete) halfHeard ≡ true ∷ false ∷ true ∷ true ∷ []) × (worths twoWorth halfHeard ≡ true ∷ true ∷ true ∷ true ∷ [])
     × (worths (λ k. accurate) halfHeard ≡ false ∷ true ∷ true ∷ true ∷ []) × (ran halfHeard .outcome ≡ Accepted) × (ends halfHeard ≡ (Decided 4, 3) ∷ (Decided 4, 3) ∷ [])
-unfolding tabFrom tab filled allBelow who first someBelow sent hears heardBy heard judged majorityComplete zeroComplete stateAt bitAt numAt rowAt trucksOf roundsOf openingAt openingsOf wordAt wordsOf roundAt allSame different leastOr radioIn valuesIn playsIn afterIn openedIn trucksIn radiosIn misses missesAny accurate bitsFor bytesFor tooShort badTrucks badRounds badLength endBit ownBit ownLoss frameCheck ownCheck checkOf blank fleetIn ranIn
+unfolding tabFrom tab filled allBelow who first someBelow sent hears heardBy heard judged majorityComplete zeroComplete stateAt bitAt numAt rowAt trucksOf roundsOf openingAt openingsOf wordAt wordsOf roundAt allSame different leastOr radioIn valuesIn playsIn afterIn openedIn trucksIn radiosIn misses missesAny accurate bitsFor bytesFor tooShort badTrucks badRounds badLength endBit ownBit ownIn ownLoss ownRound ownTruck ownLossCheck frameCheck ownCheck checkOf blank fleetIn ranIn
 half-heard = (refl, refl, refl, refl, refl)
 
 -- so what agreement asks is met, and what demand 3 asks is not
@@ -66,19 +66,19 @@ mixed-not-majority = (rounds-have twoWorth halfHeard refl, λ marks. false≢tru
 -- in C2 only the marks of an odd round are too weak, and with a veto missed only those of an even one; in both, two trucks decide differently
 pub too-weak : (worths twoWorth c2 ≡ false ∷ true ∷ []) × (worths (λ k. zeroComplete) c2 ≡ true ∷ true ∷ []) × (ends c2 ≡ (Decided 2, 3) ∷ (Decided 2, 5) ∷ [])
     × (worths twoWorth vetoMissed ≡ true ∷ false ∷ true ∷ true ∷ []) × (ends vetoMissed ≡ (Decided 2, 5) ∷ (Decided 2, 5) ∷ (Decided 4, 3) ∷ [])
-unfolding tabFrom tab filled allBelow who first someBelow sent hears heardBy heard judged majorityComplete zeroComplete stateAt bitAt numAt rowAt trucksOf roundsOf openingAt openingsOf wordAt wordsOf roundAt allSame different leastOr radioIn valuesIn playsIn afterIn openedIn trucksIn radiosIn bitsFor bytesFor tooShort badTrucks badRounds badLength endBit ownBit ownLoss frameCheck ownCheck checkOf blank fleetIn ranIn
+unfolding tabFrom tab filled allBelow who first someBelow sent hears heardBy heard judged majorityComplete zeroComplete stateAt bitAt numAt rowAt trucksOf roundsOf openingAt openingsOf wordAt wordsOf roundAt allSame different leastOr radioIn valuesIn playsIn afterIn openedIn trucksIn radiosIn bitsFor bytesFor tooShort badTrucks badRounds badLength endBit ownBit ownIn ownLoss ownRound ownTruck ownLossCheck frameCheck ownCheck checkOf blank fleetIn ranIn
 too-weak = (refl, refl, refl, refl, refl)
 
 -- no agreement with marks that are zero complete in every round
 pub majority-needed : HoldsIn twoRound (agreesWith (MarksIn twoRound (λ k. zeroComplete))) → ⊥
-unfolding tabFrom tab filled allBelow who first someBelow sent hears heardBy heard judged majorityComplete zeroComplete stateAt bitAt numAt rowAt trucksOf roundsOf openingAt openingsOf wordAt wordsOf roundAt allSame different leastOr radioIn valuesIn playsIn afterIn openedIn trucksIn radiosIn bitsFor bytesFor tooShort badTrucks badRounds badLength endBit ownBit ownLoss frameCheck ownCheck checkOf blank fleetIn ranIn
+unfolding tabFrom tab filled allBelow who first someBelow sent hears heardBy heard judged majorityComplete zeroComplete stateAt bitAt numAt rowAt trucksOf roundsOf openingAt openingsOf wordAt wordsOf roundAt allSame different leastOr radioIn valuesIn playsIn afterIn openedIn trucksIn radiosIn bitsFor bytesFor tooShort badTrucks badRounds badLength endBit ownBit ownIn ownLoss ownRound ownTruck ownLossCheck frameCheck ownCheck checkOf blank fleetIn ranIn
 majority-needed h =
     let e : _≡_ {A = ℕ} 3 5 = h .run c2 refl (rounds-have (λ k. zeroComplete) c2 refl) .same 0 1 (omega arith) (omega arith) refl refl in
     absurd (omega arith)
 
 -- nor with marks that are majority complete in odd rounds and worth nothing in even ones
 pub zero-needed : HoldsIn twoRound (agreesWith (MarksIn twoRound (λ k a. implies (odd k) (majorityComplete a)))) → ⊥
-unfolding tabFrom tab filled allBelow who first someBelow sent hears heardBy heard judged majorityComplete zeroComplete stateAt bitAt numAt rowAt trucksOf roundsOf openingAt openingsOf wordAt wordsOf roundAt allSame different leastOr radioIn valuesIn playsIn afterIn openedIn trucksIn radiosIn bitsFor bytesFor tooShort badTrucks badRounds badLength endBit ownBit ownLoss frameCheck ownCheck checkOf blank fleetIn ranIn
+unfolding tabFrom tab filled allBelow who first someBelow sent hears heardBy heard judged majorityComplete zeroComplete stateAt bitAt numAt rowAt trucksOf roundsOf openingAt openingsOf wordAt wordsOf roundAt allSame different leastOr radioIn valuesIn playsIn afterIn openedIn trucksIn radiosIn bitsFor bytesFor tooShort badTrucks badRounds badLength endBit ownBit ownIn ownLoss ownRound ownTruck ownLossCheck frameCheck ownCheck checkOf blank fleetIn ranIn
 zero-needed h =
     let e : _≡_ {A = ℕ} 5 3 = h .run vetoMissed refl (rounds-have (λ k a. implies (odd k) (majorityComplete a)) vetoMissed refl) .same 0 2 (omega arith) (omega arith) refl refl in
     absurd (omega arith)

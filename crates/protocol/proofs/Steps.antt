@@ -1,6 +1,6 @@
 -- A list of steps leaves the record of the run of its taken rounds, in any cycle.
 use mathlib.Core.Path.{_≡_, refl, ap, ap₂, sym, _∙_}
-use mathlib.Core.Bool.{Bool, true, false, cond, _&&_, false≢true}
+use mathlib.Core.Bool.{Bool, true, false, cond, not, _&&_, false≢true}
 use mathlib.Core.List.{List, [], _∷_, _++_, append-assoc, append-nil}
 use Prim.Native.Nat.{ℕ, zero, suc, _+_, _≤_, _<_}
 use native.Mathlib.Numerals.{add-one}
@@ -12,17 +12,19 @@ use lib.Seq.{getD-append-seam}
 use Rattle.basics.proofs.Laws.{and-left, and-right, allBelow-all}
 use Rattle.radio.specs.Round.{activeBit}
 use Rattle.radio.specs.Runs.{stateAt}
-use Rattle.refusals.specs.declared.Refusal.the-variants.{TruckCount, Record, RoundsDone}
+use Rattle.refusals.specs.declared.Refusal.{Refusal}
+use Rattle.refusals.specs.declared.Refusal.the-variants.{TruckCount, OwnLoss, Record, RoundsDone}
 use Rattle.refusals.specs.declared.Outcome.{Outcome}
 use Rattle.refusals.specs.declared.Outcome.the-variants.{Accepted, Refused}
 use Rattle.refusals.specs.Numbers.{accepted}
 use Rattle.refusals.specs.Outcomes.{refuse}
-use Rattle.refusals.proofs.Outcomes.{refuse-false, refuse-rest}
+use Rattle.refusals.proofs.Outcomes.{refuse-false, refuse-rest, refuse-past}
 use Rattle.recording.specs.Packed.{trucksOf, roundsOf, openingsOf, wordsOf, roundAt, packed, joined}
-use Rattle.recording.specs.Checks.{badTrucks, badOpenings, checkOf, roundCheck}
+use Rattle.recording.specs.Checks.{badTrucks, badOpenings, FirstOwn, checkOf, roundCheck}
 use Rattle.recording.proofs.Accepted.{GoodOpenings, trucks-in, openings-in}
+use Rattle.recording.proofs.Named.{round-names}
 use Rattle.recording.proofs.RoundTrip.{read-back}
-use Rattle.recording.proofs.Rounds.{joined-accepted, round-back}
+use Rattle.recording.proofs.Rounds.{GoodRound, round-good, joined-accepted, round-back}
 use Rattle.protocol.specs.declared.Truck.{Truck}
 use Rattle.protocol.specs.declared.Fleet.{Fleet}
 use Rattle.protocol.specs.Cycles.{Rules, afterIn}
@@ -34,22 +36,22 @@ use Rattle.protocol.proofs.AnyRun.{rounds-ext, at-suc}
 use Rattle.protocol.proofs.Good.{Sound, good-whole, good-at}
 
 -- what was taken: rounds that 8 and 6 accept, and no more than 400
-pub taken-accepted : (n c : ℕ) (ws : List (List ℕ)) (k : ℕ) → k < length (takenFrom n c ws) → roundCheck n (getD (takenFrom n c ws) k []) ≡ Accepted
+pub taken-good : (n c : ℕ) (ws : List (List ℕ)) (k : ℕ) → k < length (takenFrom n c ws) → GoodRound n (getD (takenFrom n c ws) k [])
 unfolding takenFrom isTaken
-taken-accepted n c [] k l = absurd (omega arith)
-taken-accepted n c (w ∷ ws) k l =
-    go (isTaken n c w) refl (taken-accepted n (suc c) ws) (taken-accepted n c ws) k l
+taken-good n c [] k l = absurd (omega arith)
+taken-good n c (w ∷ ws) k l =
+    go (isTaken n c w) refl (taken-good n (suc c) ws) (taken-good n c ws) k l
   where
     ok : (o : Outcome) → accepted o ≡ true → o ≡ Accepted
     ok Accepted h = refl
     ok (Refused r) h = absurd (false≢true h)
 
     go : (b : Bool) → isTaken n c w ≡ b
-        → ((k : ℕ) → k < length (takenFrom n (suc c) ws) → roundCheck n (getD (takenFrom n (suc c) ws) k []) ≡ Accepted)
-        → ((k : ℕ) → k < length (takenFrom n c ws) → roundCheck n (getD (takenFrom n c ws) k []) ≡ Accepted)
+        → ((k : ℕ) → k < length (takenFrom n (suc c) ws) → GoodRound n (getD (takenFrom n (suc c) ws) k []))
+        → ((k : ℕ) → k < length (takenFrom n c ws) → GoodRound n (getD (takenFrom n c ws) k []))
         → (k : ℕ) → k < length (cond b (w ∷ takenFrom n (suc c) ws) (takenFrom n c ws))
-        → roundCheck n (getD (cond b (w ∷ takenFrom n (suc c) ws) (takenFrom n c ws)) k []) ≡ Accepted
-    go true e f g zero l = ok (roundCheck n w) (and-left (accepted (roundCheck n w)) (ltb c 400) e)
+        → GoodRound n (getD (cond b (w ∷ takenFrom n (suc c) ws) (takenFrom n c ws)) k [])
+    go true e f g zero l = round-good n (c + 1) w (ok (roundCheck n (c + 1) w) (and-left (accepted (roundCheck n (c + 1) w)) (ltb c 400) e))
     go true e f g (suc k) l = f k (omega arith)
     go false e f g zero l = g zero l
     go false e f g (suc k) l = g (suc k) l
@@ -61,13 +63,28 @@ taken-few n c (w ∷ ws) h = go (isTaken n c w) refl (taken-few n (suc c) ws) (t
   where
     go : (b : Bool) → isTaken n c w ≡ b → (suc c ≤ 400 → suc c + length (takenFrom n (suc c) ws) ≤ 400) → c + length (takenFrom n c ws) ≤ 400
         → c + length (cond b (w ∷ takenFrom n (suc c) ws) (takenFrom n c ws)) ≤ 400
-    go true e f g = omega (arith, f (ltb-true c 400 (and-right (accepted (roundCheck n w)) (ltb c 400) e)))
+    go true e f g = omega (arith, f (ltb-true c 400 (and-right (accepted (roundCheck n (c + 1) w)) (ltb c 400) e)))
     go false e f g = g
 
 -- an accepted answer was given for an accepted outcome
 pub accepted-by : (o : Outcome) (f g : Fleet) → answer o f g .outcome ≡ Accepted → (o ≡ Accepted) × (answer o f g .fleet ≡ f)
 accepted-by Accepted f g h = (refl, refl)
 accepted-by (Refused r) f g h = absurd (false≢true (ap accepted h))
+
+-- a step is refused 6 for the round after those done, and for the lowest truck of it whose own loss bit is 1
+pub step-names : (p : Protocol) (f : Fleet) (w : List ℕ) (round truck : ℕ) → steppedIn p f w .outcome ≡ Refused (OwnLoss round truck)
+    → (round ≡ f .done + 1) × FirstOwn (λ k. getD w k 0) (f .n) 1 0 truck
+unfolding steppedIn stepCheckIn
+step-names p f w round truck h =
+    let q : Refusal = OwnLoss round truck in
+    let own : Outcome = roundCheck (f .n) (f .done + 1) w in
+    let later : Outcome = refuse (eqb (f .done) 400) RoundsDone own in
+    let h₁₄ = refuse-past (not (goodFleetIn p f)) Record q later (λ e. omega arith) (same (stepCheckIn p f w) h) .1 in
+    round-names (f .n) (f .done + 1) w round truck (refuse-past (eqb (f .done) 400) RoundsDone q own (λ e. omega arith) h₁₄ .1)
+  where
+    same : (o : Outcome) → answer o (nextFleetIn p f w) f .outcome ≡ Refused (OwnLoss round truck) → o ≡ Refused (OwnLoss round truck)
+    same Accepted e = e
+    same (Refused r) e = e
 
 -- a start, by what it was given
 pub record Start (n : ℕ) (openings : List ℕ) : Type 0 where
@@ -107,9 +124,9 @@ module _ (p : Protocol) (sound : Sound p) (n : ℕ) (openings : List ℕ) (start
 
   -- of such a record a step can only be refused 14, 8 and 6
   pub step-outcome : (rounds : ℕ → List ℕ) (k : ℕ) (w : List ℕ) → k ≤ 400
-      → steppedIn p (fleetIn p n openings rounds k) w .outcome ≡ refuse (eqb k 400) RoundsDone (roundCheck n w)
+      → steppedIn p (fleetIn p n openings rounds k) w .outcome ≡ refuse (eqb k 400) RoundsDone (roundCheck n (k + 1) w)
   unfolding steppedIn stepCheckIn fleetIn
-  step-outcome rounds k w l = rw (good-fleet rounds k l) (go (refuse (eqb k 400) RoundsDone (roundCheck n w)))
+  step-outcome rounds k w l = rw (good-fleet rounds k l) (go (refuse (eqb k 400) RoundsDone (roundCheck n (k + 1) w)))
     where
       f : Fleet
       f = fleetIn p n openings rounds k
@@ -122,7 +139,7 @@ module _ (p : Protocol) (sound : Sound p) (n : ℕ) (openings : List ℕ) (start
   step-taken : (rounds : ℕ → List ℕ) (k : ℕ) (w : List ℕ) → k ≤ 400
       → steppedIn p (fleetIn p n openings rounds k) w .fleet ≡ cond (isTaken n k w) (nextFleetIn p (fleetIn p n openings rounds k) w) (fleetIn p n openings rounds k)
   unfolding steppedIn stepCheckIn isTaken fleetIn
-  step-taken rounds k w l = rw (good-fleet rounds k l) (go (roundCheck n w) (eqb k 400) refl)
+  step-taken rounds k w l = rw (good-fleet rounds k l) (go (roundCheck n (k + 1) w) (eqb k 400) refl)
     where
       f : Fleet
       f = fleetIn p n openings rounds k
@@ -166,7 +183,7 @@ module _ (p : Protocol) (sound : Sound p) (n : ℕ) (openings : List ℕ) (start
       longer = length-append pre (w ∷ []) ∙ add-one (length pre)
 
       below : isTaken n (length pre) w ≡ true → length (pre ++ (w ∷ [])) ≤ 400
-      below e = omega (arith, longer, ltb-true (length pre) 400 (and-right (accepted (roundCheck n w)) (ltb (length pre) 400) e))
+      below e = omega (arith, longer, ltb-true (length pre) 400 (and-right (accepted (roundCheck n (length pre + 1) w)) (ltb (length pre) 400) e))
 
       go : (b : Bool) → isTaken n (length pre) w ≡ b
           → (length (pre ++ (w ∷ [])) ≤ 400 → lastRecordIn p (fleetIn p n openings (roundIn (pre ++ (w ∷ []))) (length (pre ++ (w ∷ [])))) ws
@@ -207,8 +224,8 @@ module _ (p : Protocol) (sound : Sound p) (n : ℕ) (openings : List ℕ) (start
       s : List ℕ
       s = packed n (length rs) openings (joined rs)
 
-      each : (k : ℕ) → k < length rs → roundCheck n (getD rs k []) ≡ Accepted
-      each = taken-accepted n 0 ws
+      each : (k : ℕ) → k < length rs → GoodRound n (getD rs k [])
+      each = taken-good n 0 ws
 
       few : length rs ≤ 400
       few = omega (arith, taken-few n 0 ws (omega arith))

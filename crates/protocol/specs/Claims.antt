@@ -74,9 +74,9 @@ module _ (p : Protocol) where
   -- stepped or run, of a start with n and openings and a list of steps, refused ones included: running the list's recording is accepted and returns the record that
   -- the list returned last
   pub record SameIn (n : ℕ) (openings : List ℕ) (steps : List (List ℕ)) : Type 0 where
-    -- of the next step only 14, 8 and 6 can be refused: no record that a start and steps returned is refused 7
+    -- of the next step only 14, 8 and 6 can be refused: no record that a start and steps returned is refused 7; 6 names the round after those taken
     pub nextStep : (w : List ℕ) → steppedIn p (lastRecordIn p (started n openings .fleet) steps) w .outcome
-        ≡ refuse (eqb (length (taken n steps)) 400) RoundsDone (roundCheck n w)
+        ≡ refuse (eqb (length (taken n steps)) 400) RoundsDone (roundCheck n (length (taken n steps) + 1) w)
     pub asRun : ranIn p (recordingOf n openings steps) ≡ record { outcome = Accepted; fleet = lastRecordIn p (started n openings .fleet) steps }
 
   -- the whole of demand 3, where agreement is promised with such marks

@@ -117,9 +117,9 @@ module _ (p : Protocol) where
   goodFleetIn f =
       not (badTrucks (f .n)) && leb (f .done) 400 && allBelow (λ i. goodTruckIn (f .done) (truck (f .trucks) i)) (f .n)
 
-  -- a step checks 7, 14, 8, 6
+  -- a step checks 7, 14, 8, 6; it names the round that it would have been
   unfoldable pub stepCheckIn : Fleet → List ℕ → Outcome
-  stepCheckIn f w = refuse (not (goodFleetIn f)) Record (refuse (eqb (f .done) 400) RoundsDone (roundCheck (f .n) w))
+  stepCheckIn f w = refuse (not (goodFleetIn f)) Record (refuse (eqb (f .done) 400) RoundsDone (roundCheck (f .n) (f .done + 1) w))
 
   -- the record after a round in plain form
   unfoldable pub nextFleetIn : Fleet → List ℕ → Fleet

@@ -1,5 +1,5 @@
 -- Whole lists of steps (document 01, 'Whole lists of steps').
-use Prim.Native.Nat.{ℕ, suc}
+use Prim.Native.Nat.{ℕ, suc, _+_}
 use mathlib.Core.Bool.{Bool, cond, _&&_}
 use mathlib.Core.List.{List, [], _∷_}
 use lib.Dec.{ltb}
@@ -20,7 +20,7 @@ lastRecord = lastRecordIn twoRound
 
 -- a round is taken if neither 8 nor 6 holds of it and fewer than 400 were taken before; c were
 unfoldable pub isTaken : ℕ → ℕ → List ℕ → Bool
-isTaken n c w = accepted (roundCheck n w) && ltb c 400
+isTaken n c w = accepted (roundCheck n (c + 1) w) && ltb c 400
 
 -- the taken rounds of a list, in their order
 unfoldable pub takenFrom : ℕ → ℕ → List (List ℕ) → List (List ℕ)

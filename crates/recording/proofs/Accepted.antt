@@ -16,8 +16,9 @@ use Rattle.refusals.proofs.Outcomes.{refuse-false, refuse-rest, refuse-on, then
 use Rattle.basics.specs.Lists.{someBelow}
 use Rattle.basics.proofs.Laws.{or-left, or-right, or-none, someBelow-none, none-someBelow}
 use Rattle.recording.specs.Packed.{bitAt, trucksOf, roundsOf, wordAt, bitsFor, bytesFor}
-use Rattle.recording.specs.Checks.{tooShort, badTrucks, badRounds, badLength, endBit, ownBit, ownLoss, badOpenings, badWords, highBit, frameCheck, ownCheck, checkOf, roundsCheck, plainCheck}
+use Rattle.recording.specs.Checks.{tooShort, badTrucks, badRounds, badLength, endBit, ownBit, ownLoss, ownRound, ownTruck, ownLossCheck, badOpenings, badWords, highBit, frameCheck, ownCheck, checkOf, roundsCheck, plainCheck}
 use Rattle.bitreader.proofs.Digits.{bitAt-lt}
+use Rattle.recording.proofs.OwnLoss.{own-accepted, accepted-own}
 
 -- ---- the conditions, one by one
 pub trucks-in : (n : ℕ) → badTrucks n ≡ false → (0 < n) × (n ≤ 32)
@@ -70,41 +71,39 @@ module _ (n : ℕ) (openings : List ℕ) where
 pub record GoodRounds (n R : ℕ) (words : List ℕ) : Type 0 where
   pub count : length words ≡ R * (3 + n)
   pub word : (w : ℕ) → w < R * (3 + n) → getD words w 0 < 2 ^ n
-  pub own : (k : ℕ) → k < R * n → ownBit (λ w. getD words w 0) n k ≡ false
+  pub own : (r i : ℕ) → r < R → i < n → ownBit (λ w. getD words w 0) n r i ≡ false
 
-module _ (n R : ℕ) (words : List ℕ) where
+module _ (n k R : ℕ) (words : List ℕ) where
   miscount : Bool
   miscount = not (eqb (length words) (R * (3 + n)))
 
   high : Bool
   high = someBelow (λ w. highBit n (getD words w 0)) (length words)
 
-  owned : Bool
-  owned = ownLoss (λ w. getD words w 0) n R
+  owned : Outcome
+  owned = ownLossCheck (λ w. getD words w 0) n k R
 
-  pub rounds-good : roundsCheck n R words ≡ Accepted → GoodRounds n R words
-  unfolding roundsCheck badWords ownLoss highBit miscount high owned
+  pub rounds-good : roundsCheck n k R words ≡ Accepted → GoodRounds n R words
+  unfolding roundsCheck badWords highBit miscount high owned
   rounds-good h =
-      let b : badWords n R words ≡ false = refuse-false (badWords n R words) PlainRound (refuse owned OwnLoss Accepted) h in
+      let b : badWords n R words ≡ false = refuse-false (badWords n R words) PlainRound owned h in
       let e : length words ≡ R * (3 + n) = eqb-true (length words) (R * (3 + n)) (not-false (eqb (length words) (R * (3 + n))) (or-left miscount high b)) in
       record {
         count = e;
         word = λ w l.
             leb-false (2 ^ n) (getD words w 0)
             (someBelow-none (λ k. leb (2 ^ n) (getD words k 0)) (length words) (or-right miscount high b) w (omega arith));
-        own = λ k l.
-            someBelow-none (ownBit (λ w. getD words w 0) n) (R * n)
-            (refuse-false owned OwnLoss Accepted (refuse-rest (badWords n R words) PlainRound (refuse owned OwnLoss Accepted) h)) k l;
+        own = own-accepted (λ w. getD words w 0) n k R (refuse-rest (badWords n R words) PlainRound owned h);
       }
 
-  pub good-rounds : GoodRounds n R words → roundsCheck n R words ≡ Accepted
-  unfolding roundsCheck badWords ownLoss highBit miscount high owned
+  pub good-rounds : GoodRounds n R words → roundsCheck n k R words ≡ Accepted
+  unfolding roundsCheck badWords highBit miscount high owned
   good-rounds g =
-      refuse-on (badWords n R words) PlainRound (refuse owned OwnLoss Accepted)
+      refuse-on (badWords n R words) PlainRound owned
       (or-none miscount high (ap not (eq-eqb (length words) (R * (3 + n)) (g .count)))
       (none-someBelow (λ k. leb (2 ^ n) (getD words k 0)) (length words)
       (λ w l. lt-leb (2 ^ n) (getD words w 0) (g .word w (omega (arith, g .count))))))
-      (refuse-on owned OwnLoss Accepted (none-someBelow (ownBit (λ w. getD words w 0) n) (R * n) (g .own)) refl)
+      (accepted-own (λ w. getD words w 0) n k R (g .own))
 
 pub record GoodPlain (n R : ℕ) (openings words : List ℕ) : Type 0 where
   pub some : 0 < n
@@ -115,10 +114,10 @@ pub record GoodPlain (n R : ℕ) (openings words : List ℕ) : Type 0 where
 
 module _ (n R : ℕ) (openings words : List ℕ) where
   after-2 : Outcome
-  after-2 = refuse (badRounds R) RoundCount (refuse (badOpenings n openings) Record (roundsCheck n R words))
+  after-2 = refuse (badRounds R) RoundCount (refuse (badOpenings n openings) Record (roundsCheck n 1 R words))
 
   after-3 : Outcome
-  after-3 = refuse (badOpenings n openings) Record (roundsCheck n R words)
+  after-3 = refuse (badOpenings n openings) Record (roundsCheck n 1 R words)
 
   pub plain-good : plainCheck n R openings words ≡ Accepted → GoodPlain n R openings words
   unfolding plainCheck after-2 after-3
@@ -130,8 +129,8 @@ module _ (n R : ℕ) (openings words : List ℕ) where
         some = t .0;
         most = t .1;
         rounds = rounds-in R (refuse-false (badRounds R) RoundCount after-3 h₂);
-        openings-good = openings-in n openings (refuse-false (badOpenings n openings) Record (roundsCheck n R words) h₃);
-        rounds-good = rounds-good n R words (refuse-rest (badOpenings n openings) Record (roundsCheck n R words) h₃);
+        openings-good = openings-in n openings (refuse-false (badOpenings n openings) Record (roundsCheck n 1 R words) h₃);
+        rounds-good = rounds-good n 1 R words (refuse-rest (badOpenings n openings) Record (roundsCheck n 1 R words) h₃);
       }
 
   pub good-plain : GoodPlain n R openings words → plainCheck n R openings words ≡ Accepted
@@ -139,8 +138,8 @@ module _ (n R : ℕ) (openings words : List ℕ) where
   good-plain g =
       refuse-on (badTrucks n) TruckCount after-2 (in-trucks n (g .some) (g .most))
       (refuse-on (badRounds R) RoundCount after-3 (in-rounds R (g .rounds))
-      (refuse-on (badOpenings n openings) Record (roundsCheck n R words) (in-openings n openings (g .openings-good))
-      (good-rounds n R words (g .rounds-good))))
+      (refuse-on (badOpenings n openings) Record (roundsCheck n 1 R words) (in-openings n openings (g .openings-good))
+      (good-rounds n 1 R words (g .rounds-good))))
 
 -- ---- a recording
 pub record GoodFrame (s : List ℕ) : Type 0 where
@@ -215,34 +214,33 @@ module _ (s : List ℕ) where
 
 pub record GoodBytes (s : List ℕ) : Type 0 where
   pub frame : GoodFrame s
-  pub own : (k : ℕ) → k < roundsOf s * trucksOf s → ownBit (wordAt s) (trucksOf s) k ≡ false
+  pub own : (r i : ℕ) → r < roundsOf s → i < trucksOf s → ownBit (wordAt s) (trucksOf s) r i ≡ false
 
 pub bytes-good : (s : List ℕ) → checkOf s ≡ Accepted → GoodBytes s
-unfolding checkOf ownCheck ownLoss
+unfolding checkOf ownCheck
 bytes-good s h =
     record {
       frame = frame-good s (then-first (frameCheck s) (ownCheck s) h);
-      own = λ k l.
-          someBelow-none (ownBit (wordAt s) (trucksOf s)) (roundsOf s * trucksOf s)
-          (refuse-false (ownLoss (wordAt s) (trucksOf s) (roundsOf s)) OwnLoss Accepted (then-second (frameCheck s) (ownCheck s) h)) k l;
+      own = own-accepted (wordAt s) (trucksOf s) 1 (roundsOf s) (then-second (frameCheck s) (ownCheck s) h);
     }
 
 pub good-bytes : (s : List ℕ) → GoodBytes s → checkOf s ≡ Accepted
-unfolding checkOf ownCheck ownLoss
+unfolding checkOf ownCheck
 good-bytes s g =
-    then-both (frameCheck s) (ownCheck s) (good-frame s (g .frame))
-    (refuse-on (ownLoss (wordAt s) (trucksOf s) (roundsOf s)) OwnLoss Accepted
-    (none-someBelow (ownBit (wordAt s) (trucksOf s)) (roundsOf s * trucksOf s) (g .own)) refl)
+    then-both (frameCheck s) (ownCheck s) (good-frame s (g .frame)) (accepted-own (wordAt s) (trucksOf s) 1 (roundsOf s) (g .own))
 
 -- a recording is refused for 1 to 6 and nothing else
 pub check-number : (s : List ℕ) → outcomeNumber (checkOf s) ≤ 6
-unfolding checkOf frameCheck ownCheck
+unfolding checkOf frameCheck ownCheck ownLossCheck
 check-number s =
     go (tooShort s) (badTrucks (trucksOf s)) (badRounds (roundsOf s)) (badLength s) (endBit s) (ownLoss (wordAt s) (trucksOf s) (roundsOf s))
   where
+    round : ℕ
+    round = ownRound (wordAt s) (trucksOf s) (roundsOf s)
+
     go : (a b c d e f : Bool)
         → outcomeNumber (andThen (refuse a ShortRecording (refuse b TruckCount (refuse c RoundCount (refuse d RecordingLength (refuse e EndBit Accepted)))))
-        (refuse f OwnLoss Accepted)) ≤ 6
+        (refuse f (OwnLoss (1 + round) (ownTruck (wordAt s) (trucksOf s) round)) Accepted)) ≤ 6
     go true b c d e f = omega arith
     go false true c d e f = omega arith
     go false false true d e f = omega arith

@@ -1,3 +1,4 @@
+pub mod OwnLoss
 pub mod Accepted
 pub mod Packing
 pub mod RoundTrip
@@ -6,3 +7,4 @@ pub mod Sizes
 pub mod Limit
 pub mod Searches
 pub mod Fronts
+pub mod Named

@@ -6,35 +6,17 @@ use Prim.Native.Nat.{ℕ, zero, suc, _+_, _*_, _-_, _/_, _%_, _^_, _≤_, _<_}
 use native.Mathlib.Nat.{div-lt-iff-lt-mul, div-add-mod', mod-lt}
 use native.Mathlib.Decide.{decLt}
 use native.Mathlib.Omega.{arith}
-use lib.Arith.{digits-lt, digits-div, digits-mod}
 use lib.ListN.{length, getD}
 use Rattle.refusals.specs.declared.Outcome.the-variants.{Accepted}
-use Rattle.basics.specs.Bits.{digit, bit}
+use Rattle.basics.specs.Bits.{digit}
 use Rattle.basics.specs.Lists.{tab}
 use Rattle.basics.proofs.Laws.{length-tab, getD-tab, tab-ext, tab-getD}
 use Rattle.recording.specs.Packed.{bitAt, numAt, rowAt, trucksOf, roundsOf, headerBits, openingPlace, openingAt, openingsOf, wordPlace, wordAt, wordsOf, bitsFor, bytesFor, packBit, packed, openingBit, roundBit}
 use Rattle.recording.specs.Checks.{ownBit, checkOf, plainCheck}
 use Rattle.bitreader.proofs.Digits.{bitAt-lt, numAt-is, numAt-lt, numAt-digit, rowAt-is, rowAt-lt, rowAt-digit}
 use Rattle.recording.proofs.Accepted.{GoodOpenings, GoodRounds, GoodPlain, GoodFrame, GoodBytes, plain-good, good-plain, bytes-good, good-bytes, rounds-good}
+use Rattle.recording.proofs.OwnLoss.{own-ext}
 use Rattle.recording.proofs.Packing.{length-pack, pack-ext, bitAt-pack, pack-bitAt, bits-flat, bytes-enough, word-ends, bit-trucks, bit-rounds, bit-openings, bit-words, bit-end, bit-opening, bit-word, packBit-lt}
-
--- ---- own loss bits by round and truck
-pub own-at : (f : ℕ → ℕ) (n r i : ℕ) → i < n → ownBit f n (r * n + i) ≡ bit (f (r * (3 + n) + (3 + i))) i
-unfolding ownBit
-own-at f n r i h = ap₂ (λ (a b : ℕ). bit (f (a * (3 + n) + (3 + b))) b) (digits-div r h) (digits-mod r h)
-
--- own bit k of R rounds, by its round and its truck
-pub own-split : (n R k : ℕ) → k < R * n → (0 < n) × (k / n < R) × (k % n < n) × (k ≡ k / n * n + k % n)
-own-split zero R k h = absurd (omega arith)
-own-split (suc n) R k h =
-    let z : 0 < suc n = omega arith in
-    (z, div-lt-iff-lt-mul z .1 h, mod-lt k z, sym (div-add-mod' k (suc n)))
-
-pub own-ext : (f g : ℕ → ℕ) (n R : ℕ) → ((w : ℕ) → w < R * (3 + n) → f w ≡ g w) → (k : ℕ) → k < R * n → ownBit f n k ≡ ownBit g n k
-unfolding ownBit
-own-ext f g n R h k l =
-    let s : (0 < n) × (k / n < R) × (k % n < n) × (k ≡ k / n * n + k % n) = own-split n R k l in
-    ap (λ (w : ℕ). bit w (k % n)) (h (k / n * (3 + n) + (3 + k % n)) (digits-lt (s .1) (omega (arith, s .2))))
 
 -- ---- reading what was written
 module _ (n R : ℕ) (openings words : List ℕ) (good : GoodPlain n R openings words) where
@@ -114,11 +96,12 @@ module _ (n R : ℕ) (openings words : List ℕ) (good : GoodPlain n R openings 
               let o : p < 8 * bytesFor n R = omega (arith, size-back) in
               bit-back p o ∙ bit-end n R openings words p (omega (arith, ap₂ bitsFor trucks-back rounds-back));
         };
-        own = λ k l.
-            let o : k < R * n = omega (arith, ap₂ (λ (a b : ℕ). a * b) rounds-back trucks-back) in
-            ap (λ (a : ℕ). ownBit (wordAt written) a k) trucks-back
-            ∙ own-ext (wordAt written) (λ w. getD words w 0) n R word-back k o
-            ∙ good .rounds-good .own k o;
+        own = λ r i l u.
+            let o : r < R = omega (arith, rounds-back) in
+            let v : i < n = omega (arith, trucks-back) in
+            ap (λ (a : ℕ). ownBit (wordAt written) a r i) trucks-back
+            ∙ own-ext (wordAt written) (λ w. getD words w 0) n R word-back r i o v
+            ∙ good .rounds-good .own r i o v;
       }
 
 -- what is written for accepted openings and words is accepted, and reads as them
@@ -159,13 +142,13 @@ module _ (s : List ℕ) where
   unfolding wordsOf
   word-read w h = getD-tab (wordAt s) (roundsOf s * (3 + trucksOf s)) w 0 h
 
-  words-read : ((k : ℕ) → k < roundsOf s * trucksOf s → ownBit (wordAt s) (trucksOf s) k ≡ false) → GoodRounds (trucksOf s) (roundsOf s) (wordsOf s)
+  words-read : ((r i : ℕ) → r < roundsOf s → i < trucksOf s → ownBit (wordAt s) (trucksOf s) r i ≡ false) → GoodRounds (trucksOf s) (roundsOf s) (wordsOf s)
   unfolding wordsOf
   words-read own =
       record {
         count = length-tab (wordAt s) (roundsOf s * (3 + trucksOf s));
         word = λ w h. rw (word-read w h) (word-lt w);
-        own = λ k h. own-ext (λ w. getD (wordsOf s) w 0) (wordAt s) (trucksOf s) (roundsOf s) word-read k h ∙ own k h;
+        own = λ r i l u. own-ext (λ w. getD (wordsOf s) w 0) (wordAt s) (trucksOf s) (roundsOf s) word-read r i l u ∙ own r i l u;
       }
 
   pub plain-read : GoodBytes s → GoodPlain (trucksOf s) (roundsOf s) (openingsOf s) (wordsOf s)

@@ -14,7 +14,7 @@ use Rattle.basics.proofs.Laws.{length-tab, getD-tab}
 use Rattle.recording.specs.Packed.{bitAt, rowAt, trucksOf, roundsOf, wordPlace, wordAt, wordsOf, roundAt, bitsFor, bytesFor, packed, joined}
 use Rattle.recording.specs.Checks.{ownBit, badOpenings, roundCheck, plainCheck}
 use Rattle.recording.proofs.Accepted.{GoodRounds, GoodPlain, good-plain, rounds-good, openings-in}
-use Rattle.recording.proofs.RoundTrip.{own-at, own-split, word-read, trucks-back, rounds-back, words-back}
+use Rattle.recording.proofs.RoundTrip.{word-read, trucks-back, rounds-back, words-back}
 
 -- ---- one round
 pub record GoodRound (n : ℕ) (words : List ℕ) : Type 0 where
@@ -22,17 +22,16 @@ pub record GoodRound (n : ℕ) (words : List ℕ) : Type 0 where
   pub word : (w : ℕ) → w < 3 + n → getD words w 0 < 2 ^ n
   pub own : (i : ℕ) → i < n → bit (getD words (3 + i) 0) i ≡ false
 
-pub round-good : (n : ℕ) (words : List ℕ) → roundCheck n words ≡ Accepted → GoodRound n words
-unfolding roundCheck
-round-good n words h =
-    let g : GoodRounds n 1 words = rounds-good n 1 words h in
+pub round-good : (n k : ℕ) (words : List ℕ) → roundCheck n k words ≡ Accepted → GoodRound n words
+unfolding roundCheck ownBit
+round-good n k words h =
+    let g : GoodRounds n 1 words = rounds-good n k 1 words h in
     record {
       count = omega (arith, g .count);
       word = λ w l. g .word w (omega arith);
       own = λ i l.
           ap (λ (w : ℕ). bit (getD words w 0) i) (let e : 3 + i ≡ 0 * (3 + n) + (3 + i) = omega arith in e)
-          ∙ sym (own-at (λ w. getD words w 0) n 0 i l)
-          ∙ g .own (0 * n + i) (omega arith);
+          ∙ g .own 0 i (omega arith) l;
     }
 
 module _ (s : List ℕ) where
@@ -73,14 +72,12 @@ getD-joined m (r ∷ rs) h (suc k) w l u =
     ∙ getD-joined m rs (λ i o. h (suc i) (omega arith)) k w (omega arith) u
 
 -- ---- a recording of accepted rounds
-module _ (n : ℕ) (rs : List (List ℕ)) (rounds : (k : ℕ) → k < length rs → roundCheck n (getD rs k []) ≡ Accepted) where
-  good : (k : ℕ) → k < length rs → GoodRound n (getD rs k [])
-  good k l = round-good n (getD rs k []) (rounds k l)
-
+module _ (n : ℕ) (rs : List (List ℕ)) (good : (k : ℕ) → k < length rs → GoodRound n (getD rs k [])) where
   long : (k : ℕ) → k < length rs → length (getD rs k []) ≡ 3 + n
   long k l = good k l .count
 
   pub joined-good : GoodRounds n (length rs) (joined rs)
+  unfolding ownBit
   joined-good =
       let m : ℕ = 3 + n in
       record {
@@ -92,12 +89,8 @@ module _ (n : ℕ) (rs : List (List ℕ)) (rounds : (k : ℕ) → k < length rs 
             let e : getD (joined rs) w 0 ≡ getD (getD rs (w / m) []) (w % m) 0
             = ap (λ (j : ℕ). getD (joined rs) j 0) (sym (div-add-mod' w m)) ∙ getD-joined m rs long (w / m) (w % m) q i in
             rw e (good (w / m) q .word (w % m) i);
-        own = λ k l.
-            let p : (0 < n) × (k / n < length rs) × (k % n < n) × (k ≡ k / n * n + k % n) = own-split n (length rs) k l in
-            ap (ownBit (λ w. getD (joined rs) w 0) n) (p .3)
-            ∙ own-at (λ w. getD (joined rs) w 0) n (k / n) (k % n) (p .2)
-            ∙ ap (λ (w : ℕ). bit w (k % n)) (getD-joined m rs long (k / n) (3 + k % n) (p .1) (omega (arith, p .2)))
-            ∙ good (k / n) (p .1) .own (k % n) (p .2);
+        own = λ r i l u.
+            ap (λ (w : ℕ). bit w i) (getD-joined m rs long r (3 + i) l (omega arith)) ∙ good r l .own i u;
       }
 
   module _ (openings : List ℕ) (some : 0 < n) (most : n ≤ 32) (fewer : length rs ≤ 400) (crushers : badOpenings n openings ≡ false) where

@@ -7,24 +7,22 @@ use native.Mathlib.Nat.{mul-le-mul, mul-le-mul-right, zero-div}
 use native.Mathlib.Decide.{decLt}
 use native.Mathlib.Omega.{arith}
 use borrow.Author.Tests.{eqb-false, eq-eqb, ne-eqb, lt-ltb, le-ltb}
-use lib.Arith.{digits-lt}
 use lib.Bits.{bitOr}
 use lib.Dec.{eqb, ltb}
 use lib.ListN.{length, getD}
 use Rattle.refusals.specs.declared.Refusal.{Refusal}
-use Rattle.refusals.specs.declared.Refusal.the-variants.{ShortRecording, TruckCount, RoundCount, RecordingLength, EndBit, OwnLoss}
+use Rattle.refusals.specs.declared.Refusal.the-variants.{ShortRecording, TruckCount, RoundCount, RecordingLength, EndBit}
 use Rattle.refusals.specs.declared.Outcome.{Outcome}
 use Rattle.refusals.specs.declared.Outcome.the-variants.{Accepted, Refused}
 use Rattle.refusals.specs.Outcomes.{refuse, andThen}
 use Rattle.basics.specs.Bits.{bit, digit}
 use Rattle.basics.specs.Lists.{first, someBelow}
-use Rattle.basics.proofs.Laws.{someBelow-none, none-someBelow, some-first, some-more, none-row, first-row, first-all}
+use Rattle.basics.proofs.Laws.{someBelow-none, none-someBelow, some-more, first-ext, some-ext}
 use Rattle.basics.proofs.Bits.{bit-or}
 use Rattle.bitreader.proofs.Digits.{bitAt-lt, numAt-digit, rowAt-digit, numAt-one, bit-in-byte}
 use Rattle.recording.specs.Packed.{bitAt, numAt, rowAt, trucksOf, roundsOf, wordPlace, roundPlace, wordAt, bitsFor, bytesFor}
-use Rattle.recording.specs.Checks.{tooShort, badTrucks, badRounds, badLength, endBit, ownBit, firstOwn, ownLoss, frameCheck, ownCheck, checkOf}
+use Rattle.recording.specs.Checks.{tooShort, badTrucks, badRounds, badLength, endBit, ownBit, ownIn, ownTruck, ownLossCheck, frameCheck, ownCheck, checkOf}
 use Rattle.recording.proofs.Accepted.{GoodFrame, frame-good, trucks-in}
-use Rattle.recording.proofs.RoundTrip.{own-at}
 use Rattle.recording.proofs.Sizes.{bits-small}
 
 -- ---- a run of bits that is 0
@@ -63,55 +61,29 @@ number-tests f bits p k v e = go (someBelow (λ j. eqb (f (p + j)) 1) k) refl
         zero-digit : (j : ℕ) → digit 0 j ≡ 0
         zero-digit j = ap (λ (x : ℕ). x % 2) (zero-div (2 ^ j))
 
--- ---- the first own bit
--- refusal 6 by the first own bit
-own-loss-first : (word : ℕ → ℕ) (n R : ℕ) → ownLoss word n R ≡ ltb (firstOwn word n R) (R * n)
-unfolding ownLoss firstOwn someBelow
-own-loss-first word n R = refl
-
--- and by its round
-own-before : (word : ℕ → ℕ) (n R round truck : ℕ) → round * n + truck ≡ firstOwn word n R → truck < n → ltb round R ≡ ownLoss word n R
-own-before word n R round truck placed below = go (decLt round R) ∙ sym (own-loss-first word n R)
-  where
-    go : Dec (round < R) → ltb round R ≡ ltb (firstOwn word n R) (R * n)
-    go (yes l) = lt-ltb round R l ∙ sym (lt-ltb (firstOwn word n R) (R * n) (omega (arith, placed, digits-lt l below)))
-    go (no l) =
-        let o : R * n ≤ round * n = mul-le-mul-right n (let u : R ≤ round = omega arith in u) in
-        le-ltb round R (omega arith) ∙ sym (le-ltb (firstOwn word n R) (R * n) (omega (arith, placed)))
-
+-- ---- own bits by their places
 -- the own loss bits of the round whose first one stands at a place
 abbrev pub ownPacked : List ℕ → ℕ → ℕ → ℕ → Bool
 ownPacked s at n i = eqb (bitAt s (at + i * (n + 1))) 1
 
--- that place in round r
-own-packed : (s : List ℕ) (n r at : ℕ) → n ≡ trucksOf s → at ≡ roundPlace n r + 3 * n → (i : ℕ) → i < n → ownPacked s at n i ≡ ownBit (wordAt s) n (r * n + i)
-unfolding wordAt
-own-packed s n r at e p i h =
-    let w : ℕ = r * (3 + n) + (3 + i) in
-    sym
-    (own-at (wordAt s) n r i h
-    ∙ ap (λ (m : ℕ). bit (rowAt (bitAt s) (wordPlace m w) m) i) (sym e)
-    ∙ ap (λ (b : ℕ). eqb b 1) (rowAt-digit (bitAt s) (bitAt-lt s) (wordPlace n w) n i h)
-    ∙ ap (λ (q : ℕ). eqb (bitAt s q) 1) (omega arith))
+-- that place in round r: what a look at the round says of it
+module _ (s : List ℕ) (n r at : ℕ) (counted : n ≡ trucksOf s) (placed : at ≡ roundPlace n r + 3 * n) where
+  own-packed : (i : ℕ) → i < n → ownPacked s at n i ≡ ownBit (wordAt s) n r i
+  unfolding wordAt ownBit
+  own-packed i h =
+      let w : ℕ = r * (3 + n) + (3 + i) in
+      sym
+      (ap (λ (m : ℕ). bit (rowAt (bitAt s) (wordPlace m w) m) i) (sym counted)
+      ∙ ap (λ (b : ℕ). eqb b 1) (rowAt-digit (bitAt s) (bitAt-lt s) (wordPlace n w) n i h)
+      ∙ ap (λ (q : ℕ). eqb (bitAt s q) 1) (omega arith))
 
--- of rounds of which those before round r have no own bit set: what a look at round r says
-module _ (s : List ℕ) (n r at : ℕ) (counted : n ≡ trucksOf s) (placed : at ≡ roundPlace n r + 3 * n) (none : someBelow (ownBit (wordAt s) n) (r * n) ≡ false) where
-  here : (i : ℕ) → i < n → ownPacked s at n i ≡ ownBit (wordAt s) n (r * n + i)
-  here = own-packed s n r at counted placed
+  pub own-looked : (b : Bool) → b ≡ someBelow (ownPacked s at n) n → ownIn (wordAt s) n r ≡ b
+  unfolding ownIn
+  own-looked b e = sym (e ∙ some-ext (ownPacked s at n) (ownBit (wordAt s) n r) n own-packed)
 
-  pub own-found : (b : Bool) (truck R : ℕ) → r < R → b ≡ someBelow (ownPacked s at n) n → b ≡ true → truck ≡ first (ownPacked s at n) n
-      → (r * n + truck ≡ firstOwn (wordAt s) n R) × (truck < n)
-  unfolding firstOwn
-  own-found b truck R l e h f =
-      (ap (λ (i : ℕ). r * n + i) f ∙ first-row (ownBit (wordAt s) n) (ownPacked s at n) n r here R l none (sym e ∙ h), omega (arith, some-first (ownPacked s at n) n (sym e ∙ h)))
-
-  pub own-passed : (b : Bool) → b ≡ someBelow (ownPacked s at n) n → b ≡ false → someBelow (ownBit (wordAt s) n) ((r + 1) * n) ≡ false
-  own-passed b e h = none-row (ownBit (wordAt s) n) (ownPacked s at n) n r here none (sym e ∙ h)
-
--- and where all rounds were passed
-pub own-none : (s : List ℕ) (n R : ℕ) → 0 < n → someBelow (ownBit (wordAt s) n) (R * n) ≡ false → (R * n + 0 ≡ firstOwn (wordAt s) n R) × (0 < n)
-unfolding firstOwn
-own-none s n R l h = (omega (arith, first-all (ownBit (wordAt s) n) (R * n) (someBelow-none (ownBit (wordAt s) n) (R * n) h)), l)
+  pub own-searched : (truck : ℕ) → truck ≡ first (ownPacked s at n) n → ownTruck (wordAt s) n r ≡ truck
+  unfolding ownTruck
+  own-searched truck e = sym (e ∙ first-ext (ownPacked s at n) (ownBit (wordAt s) n r) n own-packed)
 
 -- the places of a round's own bits are not far apart
 pub own-near : (n i : ℕ) → n ≤ 32 → i ≤ n → i * (n + 1) ≤ 1056
@@ -218,14 +190,9 @@ module _ (s : List ℕ) (f : Outcome) (n R : ℕ) (framed : f ≡ frameCheck s) 
   unfolding bytesFor
   bits-fit = omega (arith, good .size, ap₂ bitsFor counted played)
 
-  module _ (round truck : ℕ) (placed : round * n + truck ≡ firstOwn (wordAt s) n R) (below : truck < n) where
-    check-own : refuse (ltb round R) OwnLoss Accepted ≡ checkOf s
-    unfolding checkOf ownCheck
-    check-own =
-        ap₂ (λ (o : Outcome) (x : Bool). andThen o (refuse x OwnLoss Accepted)) (sym kept ∙ framed) (own-before (wordAt s) n R round truck placed below ∙ ap₂ (ownLoss (wordAt s)) counted played)
-
-    pub check-6 : round < R → Refused OwnLoss ≡ checkOf s
-    check-6 h = rw (lt-ltb round R h) at check-own
-
-    pub check-0 : R ≤ round → Accepted ≡ checkOf s
-    check-0 h = rw (le-ltb round R h) at check-own
+  pub check-own : (o : Outcome) → o ≡ ownLossCheck (wordAt s) n 1 R → o ≡ checkOf s
+  unfolding checkOf ownCheck
+  check-own o e =
+      e
+      ∙ ap₂ (λ (a b : ℕ). ownLossCheck (wordAt s) a 1 b) counted played
+      ∙ ap (λ (x : Outcome). andThen x (ownCheck s)) (sym kept ∙ framed)

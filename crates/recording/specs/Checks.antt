@@ -1,6 +1,7 @@
 -- Document 01, 'Who can cause which refusal': what is asked of a recording, and of openings and rounds in plain form.
-use Prim.Native.Nat.{ℕ, _+_, _*_, _-_, _/_, _%_, _^_}
-use mathlib.Core.Bool.{Bool, not, _||_}
+use Prim.Native.Nat.{ℕ, _+_, _*_, _-_, _^_, _<_}
+use mathlib.Core.Path.{_≡_}
+use mathlib.Core.Bool.{Bool, true, false, not, _||_}
 use mathlib.Core.List.{List}
 use lib.Dec.{ltb, leb, eqb}
 use lib.ListN.{length, getD}
@@ -34,17 +35,37 @@ endBit s =
     let total = bitsFor (trucksOf s) (roundsOf s) in
     someBelow (λ j. eqb (bitAt s (total + j)) 1) (8 * length s - total)
 
--- own loss bit k of rounds of n trucks, by their words: truck k % n in round k / n, rounds counted from 0
-unfoldable pub ownBit : (ℕ → ℕ) → ℕ → ℕ → Bool
-ownBit word n k = bit (word (k / n * roundWords n + (3 + k % n))) (k % n)
+-- the own loss bit of truck i in round r is 1, by the words of the rounds of n trucks; rounds are counted from 0 here
+unfoldable pub ownBit : (ℕ → ℕ) → ℕ → ℕ → ℕ → Bool
+ownBit word n r i = bit (word (r * roundWords n + (3 + i))) i
 
--- the first own loss bit of R rounds that is 1, or R * n where none is
-unfoldable pub firstOwn : (ℕ → ℕ) → ℕ → ℕ → ℕ
-firstOwn word n R = first (ownBit word n) (R * n)
+-- an own loss bit of round r is 1
+unfoldable pub ownIn : (ℕ → ℕ) → ℕ → ℕ → Bool
+ownIn word n r = someBelow (ownBit word n r) n
 
 -- 6: an own loss bit of R rounds is 1
 unfoldable pub ownLoss : (ℕ → ℕ) → ℕ → ℕ → Bool
-ownLoss word n R = someBelow (ownBit word n) (R * n)
+ownLoss word n R = someBelow (ownIn word n) R
+
+-- the earliest of R rounds that has one, or R where none has
+unfoldable pub ownRound : (ℕ → ℕ) → ℕ → ℕ → ℕ
+ownRound word n R = first (ownIn word n) R
+
+-- the lowest truck of round r that has one, or n where none has
+unfoldable pub ownTruck : (ℕ → ℕ) → ℕ → ℕ → ℕ
+ownTruck word n r = first (ownBit word n r) n
+
+-- truck i of round r has the first one: its bit is 1, no earlier round has one that is, and in round r no lower truck has
+pub record FirstOwn (word : ℕ → ℕ) (n R r i : ℕ) : Type 0 where
+  pub round : r < R
+  pub truck : i < n
+  pub set : ownBit word n r i ≡ true
+  pub earlier : (q j : ℕ) → q < r → j < n → ownBit word n q j ≡ false
+  pub lower : (j : ℕ) → j < i → ownBit word n r j ≡ false
+
+-- the same by the round's number, of R rounds whose first is round k
+abbrev pub FirstOwnAt : (ℕ → ℕ) → ℕ → ℕ → ℕ → ℕ → ℕ → Type 0
+FirstOwnAt word n k R round truck = (r : ℕ) × (round ≡ k + r) × FirstOwn word n R r truck
 
 -- 7, of openings: they are not n in number, or one is above 15
 unfoldable pub badOpenings : ℕ → List ℕ → Bool
@@ -69,24 +90,27 @@ frameCheck s =
     (refuse (endBit s) EndBit
     Accepted))))
 
+-- 6, of R rounds whose first is round k: it names the earliest round and, in it, the lowest truck
+unfoldable pub ownLossCheck : (ℕ → ℕ) → ℕ → ℕ → ℕ → Outcome
+ownLossCheck word n k R =
+    let r = ownRound word n R in
+    refuse (ownLoss word n R) (OwnLoss (k + r) (ownTruck word n r)) Accepted
+
 -- 6 of a recording
 unfoldable pub ownCheck : List ℕ → Outcome
-ownCheck s = refuse (ownLoss (wordAt s) (trucksOf s) (roundsOf s)) OwnLoss Accepted
+ownCheck s = ownLossCheck (wordAt s) (trucksOf s) 1 (roundsOf s)
 
 -- 1 to 6, in this order
 unfoldable pub checkOf : List ℕ → Outcome
 checkOf s = andThen (frameCheck s) (ownCheck s)
 
--- 8 and 6, of R rounds in plain form
-unfoldable pub roundsCheck : ℕ → ℕ → List ℕ → Outcome
-roundsCheck n R words =
-    refuse (badWords n R words) PlainRound
-    (refuse (ownLoss (λ w. getD words w 0) n R) OwnLoss
-    Accepted)
+-- 8 and 6, of R rounds in plain form whose first is round k
+unfoldable pub roundsCheck : ℕ → ℕ → ℕ → List ℕ → Outcome
+roundsCheck n k R words = refuse (badWords n R words) PlainRound (ownLossCheck (λ w. getD words w 0) n k R)
 
--- of one round
-unfoldable pub roundCheck : ℕ → List ℕ → Outcome
-roundCheck n words = roundsCheck n 1 words
+-- of one round in plain form, which is round k
+unfoldable pub roundCheck : ℕ → ℕ → List ℕ → Outcome
+roundCheck n k words = roundsCheck n k 1 words
 
 -- 2, 3, 7, 8 and 6, in this order: what writing asks before it looks at the buffer
 unfoldable pub plainCheck : ℕ → ℕ → List ℕ → List ℕ → Outcome
@@ -94,4 +118,4 @@ plainCheck n R openings words =
     refuse (badTrucks n) TruckCount
     (refuse (badRounds R) RoundCount
     (refuse (badOpenings n openings) Record
-    (roundsCheck n R words)))
+    (roundsCheck n 1 R words)))

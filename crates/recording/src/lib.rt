@@ -5,7 +5,7 @@ ghost use lib.Dec.{eqb};
 ghost use lib.ListN.{length};
 ghost use Rattle.basics.specs.Lists.{first, someBelow};
 ghost use Rattle.recording.specs.Packed.{bitAt, trucksOf, roundsOf, countsOf, openingPlace, openingsInto, wordPlace, wordAt, bitsFor, bytesFor};
-ghost use Rattle.recording.specs.Checks.{badTrucks, firstOwn, frameCheck, checkOf};
+ghost use Rattle.recording.specs.Checks.{badTrucks, frameCheck, ownLossCheck, checkOf};
 use refusals::Outcome;
 use refusals::Refusal;
 
@@ -155,36 +155,26 @@ fn own_truck(s: &[u8], at: usize, n: usize) -> usize
     n
 }
 
-// An own loss bit by its round, counted from 0, and its truck.
-struct OwnPlace {
-    round: usize,
-    truck: usize,
-}
-
-// The first own loss bit that is 1 in so many rounds from the first one on; where none is, truck 0 of the round after them.
-// Only in the round that has it is the truck searched for.
-fn own_place(s: &[u8], trucks: u8, rounds: usize) -> OwnPlace
-    requires { ⌜ (trucks ≡ trucksOf (now s)) × (0 < trucks) × (trucks ≤ 32) × (rounds ≤ 400) × (bitsFor trucks rounds ≤ 8 * length (now s)) ⌝ }
-    ensures { λ r. ⌜ (r .round * trucks + r .truck ≡ firstOwn (wordAt (now (s .entry))) trucks rounds) × (r .truck < trucks) ⌝ }
+// Refusal 6, of so many rounds from the first one on. Only in the round that it names is the truck searched for.
+fn check_own(s: &[u8], trucks: u8, rounds: u16) -> Outcome
+    requires { ⌜ (trucks ≡ trucksOf (now s)) × (trucks ≤ 32) × (rounds ≤ 400) × (bitsFor trucks rounds ≤ 8 * length (now s)) ⌝ }
+    ensures { λ r. ⌜ r ≡ ownLossCheck (wordAt (now (s .entry))) trucks 1 rounds ⌝ }
 {
     let n = trucks as usize;
     let size = 3 * n + n * n;
     let mut at = word_place(trucks, 3);
-    let mut r = 0;
+    let mut r: u16 = 0;
     while r < rounds {
         if own_any(s, at, n) {
-            return OwnPlace {
-                round: r,
-                truck: own_truck(s, at, n),
-            };
+            return Outcome::Refused(Refusal::OwnLoss {
+                round: r + 1,
+                truck: own_truck(s, at, n) as u8,
+            });
         }
         at = at + size;
         r += 1;
     }
-    OwnPlace {
-        round: rounds,
-        truck: 0,
-    }
+    Outcome::Accepted
 }
 
 // Refusals 1 to 6.
@@ -195,13 +185,6 @@ pub fn check(s: &[u8]) -> Outcome
     let frame = check_frame(s, c.trucks, c.rounds);
     match frame {
         Outcome::Refused(r) => Outcome::Refused(r),
-        Outcome::Accepted => {
-            let rounds = c.rounds as usize;
-            let own = own_place(s, c.trucks, rounds);
-            if own.round < rounds {
-                return Outcome::Refused(Refusal::OwnLoss);
-            }
-            Outcome::Accepted
-        }
+        Outcome::Accepted => check_own(s, c.trucks, c.rounds),
     }
 }

@@ -1,14 +1,16 @@
 -- Laws of chains of refusals: a chain accepts exactly where none of its conditions holds.
-use mathlib.Core.Path.{_≡_, refl}
+use mathlib.Core.Path.{_≡_, refl, ap}
 use mathlib.Core.Bool.{Bool, true, false}
 use Prim.Native.Nat.{ℕ}
 use native.Mathlib.Omega.{arith}
 use Rattle.refusals.specs.declared.Refusal.{Refusal}
 use Rattle.refusals.specs.declared.Outcome.{Outcome}
 use Rattle.refusals.specs.declared.Outcome.the-variants.{Accepted, Refused}
+use Rattle.refusals.specs.Numbers.{numberOf, outcomeNumber}
 use Rattle.refusals.specs.Outcomes.{refuse, andThen}
 
-refused-not : {A : Type 0} (r : Refusal) → Refused r ≡ Accepted → A
+-- an outcome is not both
+pub refused-not : {A : Type 0} (r : Refusal) → Refused r ≡ Accepted → A
 refused-not r h = let z : _≡_ {A = ℕ} 0 1 = cc in absurd (omega arith)
 
 -- a guard that accepts: its condition fails, and the later ones accept
@@ -22,6 +24,11 @@ refuse-rest false r o h = h
 
 pub refuse-on : (b : Bool) (r : Refusal) (o : Outcome) → b ≡ false → o ≡ Accepted → refuse b r o ≡ Accepted
 refuse-on b r o h e = rw (h, e)
+
+-- a guard that refuses for another reason than its own: its condition fails, and a later one refuses
+pub refuse-past : (b : Bool) (r q : Refusal) (o : Outcome) → (numberOf r ≡ numberOf q → ⊥) → refuse b r o ≡ Refused q → (b ≡ false) × (o ≡ Refused q)
+refuse-past true r q o other h = absurd (other (ap outcomeNumber h))
+refuse-past false r q o other h = (refl, h)
 
 -- two chains one after the other
 pub then-first : (a b : Outcome) → andThen a b ≡ Accepted → a ≡ Accepted

@@ -19,8 +19,8 @@ numberOf RoundCount = 3
 numberOf RecordingLength = 4
 -- a leftover end bit is 1
 numberOf EndBit = 5
--- an own loss bit is 1
-numberOf OwnLoss = 6
+-- an own loss bit is 1; it names the round and the truck
+numberOf (OwnLoss round truck) = 6
 -- a fleet record, an opening or a number of openings outside the limits
 numberOf Record = 7
 -- plain rounds of the wrong number of words, or a bit at or above n set

@@ -3,7 +3,7 @@ ghost use mathlib.Core.Path.{_≡_};
 ghost use Prim.Native.Nat.{_≤_};
 ghost use lib.ListN.{length, take};
 ghost use Rattle.listing.specs.Text.{printed, refusalText};
-ghost use Rattle.listing.specs.Program.{longestListing, longestRefusal};
+ghost use Rattle.listing.specs.Program.{longestListing};
 ghost use Rattle.replay.specs.Input.{bytesRead};
 use listing::Listed;
 
@@ -57,7 +57,7 @@ fn text_of(s: &[u8], text: &mut [u8]) -> usize
 
 // Puts the line of a refusal.
 fn line_of(r: refusals::Refusal, text: &mut [u8]) -> usize
-    requires { ⌜ longestRefusal ≤ length (now text) ⌝ }
+    requires { ⌜ length (refusalText r) ≤ length (now text) ⌝ }
     ensures within { λ k. ⌜ k ≤ length (now (text .exit)) ⌝ }
     ensures line { λ k. ⌜ take k (now (text .exit)) ≡ refusalText r ⌝ }
 {
@@ -85,7 +85,7 @@ fn complain(text: &[u8]) {
     io::write_all(2, text);
 }
 
-// No call leads here: a buffer of these sizes is never refused (`list-suffices`, `refusal-suffices` in crate listing).
+// No call leads here: a buffer of these sizes is never refused (`list-suffices`, `list-room` in crate listing).
 fn never() -> usize
     requires { ⌜ ⊥ ⌝ }
 {

@@ -2,7 +2,9 @@
 use mathlib.Core.Path.{sym, _∙_}
 use borrow.Author.Tests.{eq-eqb, ne-eqb, not-true, not-false}
 use borrow.Author.Needs.{needs}
-use Rattle.protocol.specs.Fleets.{stepCheckIn}
+use native.Mathlib.Omega.{arith}
+use Rattle.protocol.specs.Fleets.{stepCheckIn, twoRound}
+use Rattle.protocol.proofs.Good.{record-parts}
 use Rattle.fleet.proofs.check_step.Statement.{statement}
 use Rattle.fleet.proofs.check_step.Tie as tie
 
@@ -14,10 +16,16 @@ returns-2 : tie.Need-returns-2
 unfolding stepCheckIn
 returns-2 c = rw (sym (c .before .before .before .good-fleet .ensures) ∙ not-false _ (c .before .before .if1 .left), eq-eqb _ 400 (c .if2 .taken))
 
+-- of a record that refusal 7 lets pass at most 400 rounds are done
+add-check-round : tie.Need-add-check-round
+add-check-round c =
+    let f = c .before .before .before .before .before .before .args .f in
+    omega (arith, record-parts twoRound f (sym (c .before .before .before .before .good-fleet .ensures) ∙ not-false _ (c .before .before .before .if1 .left)) .done)
+
 returns-3 : tie.Need-returns-3
 unfolding stepCheckIn
-returns-3 c = rw (sym (c .before .before .before .before .good-fleet .ensures) ∙ not-false _ (c .before .before .before .if1 .left), ne-eqb _ 400 (c .before .if2 .left)) (c .check-round .ensures)
+returns-3 c = rw (sym (c .before .before .before .before .before .good-fleet .ensures) ∙ not-false _ (c .before .before .before .before .if1 .left), ne-eqb _ 400 (c .before .before .if2 .left)) (c .check-round .ensures)
 
 pub check-step-spec : {M : Type 1} → statement M
 check-step-spec =
-    tie.close (tie.spec (λ c κs. search needs) returns returns-2 (λ c κs. search needs) returns-3)
+    tie.close (tie.spec (λ c κs. search needs) returns returns-2 add-check-round (λ c κs. search needs) returns-3)

@@ -1,7 +1,7 @@
 -- `put_refusal` meets its contract.
 use native.Mathlib.Omega.{arith}
 use mathlib.Core.Path.{ap}
-use Rattle.listing.specs.Text.{decimal, refusalText}
+use Rattle.listing.specs.Text.{decimal, placeText, refusalText}
 use Rattle.listing.proofs.Laws.{put-join, put-as}
 use borrow.Author.Needs.{needs}
 use Rattle.listing.proofs.put_refusal.Statement.{statement}
@@ -10,9 +10,16 @@ use Rattle.listing.proofs.put_refusal.Tie as tie
 returns : tie.Need-returns
 unfolding refusalText
 returns c =
-    let number = c .before .before .before .before .before .before .before in
-    let text = number .before .before .before .before .before in
-    (put-join (put-join (text .put .ensures) (put-as (ap decimal (number .before .number .ensures)) (number .put-number .ensures .0))) (c .before .before .put2 .ensures), omega arith)
+    let place = c .before .before .before .before .before .before .before in
+    let number = place .before .before .before .before .before in
+    let text = number .before .before .before .before .before in (
+      put-join
+          (put-join
+          (put-join (text .put .ensures) (put-as (ap decimal (number .before .number .ensures)) (number .put-number .ensures .0)))
+          (put-as (ap placeText (place .before .place-of .ensures)) (place .put-place .ensures .0)))
+          (c .before .before .put2 .ensures),
+      omega arith,
+    )
 
 pub put-refusal-spec : {M : Type 1} → statement M
 put-refusal-spec =
@@ -22,6 +29,8 @@ put-refusal-spec =
     (λ c κs. search needs)
     (λ c κs. search needs)
     (λ c. search needs)
+    (λ c κs. search needs)
+    (λ c κs. search needs)
     (λ c κs. search needs)
     (λ c. search needs)
     (λ c κs. search needs)

@@ -1,9 +1,9 @@
 -- `check_rounds` meets its contract: one law for each return.
 use borrow.Author.Needs.{needs}
-use Rattle.plain.proofs.Outcomes.{rounds-8, words-counted, rounds-6, rounds-0}
+use Rattle.plain.proofs.Outcomes.{rounds-8, words-counted, rounds-rest}
 use Rattle.plain.proofs.check_rounds.Statement.{statement}
 use Rattle.plain.proofs.check_rounds.Tie as tie
 
 pub check-rounds-spec : {M : Type 1} → statement M
 check-rounds-spec =
-    tie.close (tie.spec (λ c κs. search needs) (λ c. search rounds-8) (λ c κs. search words-counted) (λ c. search rounds-6) (λ c. search rounds-0))
+    tie.close (tie.spec (λ c κs. search needs) (λ c. search rounds-8) (λ c κs. search (words-counted, needs)) (λ c. search rounds-rest))

@@ -1,7 +1,7 @@
 -- `check` meets its contract: one law for each return.
 use borrow.Author.Needs.{needs}
 use Rattle.recording.proofs.Fronts.{counts-trucks, counts-rounds}
-use Rattle.recording.proofs.Searches.{trucks-some, trucks-fit, rounds-fit, bits-fit, check-refused, check-6, check-0}
+use Rattle.recording.proofs.Searches.{trucks-fit, rounds-fit, bits-fit, check-refused, check-own}
 use Rattle.recording.proofs.check.Statement.{statement}
 use Rattle.recording.proofs.check.Tie as tie
 
@@ -13,8 +13,6 @@ check-spec =
     (λ c κs. search (counts-trucks, counts-rounds))
     (λ c. search needs)
     (λ c. search needs)
-    (λ c. search needs)
-    (λ c κs. search (counts-trucks, counts-rounds, trucks-some, trucks-fit, rounds-fit, bits-fit))
-    (λ c. search (check-6, counts-trucks, counts-rounds))
+    (λ c κs. search (counts-trucks, counts-rounds, trucks-fit, rounds-fit, bits-fit))
     (λ c. search check-refused)
-    (λ c. search (check-0, counts-trucks, counts-rounds)))
+    (λ c. search (check-own, counts-trucks, counts-rounds)))

@@ -1,4 +1,4 @@
--- `line_of` meets its contract: its buffer is as long as the longest line, so that it is never refused.
+-- `line_of` meets its contract: its buffer has room for the line, so that it is never refused.
 use Rattle.listing.proofs.Laws.{refusal-fits}
 use Rattle.listing.proofs.Prints.{line-text, line-refused}
 use borrow.Author.Needs.{needs}

@@ -1,7 +1,7 @@
--- `text_of` meets its contract: its buffer is as long as the longest listing, so that only the recording is refused, and the line of that is printed.
+-- `text_of` meets its contract: its buffer is as long as the longest listing, so that only the recording is refused, and the line of that is printed; it has room for that line.
 use mathlib.Core.Path.{_∙_}
 use Rattle.listing.proofs.Laws.{listed-fits}
-use Rattle.listing.proofs.Prints.{list-text, list-refused}
+use Rattle.listing.proofs.Prints.{list-text, list-refused, list-room}
 use borrow.Author.Needs.{needs}
 use Rattle.replay.proofs.text_of.Statement.{statement}
 use Rattle.replay.proofs.text_of.Tie as tie
@@ -21,6 +21,11 @@ returns-2 c =
       line .ensures .1 ∙ list-refused _ _ (l .last .1 .0) (l .result) (l .ensures) _ (c .before .before .before .before .before .listed2 .given .1) (search needs),
     )
 
+line-of-requires : tie.Need-line-of-requires
+line-of-requires c κs =
+    let l = c .before .before .before .before .before .before .list in
+    rw (l .kept .1 .0) (list-room _ _ (l .last .1 .0) (l .result) (l .ensures) _ (c .before .before .listed2 .given .1) (search needs))
+
 pub text-of-spec : {M : Type 1} → statement M
 text-of-spec =
     tie.close
@@ -28,7 +33,7 @@ text-of-spec =
     (λ c κs. search needs)
     (λ c. search needs)
     (λ c. search needs)
-    (λ c κs. search needs)
+    line-of-requires
     (λ c. search needs)
     returns
     (λ c. search needs)

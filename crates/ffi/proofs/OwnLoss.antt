@@ -1,0 +1,160 @@
+-- Where refusal 6 finds an own loss bit, for callers in other languages: what the three functions answer; and where a call answers 6, the function beside it names
+-- the earliest round and, in it, the lowest truck.
+use mathlib.Core.Path.{_≡_, refl, ap, sym, _∙_}
+use mathlib.Core.Bool.{Bool, true, false, cond, _||_}
+use mathlib.Core.List.{List, [], _∷_, _++_}
+use Prim.Native.Nat.{ℕ, _+_, _*_, min}
+use native.Mathlib.Omega.{arith}
+use borrow.Author.Tests.{le-ltb}
+use lib.Dec.{ltb}
+use lib.ListN.{length, getD, drop}
+use Rattle.refusals.specs.declared.Refusal.{Refusal}
+use Rattle.refusals.specs.declared.Refusal.the-variants.{OwnLoss, ShortBuffer}
+use Rattle.refusals.specs.declared.Outcome.{Outcome}
+use Rattle.refusals.specs.declared.Outcome.the-variants.{Accepted, Refused}
+use Rattle.refusals.specs.Numbers.{numberOf, outcomeNumber, numbered}
+use Rattle.refusals.specs.Outcomes.{refuse, andThen}
+use Rattle.refusals.specs.Places.{outcomePlace, placeNumber}
+use Rattle.refusals.proofs.Places.{outcome-6}
+use Rattle.recording.specs.Packed.{trucksOf, roundsOf, openingsOf, roundAt, wordAt, bytesFor}
+use Rattle.recording.specs.Checks.{checkOf, plainCheck, FirstOwn, FirstOwnAt}
+use Rattle.recording.proofs.Named.{check-names, plain-names}
+use Rattle.plain.specs.Forms.{readAnswer, readPlain, readCheck, shortBuffers, writeAnswer, writePlain, writeCheck}
+use Rattle.plain.proofs.RoundTrip.{read-answer, write-answer}
+use Rattle.protocol.specs.declared.Fleet.{Fleet}
+use Rattle.protocol.specs.declared.Answer.{Answer}
+use Rattle.protocol.specs.Runs.{radiosIn, gradesFor}
+use Rattle.protocol.specs.Fleets.{twoRound, answer, blank, stepped, fleetAt, ran, ranIn, gradeAnswer, graded}
+use Rattle.protocol.proofs.Ran.{grade-answer}
+use Rattle.protocol.proofs.Steps.{step-names}
+use Rattle.listing.specs.Text.{listingOf}
+use Rattle.listing.specs.Listed.{listAnswer, listed, listCheck}
+use Rattle.listing.proofs.Prints.{list-answer}
+use Rattle.recordbytes.specs.Layout.{sizeFor, damaged, recordOf, noRecord, unpacked}
+use Rattle.ffi.specs.Calls.{readCall, writeCall, listCall, gradeLeft, gradeLeftAs, gradeCall, recordAs, storeCall, runCall, stepCall, recordingOwnLoss, writeOwnLoss, stepOwnLoss}
+use Rattle.ffi.proofs.Narrow.{narrow-check}
+use Rattle.ffi.proofs.Records.{record-number}
+
+-- ---- a law for each return
+abbrev ownLoss : Outcome → ℕ
+ownLoss o = placeNumber (outcomePlace o)
+
+pub recording-own : (s : List ℕ) (o : Outcome) (k : ℕ) → o ≡ checkOf s → k ≡ placeNumber (outcomePlace o) → k ≡ recordingOwnLoss s
+unfolding recordingOwnLoss
+recording-own s o k h e = e ∙ ap ownLoss h
+
+pub write-own : (n R m S : ℕ) (openings words : List ℕ) (o : Outcome) (k : ℕ) → m ≡ min n 255 → S ≡ min R 65535 → o ≡ plainCheck m S openings words
+    → k ≡ placeNumber (outcomePlace o) → k ≡ writeOwnLoss n R openings words
+unfolding writeOwnLoss
+write-own n R m S openings words o k few short h e = e ∙ ap ownLoss (h ∙ narrow-check openings words n R m S few short)
+
+module _ (d w : List ℕ) (u : Answer) (read : u ≡ unpacked d) where
+  step-as : ownLoss (andThen (u .outcome) (stepped (u .fleet) w .outcome)) ≡ stepOwnLoss d w
+  unfolding stepOwnLoss
+  step-as = ap (λ (a : Answer). ownLoss (andThen (a .outcome) (stepped (a .fleet) w .outcome))) read
+
+  pub step-own-7 : (r : Refusal) (k : ℕ) → u .outcome ≡ Refused r → k ≡ placeNumber (outcomePlace (Refused r)) → k ≡ stepOwnLoss d w
+  step-own-7 r k h e = e ∙ ap (λ (o : Outcome). ownLoss (andThen o (stepped (u .fleet) w .outcome))) (sym h) ∙ step-as
+
+  pub step-own : (a : Answer) (k : ℕ) → u .outcome ≡ Accepted → a ≡ stepped (u .fleet) w → k ≡ placeNumber (outcomePlace (a .outcome)) → k ≡ stepOwnLoss d w
+  step-own a k whole h e =
+      e
+      ∙ ap (λ (b : Answer). ownLoss (b .outcome)) h
+      ∙ ap (λ (o : Outcome). ownLoss (andThen o (stepped (u .fleet) w .outcome))) (sym whole)
+      ∙ step-as
+
+-- ---- what they answer where a call answers 6
+number-of : (o : Outcome) (values : List ℕ) → numbered o values .0 ≡ outcomeNumber o
+number-of Accepted values = refl
+number-of (Refused r) values = refl
+
+-- a buffer that is too short is not what is answered 6 for
+before-9 : (o : Outcome) (b : Bool) → outcomeNumber (andThen o (refuse b ShortBuffer Accepted)) ≡ 6 → outcomeNumber o ≡ 6
+before-9 Accepted true h = absurd (omega arith)
+before-9 Accepted false h = absurd (omega arith)
+before-9 (Refused r) b h = h
+
+module _ (s : List ℕ) where
+  -- the first own loss bit of a recording, as it is answered
+  abbrev pub RecordingNamed : Type 0
+  RecordingNamed = (round : ℕ) × (truck : ℕ) × (recordingOwnLoss s ≡ round * 256 + truck) × FirstOwnAt (wordAt s) (trucksOf s) 1 (roundsOf s) round truck
+
+  named : outcomeNumber (checkOf s) ≡ 6 → RecordingNamed
+  unfolding recordingOwnLoss
+  named h = let (round, truck, e) = outcome-6 (checkOf s) h in (round, truck, ap ownLoss e, check-names s round truck e .1)
+
+  pub read-6 : (openings words : List ℕ) (trucks rounds : ℕ) → readCall s openings words trucks rounds .number ≡ 6 → RecordingNamed
+  unfolding readCall readCheck
+  read-6 openings words trucks rounds h =
+      named
+      (before-9 (checkOf s) (shortBuffers s (length openings) (length words))
+      (sym (ap (λ (x : ℕ × List ℕ). x .0) (read-answer s openings words) ∙ number-of (readCheck s (length openings) (length words)) (trucksOf s ∷ roundsOf s ∷ [])) ∙ h))
+
+  pub list-6 : (text : List ℕ) (written : ℕ) → listCall s text written .number ≡ 6 → RecordingNamed
+  unfolding listCall listCheck
+  list-6 text written h =
+      let short = ltb (length text) (length (listingOf (ran s .fleet))) in
+      named
+      (before-9 (checkOf s) short
+      (sym (ap (λ (x : ℕ × List ℕ). x .0) (list-answer s text) ∙ number-of (listCheck s (length text)) (length (listingOf (ran s .fleet)) ∷ [])) ∙ h))
+
+  pub run-6 : (d : List ℕ) → runCall s d .number ≡ 6 → RecordingNamed
+  unfolding runCall storeCall ranIn
+  run-6 d h =
+      let short = ltb (length d) (sizeFor 32) in
+      named (same (checkOf s) (before-9 (ran s .outcome) short (sym (record-number (andThen (ran s .outcome) (refuse short ShortBuffer Accepted)) 32 (ran s .fleet) d) ∙ h)))
+    where
+      f : Fleet
+      f = fleetAt (trucksOf s) (openingsOf s) (roundAt s) (roundsOf s)
+
+      same : (o : Outcome) → outcomeNumber (answer o f blank .outcome) ≡ 6 → outcomeNumber o ≡ 6
+      same Accepted e = e
+      same (Refused r) e = e
+
+  pub grade-6 : (grades : List ℕ) → gradeCall s grades .number ≡ 6 → RecordingNamed
+  unfolding gradeCall
+  grade-6 grades h = named (go (checkOf s) _ (sym (ap (λ (x : ℕ × List ℕ). gradeLeftAs x grades .number) (grade-answer twoRound s)) ∙ h))
+    where
+      short : (b : Bool) (values : List ℕ) → cond b (gradeLeft (numberOf ShortBuffer) grades) (gradeLeft 0 (values ++ drop (length values) grades)) .number ≡ 6 → _≡_ {A = ℕ} 0 6
+      short true values e = absurd (omega arith)
+      short false values e = e
+
+      go : (o : Outcome) (values : List ℕ) → gradeLeftAs (numbered o values) grades .number ≡ 6 → outcomeNumber o ≡ 6
+      go Accepted values e = short (ltb (length grades) (length values)) values e
+      go (Refused r) values e = rw (le-ltb (length grades) 0 (omega arith)) at e
+
+-- writing
+pub write-6 : (n R : ℕ) (openings words bytes : List ℕ) (written : ℕ) → writeCall n R openings words bytes written .number ≡ 6
+    → (round : ℕ) × (truck : ℕ) × (writeOwnLoss n R openings words ≡ round * 256 + truck) × FirstOwnAt (λ w. getD words w 0) n 1 R round truck
+unfolding writeCall writeCheck writeOwnLoss
+write-6 n R openings words bytes written h =
+    let six = before-9 (plainCheck n R openings words) (ltb (length bytes) (bytesFor n R))
+    (sym (ap (λ (x : ℕ × List ℕ). x .0) (write-answer n R openings words bytes) ∙ number-of (writeCheck n R openings words (length bytes)) (bytesFor n R ∷ [])) ∙ h) in
+    let (round, truck, e) = outcome-6 (plainCheck n R openings words) six in
+    (round, truck, ap ownLoss e, plain-names n R openings words round truck e .4)
+
+-- bytes that are no record are refused 7
+whole-6 : {A : Type 0} (d : List ℕ) → outcomeNumber (unpacked d .outcome) ≡ 6 → A
+unfolding unpacked
+whole-6 {A} d = go (damaged d)
+  where
+    go : (b : Bool) → outcomeNumber (cond b noRecord (record { outcome = Accepted; fleet = recordOf d }) .outcome) ≡ 6 → A
+    go true h = absurd (omega arith)
+    go false h = absurd (omega arith)
+
+-- a step: the round is the one after those done
+pub step-6 : (d w : List ℕ) → stepCall d w .number ≡ 6
+    → (truck : ℕ) × (stepOwnLoss d w ≡ (unpacked d .fleet .done + 1) * 256 + truck) × FirstOwn (λ k. getD w k 0) (unpacked d .fleet .n) 1 0 truck
+unfolding stepCall stepOwnLoss
+step-6 d w h = go (unpacked d .outcome) refl (sym (record-number (andThen (unpacked d .outcome) (stepped f w .outcome)) (stepped f w .fleet .n) (stepped f w .fleet) d) ∙ h)
+  where
+    f : Fleet
+    f = unpacked d .fleet
+
+    go : (o : Outcome) → unpacked d .outcome ≡ o → outcomeNumber (andThen o (stepped f w .outcome)) ≡ 6
+        → (truck : ℕ) × (ownLoss (andThen o (stepped f w .outcome)) ≡ (f .done + 1) * 256 + truck) × FirstOwn (λ k. getD w k 0) (f .n) 1 0 truck
+    go Accepted e g =
+        let (round, truck, r) = outcome-6 (stepped f w .outcome) g in
+        let n = step-names twoRound f w round truck r in
+        (truck, ap ownLoss r ∙ ap (λ (k : ℕ). k * 256 + truck) (n .0), n .1)
+    go (Refused r) e g = whole-6 d (ap outcomeNumber e ∙ g)

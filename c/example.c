@@ -1,5 +1,6 @@
 /*
- * Runs a recording to its listing, follows the same rounds as a live fleet, and picks an opening crusher.
+ * Runs a recording to its listing, follows the same rounds as a live fleet, finds what is wrong with another recording,
+ * and picks an opening crusher.
  *
  *   rt staticlib ffi
  *   cc -std=c99 -Wall -Wextra -Ic c/example.c target/staticlib/libffi.a -o example
@@ -52,6 +53,15 @@ int main(void) {
             return 1;
         }
         print_fleet(record);
+    }
+
+    /* The radio of truck 0 claims to have missed itself in round 1. A refused call says that such a bit is 1, and
+     * rajvokshul_recording_own_loss where it is. */
+    const uint8_t wrong[] = {0x08, 0x02, 0x35, 0x33, 0x80, 0x00};
+    if (rajvokshul_run(wrong, sizeof wrong, record, sizeof record) == RAJVOKSHUL_OWN_LOSS) {
+        uint32_t own_loss = rajvokshul_recording_own_loss(wrong, sizeof wrong);
+        printf("refused 6 round %u truck %u: %s\n", (unsigned)rajvokshul_own_loss_round(own_loss),
+               (unsigned)rajvokshul_own_loss_truck(own_loss), rajvokshul_reason(RAJVOKSHUL_OWN_LOSS));
     }
 
     /* The first road is idle, so the second one is taken; but a truck that stands at crusher 0 opens with it. */

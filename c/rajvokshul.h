@@ -5,8 +5,9 @@
  * archive that `rt staticlib ffi` writes, target/staticlib/libffi.a (name the file: `-lffi` is another library).
  *
  * Every function that is not inline answers 0, or the number of the refusal, which rajvokshul_reason puts in words. On a
- * refusal nothing that was lent is changed. Buffers may be longer than needed: everything past the part written stays as
- * it was.
+ * refusal nothing that was lent is changed. Where the number is 6, a function whose name ends in _own_loss says which
+ * round and truck, if it is given what the refused call was given. Buffers may be longer than needed: everything past the
+ * part written stays as it was.
  *
  * A pointer followed by a length is a list; the length counts elements, not bytes. The pointer of a list of length 0 is
  * not used and may be NULL. No other pointer may be: not that of a list with elements, nor of a number that is written,
@@ -47,7 +48,7 @@ extern "C" {
 #define RAJVOKSHUL_ROUND_COUNT 3      /* more than 400 rounds */
 #define RAJVOKSHUL_RECORDING_LENGTH 4 /* the byte length differs from the one that n and the rounds fix */
 #define RAJVOKSHUL_END_BIT 5          /* a leftover end bit is 1 */
-#define RAJVOKSHUL_OWN_LOSS 6         /* a truck's own loss bit is 1 */
+#define RAJVOKSHUL_OWN_LOSS 6         /* a truck's own loss bit is 1; see 'Where an own loss bit is' */
 /* The caller. */
 #define RAJVOKSHUL_RECORD 7       /* bytes that are no fleet record or one outside the limits; an opening above 15; openings not n in number */
 #define RAJVOKSHUL_PLAIN_ROUND 8  /* plain rounds of the wrong number of words, or a bit at or above n */
@@ -103,6 +104,7 @@ static inline const char *rajvokshul_reason(uint32_t number) {
 #define RAJVOKSHUL_MAX_RECORDING 56018 /* bytes of a recording */
 #define RAJVOKSHUL_MAX_WORDS 14000     /* words of all rounds in plain form: rounds * (3 + n) */
 #define RAJVOKSHUL_MAX_TEXT 1099       /* bytes of a listing */
+#define RAJVOKSHUL_MAX_REFUSAL 29      /* bytes of the line that the program prints for a refused recording */
 #define RAJVOKSHUL_RECORD_SIZE 227     /* bytes of a fleet record: exactly these are read and written */
 #define RAJVOKSHUL_GRADES 4            /* numbers of a grading */
 
@@ -124,7 +126,8 @@ static inline size_t rajvokshul_words(uint32_t trucks, uint32_t rounds) {
 
 /* ---- Stack ----------------------------------------------------------------------------------------------------------
  * Every call takes fewer bytes of stack than these, also on inputs of the largest size; there is no other memory behind a
- * call. Measured on x86-64: list 66 KiB, run and grade 64 KiB, a step 1.2 KiB, the others below 1 KiB. */
+ * call. Measured on x86-64: list 66 KiB, run and grade 64 KiB, a step and where its own loss bit is 1.2 KiB, the others
+ * below 1 KiB. */
 #define RAJVOKSHUL_RUN_STACK 131072 /* run, grade and list */
 #define RAJVOKSHUL_STACK 4096       /* every other call */
 
@@ -230,6 +233,31 @@ uint32_t rajvokshul_start(uint32_t trucks, const uint8_t *openings, size_t openi
 /* Steps a fleet by one round in plain form, 3 + n words. A refused step leaves the record as it was. Refusals: 7, 14, 8, 6. */
 RAJVOKSHUL_NODISCARD
 uint32_t rajvokshul_step(uint8_t *record, size_t record_len, const uint32_t *words, size_t words_len);
+
+/* ---- Where an own loss bit is -----------------------------------------------------------------------------------------
+ * Refusal 6 names the earliest round in which a truck's own loss bit is 1 and, in that round, the lowest such truck. Each
+ * function takes what the refused call was given, changes nothing, and answers 0 where that call does not refuse 6; else a
+ * number of which the two inline functions tell the round, counted from 1, and the truck, counted from 0. */
+static inline uint32_t rajvokshul_own_loss_round(uint32_t own_loss) {
+    return own_loss / 256;
+}
+
+static inline uint32_t rajvokshul_own_loss_truck(uint32_t own_loss) {
+    return own_loss % 256;
+}
+
+/* Of a recording that is refused: by list, run, grade and read. */
+RAJVOKSHUL_NODISCARD
+uint32_t rajvokshul_recording_own_loss(const uint8_t *bytes, size_t bytes_len);
+
+/* Of plain form that is not written. */
+RAJVOKSHUL_NODISCARD
+uint32_t rajvokshul_write_own_loss(uint32_t trucks, uint32_t rounds, const uint8_t *openings, size_t openings_len,
+                                   const uint32_t *words, size_t words_len);
+
+/* Of a step: the round is the one that it would have been, one more than the rounds done. */
+RAJVOKSHUL_NODISCARD
+uint32_t rajvokshul_step_own_loss(const uint8_t *record, size_t record_len, const uint32_t *words, size_t words_len);
 
 /* ---- The opening crusher ------------------------------------------------------------------------------------------ */
 

@@ -124,6 +124,18 @@ static uint32_t opening(void) {
     return rajvokshul_opening(lengths, 16, metres, 16, seconds, 16, &crusher);
 }
 
+static uint32_t recording_own_loss(void) {
+    return rajvokshul_recording_own_loss(bytes, length);
+}
+
+static uint32_t write_own_loss(void) {
+    return rajvokshul_write_own_loss(N, ROUNDS, openings, N, words, RAJVOKSHUL_MAX_WORDS);
+}
+
+static uint32_t step_own_loss(void) {
+    return rajvokshul_step_own_loss(proposed, sizeof proposed, words + ROUND, ROUND);
+}
+
 /* Takes KNOWN bytes and little more: the measure is tried on it. */
 #define KNOWN 65536
 static uint32_t known(void) {
@@ -193,6 +205,9 @@ static const struct {
     {"write", write_plain, RAJVOKSHUL_STACK},
     {"start", start, RAJVOKSHUL_STACK},
     {"opening", opening, RAJVOKSHUL_STACK},
+    {"own loss of a recording", recording_own_loss, RAJVOKSHUL_STACK},
+    {"own loss of writing", write_own_loss, RAJVOKSHUL_STACK},
+    {"own loss of a step", step_own_loss, RAJVOKSHUL_STACK},
 };
 
 int main(void) {

@@ -1,5 +1,6 @@
 /*
- * What c/rajvokshul.h adds to the calls: sizes, fields of a record, and that the pointer of an empty list may be NULL.
+ * What c/rajvokshul.h adds to the calls: sizes, fields of a record, where an own loss bit is, and that the pointer of an
+ * empty list may be NULL.
  * Compiled as C and as C++. Exits with the number of tests that fail.
  */
 #include <stdio.h>
@@ -33,6 +34,7 @@ static void sizes(void) {
     EXPECT(rajvokshul_words(2, 4), 20);
     EXPECT(rajvokshul_words(1, 0), 0);
     EXPECT(rajvokshul_words(32, 400), RAJVOKSHUL_MAX_WORDS);
+    EXPECT(strlen("refused 6 round 400 truck 31\n"), RAJVOKSHUL_MAX_REFUSAL);
     const uint32_t outside[][2] = {{0, 4}, {33, 4}, {2, 401}, {most, 4}, {2, most}, {most, most}, {0x10000, 0x10000}};
     for (size_t k = 0; k < sizeof outside / sizeof outside[0]; k++) {
         EXPECT(rajvokshul_bytes(outside[k][0], outside[k][1]), 0);
@@ -150,6 +152,80 @@ static void null_fleets_and_roads(void) {
     EXPECT(crusher, 77);
 }
 
+/* ---- Where an own loss bit is ---- */
+
+/* A number that an own_loss function answers, as round and truck. */
+static void named(uint32_t own_loss, uint32_t round, uint32_t truck, int line) {
+    expect(rajvokshul_own_loss_round(own_loss), round, line);
+    expect(rajvokshul_own_loss_truck(own_loss), truck, line);
+}
+
+#define NAMED(own_loss, round, truck) named((own_loss), (round), (truck), __LINE__)
+
+/* Case C10, whose truck 0 misses itself in round 1, by every call on a recording; nothing that was lent changes. */
+static void own_loss_of_recordings(void) {
+    const uint8_t c10[6] = {0x08, 0x02, 0x35, 0x33, 0x80, 0x00};
+    uint8_t record[RAJVOKSHUL_RECORD_SIZE], text[RAJVOKSHUL_MAX_TEXT], openings[2] = {77, 77};
+    uint16_t first[RAJVOKSHUL_GRADES] = {77, 77, 77, 77};
+    uint32_t words[10] = {77}, trucks = 77, rounds = 77;
+    size_t written = 77;
+    memset(record, 77, sizeof record);
+    memset(text, 77, sizeof text);
+    EXPECT(rajvokshul_list(c10, sizeof c10, text, sizeof text, &written), RAJVOKSHUL_OWN_LOSS);
+    EXPECT(rajvokshul_run(c10, sizeof c10, record, sizeof record), RAJVOKSHUL_OWN_LOSS);
+    EXPECT(rajvokshul_grade(c10, sizeof c10, first, RAJVOKSHUL_GRADES), RAJVOKSHUL_OWN_LOSS);
+    EXPECT(rajvokshul_read(c10, sizeof c10, openings, 2, words, 10, &trucks, &rounds), RAJVOKSHUL_OWN_LOSS);
+    EXPECT(written + trucks + rounds + words[0] + first[3], 5 * 77);
+    EXPECT(openings[0] + openings[1] + record[0] + record[226] + text[0] + text[1098], 6 * 77);
+    NAMED(rajvokshul_recording_own_loss(c10, sizeof c10), 1, 0);
+    /* accepted, and refused otherwise */
+    EXPECT(rajvokshul_recording_own_loss(c1, sizeof c1), 0);
+    EXPECT(rajvokshul_recording_own_loss(c1, 7), 0);
+    EXPECT(rajvokshul_recording_own_loss(NULL, 0), 0);
+}
+
+/* Truck 1 in round 2, and truck 0 in round 3; then a word too large in round 4, which comes before. */
+static void own_loss_of_writing(void) {
+    uint32_t words[20] = {0};
+    uint8_t bytes[sizeof c1];
+    size_t written = 77;
+    words[5 + 4] = 2;
+    words[10 + 3] = 1;
+    EXPECT(rajvokshul_write(2, 4, both, 2, words, 20, bytes, sizeof bytes, &written), RAJVOKSHUL_OWN_LOSS);
+    NAMED(rajvokshul_write_own_loss(2, 4, both, 2, words, 20), 2, 1);
+    words[19] = 4;
+    EXPECT(rajvokshul_write(2, 4, both, 2, words, 20, bytes, sizeof bytes, &written), RAJVOKSHUL_PLAIN_ROUND);
+    EXPECT(rajvokshul_write_own_loss(2, 4, both, 2, words, 20), 0);
+    EXPECT(written, 77);
+    /* 65,540 rounds are 4 in 16 bits, and 258 trucks 2 in eight */
+    words[19] = 0;
+    EXPECT(rajvokshul_write_own_loss(2, 65540, both, 2, words, 20), 0);
+    EXPECT(rajvokshul_write_own_loss(258, 4, both, 2, words, 20), 0);
+    EXPECT(rajvokshul_write_own_loss(2, 4, NULL, 0, words, 20), 0);
+    EXPECT(rajvokshul_write_own_loss(2, 4, both, 2, NULL, 0), 0);
+    EXPECT(rajvokshul_write_own_loss(0, 0, NULL, 0, NULL, 0), 0);
+}
+
+/* The round is the one after those done, from 1 to 400; with 400 done 14 comes before. */
+static void own_loss_of_steps(void) {
+    const uint32_t quiet[5] = {0}, own[5] = {0, 0, 0, 0, 2};
+    uint8_t record[RAJVOKSHUL_RECORD_SIZE], before[RAJVOKSHUL_RECORD_SIZE];
+    EXPECT(rajvokshul_start(2, both, 2, record, sizeof record), RAJVOKSHUL_ACCEPTED);
+    for (uint32_t done = 0; done < 400; done++) {
+        memcpy(before, record, sizeof record);
+        EXPECT(rajvokshul_step(record, sizeof record, own, 5), RAJVOKSHUL_OWN_LOSS);
+        NAMED(rajvokshul_step_own_loss(record, sizeof record, own, 5), done + 1, 1);
+        EXPECT(memcmp(before, record, sizeof record), 0);
+        EXPECT(rajvokshul_step_own_loss(record, sizeof record, quiet, 5), 0);
+        EXPECT(rajvokshul_step(record, sizeof record, quiet, 5), RAJVOKSHUL_ACCEPTED);
+    }
+    EXPECT(rajvokshul_step(record, sizeof record, own, 5), RAJVOKSHUL_ROUNDS_DONE);
+    EXPECT(rajvokshul_step_own_loss(record, sizeof record, own, 5), 0);
+    EXPECT(rajvokshul_step_own_loss(before, sizeof before, own, 4), 0);
+    EXPECT(rajvokshul_step_own_loss(NULL, 0, own, 5), 0);
+    EXPECT(rajvokshul_step_own_loss(before, sizeof before, NULL, 0), 0);
+}
+
 static void standing_at_a_crusher(void) {
     const uint16_t lengths[2] = {500, 0}, idle[2] = {0, 0}, seconds[2] = {40, 0}, moved[2] = {0, 5};
     uint8_t crusher = 77;
@@ -168,6 +244,9 @@ int main(void) {
     null_recordings();
     null_writing();
     null_fleets_and_roads();
+    own_loss_of_recordings();
+    own_loss_of_writing();
+    own_loss_of_steps();
     standing_at_a_crusher();
     return failed;
 }

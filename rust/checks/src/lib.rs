@@ -1,6 +1,6 @@
 //! The exported functions as they are, and fleet records as the bytes that cross the boundary.
 
-use oracle::{fast, Fleet, Heard, State, Truck};
+use oracle::{fast, Fleet, Heard, OwnBit, State, Truck};
 
 pub mod inputs;
 
@@ -64,6 +64,21 @@ mod raw {
         ) -> u32;
         pub fn rajvokshul_step(
             record: *mut u8,
+            record_len: usize,
+            words: *const u32,
+            words_len: usize,
+        ) -> u32;
+        pub fn rajvokshul_recording_own_loss(bytes: *const u8, bytes_len: usize) -> u32;
+        pub fn rajvokshul_write_own_loss(
+            trucks: u32,
+            rounds: u32,
+            openings: *const u8,
+            openings_len: usize,
+            words: *const u32,
+            words_len: usize,
+        ) -> u32;
+        pub fn rajvokshul_step_own_loss(
+            record: *const u8,
             record_len: usize,
             words: *const u32,
             words_len: usize,
@@ -157,6 +172,34 @@ pub fn start(trucks: u32, openings: &[u8], record: &mut [u8]) -> u32 {
 
 pub fn step(record: &mut [u8], words: &[u32]) -> u32 {
     unsafe { raw::rajvokshul_step(record.as_mut_ptr(), record.len(), words.as_ptr(), words.len()) }
+}
+
+pub fn recording_own_loss(bytes: &[u8]) -> u32 {
+    unsafe { raw::rajvokshul_recording_own_loss(bytes.as_ptr(), bytes.len()) }
+}
+
+pub fn write_own_loss(trucks: u32, rounds: u32, openings: &[u8], words: &[u32]) -> u32 {
+    unsafe {
+        raw::rajvokshul_write_own_loss(
+            trucks,
+            rounds,
+            openings.as_ptr(),
+            openings.len(),
+            words.as_ptr(),
+            words.len(),
+        )
+    }
+}
+
+pub fn step_own_loss(record: &[u8], words: &[u32]) -> u32 {
+    unsafe {
+        raw::rajvokshul_step_own_loss(record.as_ptr(), record.len(), words.as_ptr(), words.len())
+    }
+}
+
+/// What these three answer of a place: 256 times the round, and the truck; 0 of none.
+pub fn own_loss_number(place: Option<OwnBit>) -> u32 {
+    place.map_or(0, |bit| 256 * u32::from(bit.round) + u32::from(bit.truck))
 }
 
 /// How many bytes a record has.

@@ -1,6 +1,6 @@
 //! The library compared with the independent reading, on inputs from fixed seeds.
 
-use checks::{record_bytes, times, RECORD};
+use checks::{own_loss_number, record_bytes, times, RECORD};
 use oracle::gen::{self, Limits, Rng, FULL, SMALL, TINY};
 use oracle::{fleet, lists, marks, Header};
 
@@ -38,9 +38,12 @@ fn whole(bytes: &[u8]) {
         assert_eq!(&buf[..written], text.as_bytes());
         assert!(buf[written..].iter().all(|&b| b == FILL));
     } else {
-        assert_eq!(text, format!("refused {number}\n"));
         assert!(written == 77 && buf.iter().all(|&b| b == FILL));
     }
+
+    let own_bit = oracle::own_bit(bytes);
+    assert_eq!(own_bit.is_some(), number == 6);
+    assert_eq!(checks::recording_own_loss(bytes), own_loss_number(own_bit));
 
     let mut grades = [999u16; 5];
     let graded = checks::grade(bytes, &mut grades);
@@ -153,6 +156,38 @@ fn damaged_recordings() {
     }
 }
 
+/// The largest sizes with own loss bits in few places: read, written, and each round stepped after some others.
+#[test]
+fn own_bits_of_largest_sizes() {
+    let mut rng = Rng::new(17);
+    for (n, rounds) in [(1, 400), (31, 400), (32, 1), (32, 400)] {
+        let header = Header { n, rounds };
+        for k in 0..times(30) {
+            let mut plain = gen::plain_of_size(&mut rng, header);
+            let (last, any) = (rounds - 1, rng.below(rounds));
+            let index = rng.pick(&[0, any, last]);
+            for _ in 0..=k % 4 {
+                let (later, any) = (rng.within(index, last), rng.below(n));
+                let truck = rng.pick(&[0, any, n - 1]);
+                plain.words[later * (3 + n) + 3 + truck] |= 1 << truck;
+            }
+            let named =
+                oracle::write_own_bit(n as u64, rounds as u64, &plain.openings, &plain.words);
+            let bytes = oracle::recording::pack(header, &plain.openings, &plain.words);
+            assert_eq!(oracle::own_bit(&bytes), named);
+            whole(&bytes);
+            let found =
+                checks::write_own_loss(n as u32, rounds as u32, &plain.openings, &plain.words);
+            assert_eq!(found, own_loss_number(named));
+            let mut fleet = gen::good_record(&mut rng, n, 0);
+            for done in [0, 1, 399, 400] {
+                fleet.done = done;
+                step_both(&fleet, plain.round(usize::from(named.unwrap().round)));
+            }
+        }
+    }
+}
+
 #[test]
 fn any_short_bytes() {
     let mut rng = Rng::new(4);
@@ -196,6 +231,10 @@ fn writing() {
         }
         assert_eq!(number, u32::from(w.refusal));
         assert_eq!(found, expected);
+        let own_bit = oracle::write_own_bit(w.n, w.rounds, &w.openings, &w.words);
+        assert_eq!(own_bit.is_some(), number == 6);
+        let own_loss = checks::write_own_loss(trucks, rounds, &w.openings, &w.words);
+        assert_eq!(own_loss, own_loss_number(own_bit));
     }
 }
 
@@ -207,8 +246,12 @@ fn a_round(rng: &mut Rng, n: usize, number: usize) -> Vec<u32> {
 /// One step on both sides, from the same record.
 fn step_both(f: &oracle::Fleet, words: &[u32]) -> oracle::Fleet {
     let mut d = record_bytes(f);
+    let own_loss = checks::step_own_loss(&d, words);
     let number = checks::step(&mut d, words);
     let (expected, next) = oracle::step(f, words);
+    let own_bit = oracle::step_own_bit(f, words);
+    assert_eq!(own_bit.is_some(), expected == 6);
+    assert_eq!(own_loss, own_loss_number(own_bit));
     assert_eq!(number, u32::from(expected));
     assert_eq!(d, record_bytes(&next));
     next

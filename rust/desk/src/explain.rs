@@ -212,16 +212,19 @@ impl Finding {
         (1..=header.rounds).find_map(own).unwrap_or(Finding::Sound(header))
     }
 
-    /// The number of the refusal, or 0.
-    pub fn number(self) -> u8 {
+    /// The refusal that this is, if something is wrong.
+    pub fn refusal(self) -> Option<Refusal> {
         match self {
-            Finding::Sound(_) => 0,
-            Finding::Short { .. } => 1,
-            Finding::Trucks(_) => 2,
-            Finding::Rounds(_) => 3,
-            Finding::Length { .. } => 4,
-            Finding::EndBit { .. } => 5,
-            Finding::OwnLoss { .. } => 6,
+            Finding::Sound(_) => None,
+            Finding::Short { .. } => Some(Refusal::ShortRecording),
+            Finding::Trucks(_) => Some(Refusal::TruckCount),
+            Finding::Rounds(_) => Some(Refusal::RoundCount),
+            Finding::Length { .. } => Some(Refusal::RecordingLength),
+            Finding::EndBit { .. } => Some(Refusal::EndBit),
+            // Within the limits, as 2 and 3 come first.
+            Finding::OwnLoss { round, truck, .. } => {
+                Some(Refusal::OwnLoss { round: round as u16, truck: truck as u8 })
+            }
         }
     }
 }
@@ -286,8 +289,8 @@ fn length(f: &mut fmt::Formatter<'_>, header: Header, bytes: usize) -> fmt::Resu
 pub fn explained(recording: &[u8]) -> Result<(String, Option<Refusal>), Failure> {
     let finding = Finding::of(recording);
     let refusal = read(recording).err();
-    hold(finding.number() == refusal.map_or(0, Refusal::number), || {
-        format!("{} is found ({finding}), but the library says {refusal:?}", finding.number())
+    hold(finding.refusal() == refusal, || {
+        format!("{:?} is found ({finding}), but the library says {refusal:?}", finding.refusal())
     })?;
     let text = match refusal {
         Some(refusal) => format!("{refusal}\n{finding}\n"),

@@ -2,7 +2,7 @@
 
 use std::fmt;
 
-use rajvokshul::{Recorder, Round};
+use rajvokshul::{Fleet, Recorder, Refusal, Round};
 
 /// A longer text is refused. 400 rounds in which each of 32 trucks misses every other take less than a sixth of it.
 pub const MOST_TEXT: usize = 1 << 24;
@@ -49,7 +49,7 @@ fn taken(recorder: Option<Recorder>, words: &[&str]) -> Result<Option<Recorder>,
         (["start", ..], Some(_)) => Err("the fleet is started already".to_string()),
         (["round", ..], None) => Err("a line start comes before the first round".to_string()),
         (["round", bits @ ..], Some(mut recorder)) => {
-            let round = round(usize::from(recorder.fleet().trucks()), bits)?;
+            let round = round(recorder.fleet(), bits)?;
             recorder.step(round).map_err(|refusal| refusal.to_string())?;
             Ok(Some(recorder))
         }
@@ -63,8 +63,9 @@ fn start(openings: &[&str]) -> Result<Recorder, String> {
     Recorder::start(&openings).map_err(|refusal| refusal.to_string())
 }
 
-/// The round that the words after `round` tell of.
-fn round(trucks: usize, words: &[&str]) -> Result<Round, String> {
+/// The next round of a fleet, which the words after `round` tell of.
+fn round(fleet: &Fleet, words: &[&str]) -> Result<Round, String> {
+    let trucks = usize::from(fleet.trucks());
     let mut round = Round::new(trucks).map_err(|refusal| refusal.to_string())?;
     let mut kind = "";
     for &word in words {
@@ -86,9 +87,19 @@ fn round(trucks: usize, words: &[&str]) -> Result<Round, String> {
                 ))
             }
         };
-        round = next.map_err(|refusal| format!("{kind} {word}: {refusal}"))?;
+        round = next.map_err(|refusal| format!("{kind} {word}: {}", in_round(fleet, refusal)))?;
     }
     Ok(round)
+}
+
+/// What a round that stands alone is refused for, with the number that it would have in the fleet.
+fn in_round(fleet: &Fleet, refusal: Refusal) -> Refusal {
+    match refusal {
+        Refusal::OwnLoss { truck, .. } => {
+            Refusal::OwnLoss { round: fleet.rounds_done() + 1, truck }
+        }
+        other => other,
+    }
 }
 
 fn not_a_pair(word: &str) -> String {

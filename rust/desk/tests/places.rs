@@ -49,7 +49,7 @@ fn c10_an_own_bit() {
     assert_eq!(Finding::of(&recording), Finding::OwnLoss { round: 1, truck: 0, place });
     assert_eq!(
         words(&recording),
-        "refused 6: a truck's own loss bit is 1, but a truck always hears itself\n\
+        "refused 6 round 1 truck 0: a truck's own loss bit is 1, but a truck always hears itself\n\
          the first one is in round 1, in the row of truck 0: the bit worth 0x02 of the byte at offset 3, which is 0x33\n"
     );
 }
@@ -133,7 +133,11 @@ fn hold(recording: &[u8]) -> u8 {
     assert_eq!(Finding::of(recording), expected(recording, number));
     let (text, refusal) = explained(recording).unwrap();
     assert_eq!(refusal.map_or(0, |refusal| refusal.number()), number);
-    let start = if number == 0 { "accepted: ".to_string() } else { format!("refused {number}: ") };
+    let start = match (number, oracle::own_bit(recording)) {
+        (0, _) => "accepted: ".to_string(),
+        (_, None) => format!("refused {number}: "),
+        (_, Some(own)) => format!("refused 6 round {} truck {}: ", own.round, own.truck),
+    };
     assert!(text.starts_with(&start), "{text}");
     number
 }

@@ -50,7 +50,11 @@ fn what_is_refused_is_said_with_its_line() {
         ("start 3 5\nround lost 2:0", format!("line 2: lost 2:0: {not_there}")),
         (
             "start 3 5\nround lost 1:1",
-            "line 2: lost 1:1: refused 6: a truck's own loss bit is 1, but a truck always hears itself".to_string(),
+            "line 2: lost 1:1: refused 6 round 1 truck 1: a truck's own loss bit is 1, but a truck always hears itself".to_string(),
+        ),
+        (
+            "start 3 5\nround active 0\nround\nround lost 0:0",
+            "line 4: lost 0:0: refused 6 round 3 truck 0: a truck's own loss bit is 1, but a truck always hears itself".to_string(),
         ),
         ("\nstart 3 16", format!("line 2: {openings}")),
         ("start 3 300", format!("line 1: {openings}")),

@@ -499,7 +499,14 @@ fn own_bit(rng: &mut Rng, limits: Limits) -> (Vec<u8>, &'static str) {
         if plain.rounds > 0 {
             let header = Header { n: plain.n, rounds: plain.rounds };
             let mut bytes = bytes_of(&plain);
-            let how = set_own_bit(rng, &mut bytes, header);
+            let mut how = set_own_bit(rng, &mut bytes, header);
+            if rng.chance(128) {
+                how = "several own bits";
+                for _ in 0..rng.within(1, 6) {
+                    let (index, truck) = (rng.below(header.rounds), rng.below(header.n));
+                    set_bit(&mut bytes, header.loss_place(index, truck, truck));
+                }
+            }
             return (bytes, how);
         }
     }
@@ -597,6 +604,10 @@ pub fn writing(rng: &mut Rng, limits: Limits, refusal: u8) -> Writing {
     if rounds > 0 && holds(rng, 6) {
         let (round, truck) = (rng.pick(&[0, rounds - 1]), rng.pick(&[0, n - 1]));
         words[round * (3 + n) + 3 + truck] |= 1 << truck;
+        for _ in 0..rng.within(0, 4) {
+            let (round, truck) = (rng.below(rounds), rng.below(n));
+            words[round * (3 + n) + 3 + truck] |= 1 << truck;
+        }
     }
     if holds(rng, 8) {
         spoil_words(rng, n, &mut words);
@@ -679,6 +690,10 @@ pub fn bad_round(rng: &mut Rng, n: usize) -> (Vec<u32>, u8) {
         }
         _ => {
             words[3 + own] |= 1 << own;
+            for _ in 0..rng.within(0, 3) {
+                let other = rng.below(n);
+                words[3 + other] |= 1 << other;
+            }
             return (words, 6);
         }
     }

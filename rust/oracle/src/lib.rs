@@ -5,8 +5,9 @@
 //! trucks one at a time, no masks. [`fast`] follows the same rules with masks
 //! and is a yardstick for speed. [`gen`] makes inputs from a fixed seed.
 //!
-//! A refusal is its number in the paper, 1 to 14. Where an answer is a number
-//! beside a record, 0 stands for accepted.
+//! A refusal is its number in the paper, 1 to 14; where 6 finds an own loss bit
+//! is answered by functions of its own. Where an answer is a number beside a
+//! record, 0 stands for accepted.
 
 #![forbid(unsafe_code)]
 // Rules read best with plain indices and remainders.
@@ -26,6 +27,8 @@ pub use fleet::{Fleet, Heard, State, Truck};
 pub use listing::{listing, listing_into, program};
 pub use lists::List;
 pub use marks::{calm, grade, Classes};
-pub use recording::{check, read, read_into, write, write_into, Header, Plain};
+pub use recording::{
+    check, own_bit, read, read_into, write, write_into, write_own_bit, Header, OwnBit, Plain,
+};
 pub use roads::opening;
-pub use steps::{run, start, step, Air};
+pub use steps::{run, start, step, step_own_bit, Air};

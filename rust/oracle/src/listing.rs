@@ -1,14 +1,19 @@
 //! The printed text.
 
 use crate::fleet::State;
-use crate::recording::LARGEST;
+use crate::recording::{own_bit, OwnBit, LARGEST};
 use crate::steps::run;
 
 /// What is printed for a recording, a refused one included.
 pub fn listing(bytes: &[u8]) -> String {
     match accepted_listing(bytes) {
         Ok(text) => text,
-        Err(refusal) => format!("refused {refusal}\n"),
+        Err(refusal) => match own_bit(bytes) {
+            Some(OwnBit { round, truck }) => {
+                format!("refused {refusal} round {round} truck {truck}\n")
+            }
+            None => format!("refused {refusal}\n"),
+        },
     }
 }
 

@@ -88,6 +88,57 @@ pub fn number(bytes: &[u8], place: usize, width: usize) -> usize {
     value
 }
 
+/// The own loss bit that refusal 6 names: its round, counted from 1, and its
+/// truck. Of several the one in the earliest round and, there, of the lowest
+/// truck is the least.
+#[derive(Clone, Copy, Debug, PartialEq, Eq, PartialOrd, Ord)]
+pub struct OwnBit {
+    pub round: u16,
+    pub truck: u8,
+}
+
+/// The least of all own loss bits that are 1 in so many rounds, by what each
+/// bit is.
+fn least_own_bit(n: usize, rounds: usize, is_set: impl Fn(usize, usize) -> bool) -> Option<OwnBit> {
+    let mut all = Vec::new();
+    for truck in 0..n {
+        for index in 0..rounds {
+            if is_set(index, truck) {
+                all.push(OwnBit { round: index as u16 + 1, truck: truck as u8 });
+            }
+        }
+    }
+    all.into_iter().min()
+}
+
+/// Where refusal 6 finds an own loss bit of a recording; nothing where the
+/// recording is accepted or refused for another reason.
+pub fn own_bit(bytes: &[u8]) -> Option<OwnBit> {
+    if check(bytes) != Err(6) {
+        return None;
+    }
+    let header = Header { n: number(bytes, 0, 6), rounds: number(bytes, 6, 10) };
+    least_own_bit(header.n, header.rounds, |index, truck| {
+        bit(bytes, header.loss_place(index, truck, truck))
+    })
+}
+
+/// The same of plain rounds that are written.
+pub fn write_own_bit(n: u64, rounds: u64, openings: &[u8], words: &[u32]) -> Option<OwnBit> {
+    if write(n, rounds, openings, words) != Err(6) {
+        return None;
+    }
+    words_own_bit(n as usize, words)
+}
+
+/// The least own loss bit that is 1 in plain rounds of 3 + n words each.
+pub fn words_own_bit(n: usize, words: &[u32]) -> Option<OwnBit> {
+    let width = 3 + n;
+    least_own_bit(n, words.len() / width, |index, truck| {
+        words[index * width + 3 + truck] >> truck & 1 == 1
+    })
+}
+
 /// Refusals 1 to 6, in this order.
 pub fn check(bytes: &[u8]) -> Result<Header, u8> {
     if bytes.len() < 2 {

@@ -4,7 +4,8 @@ use std::collections::BTreeSet;
 
 use crate::fleet::{record_refused, Fleet, Heard, State, Truck};
 use crate::recording::{
-    openings_refused, read, round_has_own_bit, round_misshapen, MAX_ROUNDS, MAX_TRUCKS,
+    openings_refused, read, round_has_own_bit, round_misshapen, words_own_bit, OwnBit, MAX_ROUNDS,
+    MAX_TRUCKS,
 };
 
 /// Starts a fleet: refusals 2, 7. A refused start holds the blank record.
@@ -151,6 +152,16 @@ pub fn step(fleet: &Fleet, words: &[u32]) -> (u8, Fleet) {
         return (6, *fleet);
     }
     (0, follow(fleet, words))
+}
+
+/// Where refusal 6 finds an own loss bit of a step's round, which is the round
+/// after those done; nothing where the step is taken or refused otherwise.
+pub fn step_own_bit(fleet: &Fleet, words: &[u32]) -> Option<OwnBit> {
+    if step(fleet, words).0 != 6 {
+        return None;
+    }
+    let least = words_own_bit(fleet.n as usize, words)?;
+    Some(OwnBit { round: fleet.done + 1, ..least })
 }
 
 /// Runs a recording: refusals 1 to 6. A refused run holds the blank record.

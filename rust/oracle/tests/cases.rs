@@ -28,7 +28,10 @@ fn refused(bytes: &[u8], refusal: u8) {
     assert_eq!(run(bytes), (refusal, Fleet::blank()));
     assert_eq!(fast::run(bytes), (refusal, Fleet::blank()));
     assert_eq!(fast::grade(bytes), Err(refusal));
-    assert_eq!(listing(bytes), format!("refused {refusal}\n"));
+    if refusal != 6 {
+        assert_eq!(own_bit(bytes), None);
+        assert_eq!(listing(bytes), format!("refused {refusal}\n"));
+    }
 }
 
 fn with_zeros(first: [u8; 2], zeros: usize) -> Vec<u8> {
@@ -135,6 +138,8 @@ fn c8_c9_c10_damaged() {
     let mut c10 = C2;
     c10[3] = 0x33;
     refused(&c10, 6);
+    assert_eq!(own_bit(&c10), Some(OwnBit { round: 1, truck: 0 }));
+    assert_eq!(listing(&c10), "refused 6 round 1 truck 0\n");
     refused(&[], 1);
     refused(&[0x08], 1);
 }

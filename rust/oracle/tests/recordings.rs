@@ -105,24 +105,67 @@ fn each_single_bit_has_one_meaning() {
         for place in 16..8 * bytes.len() {
             let mut changed = bytes.clone();
             changed[place / 8] ^= 0x80 >> (place % 8);
-            let own = read_as_text_own_bit(&changed);
+            let own = first_own_bit_in_text(&changed);
             let expected = if place >= header.total_bits() {
                 Err(5)
-            } else if own {
+            } else if own.is_some() {
                 Err(6)
             } else {
                 Ok(read_as_text(&changed))
             };
+            assert_eq!(own_bit(&changed), own.filter(|_| expected == Err(6)));
             assert_eq!(read(&changed), expected);
             assert_eq!(fast::read(&changed), expected);
         }
     }
 }
 
-/// Whether some own bit is set, by the plain words.
-fn read_as_text_own_bit(bytes: &[u8]) -> bool {
+/// The own bit that comes first among those that are set, round after round and
+/// truck after truck, by the plain words that the text gives.
+fn first_own_bit_in_text(bytes: &[u8]) -> Option<OwnBit> {
     let plain = read_as_text(bytes);
-    plain.words.chunks(3 + plain.n).any(|r| (0..plain.n).any(|i| r[3 + i] >> i & 1 == 1))
+    for (index, round) in plain.words.chunks(3 + plain.n).enumerate() {
+        for (truck, row) in round[3..].iter().enumerate() {
+            if row >> truck & 1 == 1 {
+                return Some(OwnBit { round: index as u16 + 1, truck: truck as u8 });
+            }
+        }
+    }
+    None
+}
+
+#[test]
+fn the_own_bit_named_is_the_first() {
+    let mut rng = Rng::new(9);
+    // How often another one is in an earlier place by truck, or in a later round, or in the same round.
+    let (mut lower, mut later, mut beside) = (0, 0, 0);
+    for k in 0..2_000 {
+        let limits = if k % 100 == 0 { FULL } else { SMALL };
+        let bytes = gen::damaged(&mut rng, limits, 6).bytes;
+        let first = first_own_bit_in_text(&bytes).unwrap();
+        assert_eq!(own_bit(&bytes), Some(first));
+        let plain = read_as_text(&bytes);
+        let of_round = |index: usize| {
+            let words = &plain.words[index * (3 + plain.n)..(index + 1) * (3 + plain.n)];
+            (0..plain.n).filter(|i| words[3 + i] >> i & 1 == 1).collect::<Vec<_>>()
+        };
+        let (index, truck) = (usize::from(first.round) - 1, usize::from(first.truck));
+        beside += usize::from(of_round(index).len() > 1);
+        let rest: Vec<usize> = (index + 1..plain.rounds).flat_map(of_round).collect();
+        later += usize::from(!rest.is_empty());
+        lower += usize::from(rest.iter().any(|other| *other < truck));
+        let (n, rounds) = (plain.n as u64, plain.rounds as u64);
+        assert_eq!(write_own_bit(n, rounds, &plain.openings, &plain.words), Some(first));
+        // one round alone, as a step after some others
+        let (_, mut fleet) = start(n, &plain.openings);
+        fleet.done = rng.pick(&[0, 1, 398, 399]);
+        let words = &plain.words[index * (3 + plain.n)..(index + 1) * (3 + plain.n)];
+        let named = OwnBit { round: fleet.done + 1, truck: first.truck };
+        assert_eq!(step_own_bit(&fleet, words), Some(named));
+        fleet.done = 400;
+        assert_eq!(step_own_bit(&fleet, words), None);
+    }
+    assert!(lower > 100 && later > 300 && beside > 100, "{lower} {later} {beside}");
 }
 
 #[test]
@@ -138,16 +181,20 @@ fn damaged_recordings_meet_their_refusal() {
         assert_eq!(read(bytes), Err(refusal), "{how}");
         assert_eq!(run(bytes), (refusal, Fleet::blank()), "{how}");
         assert_eq!(grade(bytes), Err(refusal), "{how}");
-        assert_eq!(listing(bytes), format!("refused {refusal}\n"), "{how}");
-        assert_eq!(program(bytes), format!("refused {refusal}\n"), "{how}");
+        let named = match own_bit(bytes) {
+            Some(own) => format!(" round {} truck {}", own.round, own.truck),
+            None => String::new(),
+        };
+        assert_eq!(listing(bytes), format!("refused {refusal}{named}\n"), "{how}");
+        assert_eq!(program(bytes), format!("refused {refusal}{named}\n"), "{how}");
         let mut openings = [9; 40];
         let mut words = [9; 50];
         assert_eq!(read_into(bytes, &mut openings, &mut words), Err(refusal), "{how}");
         assert_eq!((openings, words), ([9; 40], [9; 50]));
         *reached.entry((refusal, how)).or_insert(0) += 1;
     }
-    // Each way of damaging came up: 2, 3, 2, 5, 3 and 5 ways.
-    assert_eq!(reached.len(), 20, "{reached:?}");
+    // Each way of damaging came up: 2, 3, 2, 5, 3 and 6 ways.
+    assert_eq!(reached.len(), 21, "{reached:?}");
 }
 
 #[test]
@@ -227,8 +274,11 @@ fn writing_asks_8_of_all_rounds_before_6_of_any() {
     // Own bit in round 1, high bit in round 2.
     let words = [0, 0, 0, 0b01, 0, 0, 0b100, 0, 0, 0];
     assert_eq!(write(2, 2, &[3, 5], &words), Err(8));
+    assert_eq!(write_own_bit(2, 2, &[3, 5], &words), None);
     let words = [0, 0, 0, 0b01, 0, 0, 0, 0, 0, 0];
     assert_eq!(write(2, 2, &[3, 5], &words), Err(6));
+    let named = write_own_bit(2, 2, &[3, 5], &words);
+    assert_eq!(named, Some(OwnBit { round: 1, truck: 0 }));
     assert_eq!(write(2, 2, &[3, 5], &[0; 9]), Err(8));
     assert_eq!(write(2, 2, &[3, 5], &[0; 11]), Err(8));
     assert_eq!(write(2, 2, &[3, 16], &[0; 11]), Err(7));

@@ -22,7 +22,9 @@ fn main() -> Result<(), Refusal> {
     }
     assert_eq!(fleet, Fleet::run(&recording)?);
 
-    // A recording cut short is refused, and says why.
+    // A recording cut short is refused, and says why; one in which the radio of truck 0 claims to have missed itself says
+    // where, too.
     println!("{}", list(&recording[..7]).unwrap_err());
+    println!("{}", list(&[0x08, 0x02, 0x35, 0x33, 0x80, 0x00]).unwrap_err());
     Ok(())
 }

@@ -55,6 +55,21 @@ extern "C" {
         words: *const u32,
         words_len: usize,
     ) -> u32;
+    pub fn rajvokshul_recording_own_loss(bytes: *const u8, bytes_len: usize) -> u32;
+    pub fn rajvokshul_write_own_loss(
+        trucks: u32,
+        rounds: u32,
+        openings: *const u8,
+        openings_len: usize,
+        words: *const u32,
+        words_len: usize,
+    ) -> u32;
+    pub fn rajvokshul_step_own_loss(
+        record: *const u8,
+        record_len: usize,
+        words: *const u32,
+        words_len: usize,
+    ) -> u32;
     pub fn rajvokshul_opening(
         lengths: *const u16,
         lengths_len: usize,

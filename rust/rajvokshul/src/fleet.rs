@@ -2,6 +2,7 @@
 
 use std::fmt;
 
+use crate::recording::own_loss;
 use crate::{ffi, Refusal};
 
 /// The most trucks of a fleet.
@@ -91,7 +92,7 @@ impl Fleet {
                 bytes.len(),
             )
         };
-        Refusal::check(answer)?;
+        Refusal::check_bare(answer)?;
         Ok(Fleet { bytes })
     }
 
@@ -104,7 +105,8 @@ impl Fleet {
     /// fleet.step(Round::new(1)?.active(0)?)?;
     /// fleet.step([0, 0, 0, 0])?;
     /// assert_eq!(fleet.truck(0).unwrap().state, State::Decided(2));
-    /// assert_eq!(fleet.step([0, 0, 0, 1]), Err(Refusal::OwnLoss));
+    /// // It would have been round 3.
+    /// assert_eq!(fleet.step([0, 0, 0, 1]), Err(Refusal::OwnLoss { round: 3, truck: 0 }));
     /// # Ok::<(), Refusal>(())
     /// ```
     pub fn step(&mut self, round: impl AsRef<[u32]>) -> Result<(), Refusal> {
@@ -118,7 +120,17 @@ impl Fleet {
                 words.len(),
             )
         };
-        Refusal::check(answer)
+        Refusal::check(answer, || {
+            // SAFETY: as above.
+            unsafe {
+                ffi::rajvokshul_step_own_loss(
+                    self.bytes.as_ptr(),
+                    self.bytes.len(),
+                    words.as_ptr(),
+                    words.len(),
+                )
+            }
+        })
     }
 
     /// Runs a recording, all its rounds. Refusals: 1 to 6.
@@ -140,7 +152,7 @@ impl Fleet {
                 bytes.len(),
             )
         };
-        Refusal::check(answer)?;
+        Refusal::check(answer, || own_loss(recording))?;
         Ok(Fleet { bytes })
     }
 

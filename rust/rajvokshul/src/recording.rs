@@ -189,8 +189,14 @@ pub fn list_into(recording: &[u8], text: &mut [u8]) -> Result<usize, Refusal> {
             &mut written,
         )
     };
-    Refusal::check(answer)?;
+    Refusal::check(answer, || own_loss(recording))?;
     Ok(written)
+}
+
+/// Where the own loss bit is for which a recording is refused.
+pub(crate) fn own_loss(recording: &[u8]) -> u32 {
+    // SAFETY: the list is valid for its length.
+    unsafe { ffi::rajvokshul_recording_own_loss(recording.as_ptr(), recording.len()) }
 }
 
 /// Grades the marks of a recording. Refusals: 1 to 6.
@@ -212,7 +218,7 @@ pub fn grade(recording: &[u8]) -> Result<Grades, Refusal> {
             grades.len(),
         )
     };
-    Refusal::check(answer)?;
+    Refusal::check(answer, || own_loss(recording))?;
     let [complete, majority, zero, accurate] = grades;
     Ok(Grades { complete, majority, zero, accurate })
 }
@@ -262,7 +268,7 @@ pub fn read_into(
             &mut rounds,
         )
     };
-    Refusal::check(answer)?;
+    Refusal::check(answer, || own_loss(recording))?;
     Ok((trucks, rounds))
 }
 
@@ -312,6 +318,18 @@ pub fn write_into(
             &mut written,
         )
     };
-    Refusal::check(answer)?;
+    Refusal::check(answer, || {
+        // SAFETY: as above.
+        unsafe {
+            ffi::rajvokshul_write_own_loss(
+                trucks,
+                rounds,
+                openings.as_ptr(),
+                openings.len(),
+                words.as_ptr(),
+                words.len(),
+            )
+        }
+    })?;
     Ok(written)
 }

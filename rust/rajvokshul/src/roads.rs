@@ -33,6 +33,6 @@ pub fn opening(lengths: &[u16], metres: &[u16], seconds: &[u16]) -> Result<u8, R
             &mut crusher,
         )
     };
-    Refusal::check(answer)?;
+    Refusal::check_bare(answer)?;
     Ok(crusher)
 }

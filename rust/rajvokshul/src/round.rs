@@ -13,8 +13,9 @@ const MARK: usize = 2;
 /// One round of a fleet of 1 to 32 trucks, built by naming trucks. They are counted from 0.
 ///
 /// A round keeps its bits in plain form, and what it holds is always taken: neither 8 nor 6 holds of it. A truck that is
-/// not there is refused with 8 and a truck that would miss itself with 6, as a step would refuse such a round. Bits that
-/// the rules do not look at, such as a decided truck's, are kept like all others.
+/// not there is refused with 8 and a truck that would miss itself with 6, as a step would refuse such a round. A round
+/// stands alone here, so that 6 names it as round 1. Bits that the rules do not look at, such as a decided truck's, are
+/// kept like all others.
 ///
 /// ```
 /// use rajvokshul::{Fleet, Refusal, Round};
@@ -29,7 +30,7 @@ const MARK: usize = 2;
 /// assert!(fleet.truck(0).unwrap().mark);
 ///
 /// assert_eq!(Round::new(3)?.active(3), Err(Refusal::PlainRound));
-/// assert_eq!(Round::new(3)?.lost(1, 1), Err(Refusal::OwnLoss));
+/// assert_eq!(Round::new(3)?.lost(1, 1), Err(Refusal::OwnLoss { round: 1, truck: 1 }));
 /// # Ok::<(), Refusal>(())
 /// ```
 #[derive(Clone, PartialEq, Eq, Hash)]
@@ -100,7 +101,8 @@ impl Round {
             return Err(Refusal::PlainRound);
         }
         if truck == sender {
-            return Err(Refusal::OwnLoss);
+            // Below 32, as every truck that is there.
+            return Err(Refusal::OwnLoss { round: 1, truck: truck as u8 });
         }
         self.with(FRONT + truck, sender)
     }

@@ -84,7 +84,99 @@ fn c8_to_c10_damaged_recordings() {
     refused(&[], Refusal::ShortRecording);
     refused(&C1[..7], Refusal::RecordingLength);
     refused(&[0x08, 0x02, 0x35, 0x31, 0x80, 0x01], Refusal::EndBit);
-    refused(&[0x08, 0x02, 0x35, 0x33, 0x80, 0x00], Refusal::OwnLoss);
+    refused(&[0x08, 0x02, 0x35, 0x33, 0x80, 0x00], Refusal::OwnLoss { round: 1, truck: 0 });
+}
+
+/// A recording of n trucks and so many rounds, all bits 0 but for the own loss bits of these rounds, counted from 1, and
+/// trucks. Their places were written down from the scope paper's layout: 16 bits, 4 for each opening, and n * (3 + n) for
+/// each round, in which row i begins after 3 + i times n bits.
+fn with_own_bits(n: usize, rounds: usize, own: &[(usize, usize)]) -> Vec<u8> {
+    let mut bytes = vec![0; (16 + 4 * n + rounds * n * (3 + n)).div_ceil(8)];
+    bytes[0] = (n << 2 | rounds >> 8) as u8;
+    bytes[1] = rounds as u8;
+    for &(round, truck) in own {
+        let place = 16 + 4 * n + (round - 1) * n * (3 + n) + (3 + truck) * n + truck;
+        bytes[place / 8] |= 0x80 >> (place % 8);
+    }
+    bytes
+}
+
+#[test]
+fn an_own_bit_is_named_by_the_earliest_round_and_the_lowest_truck() {
+    assert_eq!(with_own_bits(2, 4, &[]).len(), C1.len());
+    for (n, rounds, own, round, truck) in [
+        (1, 1, vec![(1, 0)], 1, 0),
+        (1, 400, vec![(400, 0)], 400, 0),
+        // the last truck of the last round
+        (32, 400, vec![(400, 31)], 400, 31),
+        (31, 400, vec![(400, 30)], 400, 30),
+        // several rounds and trucks: a lower truck in a later round does not count
+        (5, 7, vec![(3, 4), (3, 2), (5, 0), (7, 1)], 3, 2),
+        (32, 400, vec![(2, 31), (400, 0), (3, 0)], 2, 31),
+        (32, 2, vec![(1, 31), (1, 30), (2, 0)], 1, 30),
+    ] {
+        refused(&with_own_bits(n, rounds, &own), Refusal::OwnLoss { round, truck });
+    }
+    // every truck of every round
+    let all: Vec<_> = (1..=3).flat_map(|round| (0..4).map(move |truck| (round, truck))).collect();
+    for k in 0..all.len() {
+        let (round, truck) = all[k];
+        let recording = with_own_bits(4, 3, &all[k..]);
+        refused(&recording, Refusal::OwnLoss { round: round as u16, truck: truck as u8 });
+    }
+    // 5 comes before: of 2 trucks and 1 round six bits are left over
+    let mut ended = with_own_bits(2, 1, &[(1, 1)]);
+    refused(&ended, Refusal::OwnLoss { round: 1, truck: 1 });
+    *ended.last_mut().unwrap() |= 1;
+    refused(&ended, Refusal::EndBit);
+}
+
+#[test]
+fn a_step_names_the_round_that_it_would_have_been() {
+    let mut fleet = Fleet::start(3, &[3, 5, 7]).unwrap();
+    let own = [0, 0, 0, 0, 0b010, 0b100];
+    assert_eq!(fleet.step(own), Err(Refusal::OwnLoss { round: 1, truck: 1 }));
+    for done in 1..400 {
+        fleet.step([0; 6]).unwrap();
+        let last = [0, 0, 0, 0, 0, 0b100];
+        assert_eq!(fleet.step(last), Err(Refusal::OwnLoss { round: done + 1, truck: 2 }));
+    }
+    // a refused step is not counted, and 14 comes before 8 and 6
+    assert_eq!(fleet.rounds_done(), 399);
+    fleet.step([0; 6]).unwrap();
+    assert_eq!(fleet.step(own), Err(Refusal::RoundsDone));
+    // 7 and 8 come before
+    let mut bytes = *Fleet::start(3, &[3, 5, 7]).unwrap().as_bytes();
+    assert_eq!(Fleet::from_bytes(bytes).step([0, 8, 0, 1, 0, 0]), Err(Refusal::PlainRound));
+    bytes[3] = 16;
+    assert_eq!(Fleet::from_bytes(bytes).step(own), Err(Refusal::Record));
+}
+
+#[test]
+fn writing_names_the_round_and_8_of_any_round_comes_before() {
+    let mut words = vec![0; 4 * 5];
+    words[5 + 4] = 0b10;
+    words[10 + 3] = 0b01;
+    assert_eq!(write(2, 4, &[3, 5], &words), Err(Refusal::OwnLoss { round: 2, truck: 1 }));
+    words[5 + 3] = 0b01;
+    assert_eq!(write(2, 4, &[3, 5], &words), Err(Refusal::OwnLoss { round: 2, truck: 0 }));
+    // a buffer that is too short comes after, and is left as it is
+    let mut buffer = [0xee; 7];
+    let refused = write_into(2, 4, &[3, 5], &words, &mut buffer);
+    assert_eq!((refused, buffer), (Err(Refusal::OwnLoss { round: 2, truck: 0 }), [0xee; 7]));
+    // a word too large in a later round, then openings, comes before
+    words[19] = 0b100;
+    assert_eq!(write(2, 4, &[3, 5], &words), Err(Refusal::PlainRound));
+    assert_eq!(write(2, 4, &[3, 16], &words), Err(Refusal::Record));
+    // the last truck of the last round
+    let mut words = vec![0; 400 * 35];
+    words[400 * 35 - 1] = 1 << 31;
+    let refused = write(32, 400, &[0; 32], &words);
+    assert_eq!(refused, Err(Refusal::OwnLoss { round: 400, truck: 31 }));
+    assert_eq!(
+        refused.unwrap_err().to_string(),
+        "refused 6 round 400 truck 31: a truck's own loss bit is 1, but a truck always hears itself"
+    );
 }
 
 #[test]
@@ -169,7 +261,7 @@ fn refused_steps_leave_the_record() {
     let before = fleet.clone();
     assert_eq!(fleet.step([0; 4]), Err(Refusal::PlainRound));
     assert_eq!(fleet.step([0, 0b100, 0, 0, 0]), Err(Refusal::PlainRound));
-    assert_eq!(fleet.step([0, 0, 0, 0b01, 0]), Err(Refusal::OwnLoss));
+    assert_eq!(fleet.step([0, 0, 0, 0b01, 0]), Err(Refusal::OwnLoss { round: 1, truck: 0 }));
     assert_eq!(fleet, before);
     for _ in 0..400 {
         fleet.step([0; 5]).unwrap();

@@ -20,7 +20,9 @@ fn each_bit_of_a_round_stands_where_it_should() {
             match empty().lost(i, j) {
                 Ok(round) => hold_bit(&round, 3 + i, j),
                 // a truck cannot miss itself
-                Err(refusal) => assert_eq!((refusal, i), (Refusal::OwnLoss, j)),
+                Err(refusal) => {
+                    assert_eq!((refusal, i), (Refusal::OwnLoss { round: 1, truck: i as u8 }, j))
+                }
             }
         }
     }
@@ -83,6 +85,10 @@ fn words_are_judged_as_a_step_judges_them() {
         };
         let round = Round::try_from(&words[..]);
         assert_eq!(number(round.as_ref().map_err(|r| *r)), expected);
+        if expected == 6 {
+            let truck = recording::words_own_bit(n, &words).unwrap().truck;
+            assert_eq!(round, Err(Refusal::OwnLoss { round: 1, truck }));
+        }
         if let Ok(round) = round {
             assert_eq!(round.words(), words);
             assert_eq!(by_names(&round), round);

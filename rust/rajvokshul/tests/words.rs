@@ -16,17 +16,21 @@ fn the_readme_has_the_words_of_every_refusal() {
     let rows = rows();
     assert_eq!(rows.len(), 14);
     for (place, (number, words)) in rows.into_iter().enumerate() {
-        let refusal = Refusal::from_number(number).unwrap();
+        let (refusal, named) = match Refusal::from_number(number) {
+            Some(refusal) => (refusal, ""),
+            None => (Refusal::OwnLoss { round: 12, truck: 3 }, " round 12 truck 3"),
+        };
         assert_eq!(usize::from(number), place + 1);
         assert_eq!(refusal.number(), number);
         assert_eq!(refusal.reason(), words);
-        assert_eq!(refusal.to_string(), format!("refused {number}: {words}"));
+        assert_eq!(refusal.to_string(), format!("refused {number}{named}: {words}"));
     }
 }
 
 #[test]
-fn no_other_number_is_a_refusal() {
-    for number in [0, 15, 255] {
+fn no_other_number_is_a_refusal_by_itself() {
+    // 6 names a round and a truck besides
+    for number in [0, 6, 15, 255] {
         assert_eq!(Refusal::from_number(number), None);
     }
 }

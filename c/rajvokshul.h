@@ -5,9 +5,8 @@
  * archive that `rt staticlib ffi` writes, target/staticlib/libffi.a (name the file: `-lffi` is another library).
  *
  * Every function that is not inline answers 0, or the number of the refusal, which rajvokshul_reason puts in words. On a
- * refusal nothing that was lent is changed. Where the number is 6, a function whose name ends in _own_loss says which
- * round and truck, if it is given what the refused call was given. Buffers may be longer than needed: everything past the
- * part written stays as it was.
+ * refusal nothing that was lent is changed. Where the number is 6, one of the three functions whose names end in _own_loss
+ * tells the round and the truck. Buffers may be longer than needed: everything past the part written stays as it was.
  *
  * A pointer followed by a length is a list; the length counts elements, not bytes. The pointer of a list of length 0 is
  * not used and may be NULL. No other pointer may be: not that of a list with elements, nor of a number that is written,
@@ -126,8 +125,7 @@ static inline size_t rajvokshul_words(uint32_t trucks, uint32_t rounds) {
 
 /* ---- Stack ----------------------------------------------------------------------------------------------------------
  * Every call takes fewer bytes of stack than these, also on inputs of the largest size; there is no other memory behind a
- * call. Measured on x86-64: list 66 KiB, run and grade 64 KiB, a step and where its own loss bit is 1.2 KiB, the others
- * below 1 KiB. */
+ * call. Measured on x86-64: list 66 KiB, run and grade 64 KiB, a step 1.2 KiB, the others below 1 KiB. */
 #define RAJVOKSHUL_RUN_STACK 131072 /* run, grade and list */
 #define RAJVOKSHUL_STACK 4096       /* every other call */
 
@@ -235,9 +233,9 @@ RAJVOKSHUL_NODISCARD
 uint32_t rajvokshul_step(uint8_t *record, size_t record_len, const uint32_t *words, size_t words_len);
 
 /* ---- Where an own loss bit is -----------------------------------------------------------------------------------------
- * Refusal 6 names the earliest round in which a truck's own loss bit is 1 and, in that round, the lowest such truck. Each
- * function takes what the refused call was given, changes nothing, and answers 0 where that call does not refuse 6; else a
- * number of which the two inline functions tell the round, counted from 1, and the truck, counted from 0. */
+ * Refusal 6 names the earliest round in which a truck's own loss bit is 1 and, in that round, the lowest such truck. These
+ * functions take what the refused call was given and answer 0 where there is nothing that 6 names, else a number of which
+ * the two inline functions tell the round, counted from 1, and the truck, counted from 0. They change nothing. */
 static inline uint32_t rajvokshul_own_loss_round(uint32_t own_loss) {
     return own_loss / 256;
 }
@@ -246,7 +244,7 @@ static inline uint32_t rajvokshul_own_loss_truck(uint32_t own_loss) {
     return own_loss % 256;
 }
 
-/* Of a recording that is refused: by list, run, grade and read. */
+/* Of a recording that list, run, grade or read refuses. */
 RAJVOKSHUL_NODISCARD
 uint32_t rajvokshul_recording_own_loss(const uint8_t *bytes, size_t bytes_len);
 
@@ -255,9 +253,10 @@ RAJVOKSHUL_NODISCARD
 uint32_t rajvokshul_write_own_loss(uint32_t trucks, uint32_t rounds, const uint8_t *openings, size_t openings_len,
                                    const uint32_t *words, size_t words_len);
 
-/* Of a step: the round is the one that it would have been, one more than the rounds done. */
+/* Of one round by which a fleet of so many trucks is not stepped. Of a refused step the round is the one that it would have
+ * been, rajvokshul_rounds_done(record) + 1. */
 RAJVOKSHUL_NODISCARD
-uint32_t rajvokshul_step_own_loss(const uint8_t *record, size_t record_len, const uint32_t *words, size_t words_len);
+uint32_t rajvokshul_round_own_loss(uint32_t trucks, uint32_t round, const uint32_t *words, size_t words_len);
 
 /* ---- The opening crusher ------------------------------------------------------------------------------------------ */
 

@@ -132,8 +132,8 @@ static uint32_t write_own_loss(void) {
     return rajvokshul_write_own_loss(N, ROUNDS, openings, N, words, RAJVOKSHUL_MAX_WORDS);
 }
 
-static uint32_t step_own_loss(void) {
-    return rajvokshul_step_own_loss(proposed, sizeof proposed, words + ROUND, ROUND);
+static uint32_t round_own_loss(void) {
+    return rajvokshul_round_own_loss(N, 2, words + ROUND, ROUND);
 }
 
 /* Takes KNOWN bytes and little more: the measure is tried on it. */
@@ -207,7 +207,7 @@ static const struct {
     {"opening", opening, RAJVOKSHUL_STACK},
     {"own loss of a recording", recording_own_loss, RAJVOKSHUL_STACK},
     {"own loss of writing", write_own_loss, RAJVOKSHUL_STACK},
-    {"own loss of a step", step_own_loss, RAJVOKSHUL_STACK},
+    {"own loss of a round", round_own_loss, RAJVOKSHUL_STACK},
 };
 
 int main(void) {

@@ -214,16 +214,26 @@ static void own_loss_of_steps(void) {
     for (uint32_t done = 0; done < 400; done++) {
         memcpy(before, record, sizeof record);
         EXPECT(rajvokshul_step(record, sizeof record, own, 5), RAJVOKSHUL_OWN_LOSS);
-        NAMED(rajvokshul_step_own_loss(record, sizeof record, own, 5), done + 1, 1);
         EXPECT(memcmp(before, record, sizeof record), 0);
-        EXPECT(rajvokshul_step_own_loss(record, sizeof record, quiet, 5), 0);
+        NAMED(rajvokshul_round_own_loss(rajvokshul_trucks(record), rajvokshul_rounds_done(record) + 1u, own, 5), done + 1, 1);
+        EXPECT(rajvokshul_round_own_loss(rajvokshul_trucks(record), rajvokshul_rounds_done(record) + 1u, quiet, 5), 0);
         EXPECT(rajvokshul_step(record, sizeof record, quiet, 5), RAJVOKSHUL_ACCEPTED);
     }
     EXPECT(rajvokshul_step(record, sizeof record, own, 5), RAJVOKSHUL_ROUNDS_DONE);
-    EXPECT(rajvokshul_step_own_loss(record, sizeof record, own, 5), 0);
-    EXPECT(rajvokshul_step_own_loss(before, sizeof before, own, 4), 0);
-    EXPECT(rajvokshul_step_own_loss(NULL, 0, own, 5), 0);
-    EXPECT(rajvokshul_step_own_loss(before, sizeof before, NULL, 0), 0);
+}
+
+/* Rounds of the wrong number of words or with a word too large, and numbers outside the limits. */
+static void own_loss_of_a_round(void) {
+    const uint32_t own[5] = {0, 0, 0, 1, 2}, high[5] = {0, 4, 0, 1, 2};
+    NAMED(rajvokshul_round_own_loss(2, 400, own, 5), 400, 0);
+    EXPECT(rajvokshul_round_own_loss(2, 401, own, 5), 0);
+    EXPECT(rajvokshul_round_own_loss(2, 0, own, 5), 0);
+    EXPECT(rajvokshul_round_own_loss(2, 65537, own, 5), 0);
+    EXPECT(rajvokshul_round_own_loss(2, 1, own, 4), 0);
+    EXPECT(rajvokshul_round_own_loss(2, 1, high, 5), 0);
+    EXPECT(rajvokshul_round_own_loss(258, 1, own, 5), 0);
+    EXPECT(rajvokshul_round_own_loss(0, 1, NULL, 0), 0);
+    EXPECT(rajvokshul_round_own_loss(2, 1, NULL, 0), 0);
 }
 
 static void standing_at_a_crusher(void) {
@@ -247,6 +257,7 @@ int main(void) {
     own_loss_of_recordings();
     own_loss_of_writing();
     own_loss_of_steps();
+    own_loss_of_a_round();
     standing_at_a_crusher();
     return failed;
 }

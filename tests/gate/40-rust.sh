@@ -45,7 +45,7 @@ small_stack() {
     local status=$? calls
     cat "$out/taken"
     calls=$(sed -nE 's/^(.*) [0-9,]+ bytes of stack$/\1/p' "$out/taken" | paste -sd '/')
-    [ "$status" -eq 0 ] && [ "$calls" = "run/grade/list/step, proposals/step, vetoes/read/write/start/opening/own loss of a recording/own loss of writing/own loss of a step" ]
+    [ "$status" -eq 0 ] && [ "$calls" = "run/grade/list/step, proposals/step, vetoes/read/write/start/opening/own loss of a recording/own loss of writing/own loss of a round" ]
 }
 expect "the header says 128 KiB of stack for run, grade and list" grep -qE '^#define RAJVOKSHUL_RUN_STACK 131072 ' c/rajvokshul.h
 expect "the stack of largest calls is below what the header says" small_stack

@@ -3,12 +3,12 @@
 use mathlib.Core.Path.{_≡_, refl, ap, sym, _∙_}
 use mathlib.Core.Bool.{Bool, true, false, cond, _||_}
 use mathlib.Core.List.{List, [], _∷_, _++_}
-use Prim.Native.Nat.{ℕ, _+_, _*_, min}
+use Prim.Native.Nat.{ℕ, _+_, _*_, _≤_, min}
 use native.Mathlib.Omega.{arith}
-use borrow.Author.Tests.{le-ltb}
-use lib.Dec.{ltb}
+use borrow.Author.Tests.{ltb-false, le-ltb, ne-eqb}
+use lib.Dec.{ltb, eqb}
 use lib.ListN.{length, getD, drop}
-use Rattle.refusals.specs.declared.Refusal.{Refusal}
+use Rattle.basics.proofs.Laws.{or-left, or-right, or-none}
 use Rattle.refusals.specs.declared.Refusal.the-variants.{OwnLoss, ShortBuffer}
 use Rattle.refusals.specs.declared.Outcome.{Outcome}
 use Rattle.refusals.specs.declared.Outcome.the-variants.{Accepted, Refused}
@@ -17,22 +17,23 @@ use Rattle.refusals.specs.Outcomes.{refuse, andThen}
 use Rattle.refusals.specs.Places.{outcomePlace, placeNumber}
 use Rattle.refusals.proofs.Places.{outcome-6}
 use Rattle.recording.specs.Packed.{trucksOf, roundsOf, openingsOf, roundAt, wordAt, bytesFor}
-use Rattle.recording.specs.Checks.{checkOf, plainCheck, FirstOwn, FirstOwnAt}
+use Rattle.recording.specs.Checks.{badTrucks, badRounds, checkOf, roundCheck, plainCheck, FirstOwn, FirstOwnAt}
+use Rattle.recording.proofs.Accepted.{trucks-in}
 use Rattle.recording.proofs.Named.{check-names, plain-names}
 use Rattle.plain.specs.Forms.{readAnswer, readPlain, readCheck, shortBuffers, writeAnswer, writePlain, writeCheck}
 use Rattle.plain.proofs.RoundTrip.{read-answer, write-answer}
 use Rattle.protocol.specs.declared.Fleet.{Fleet}
 use Rattle.protocol.specs.declared.Answer.{Answer}
 use Rattle.protocol.specs.Runs.{radiosIn, gradesFor}
-use Rattle.protocol.specs.Fleets.{twoRound, answer, blank, stepped, fleetAt, ran, ranIn, gradeAnswer, graded}
+use Rattle.protocol.specs.Fleets.{twoRound, answer, blank, stepCheck, stepped, fleetAt, ran, ranIn, gradeAnswer, graded}
 use Rattle.protocol.proofs.Ran.{grade-answer}
-use Rattle.protocol.proofs.Steps.{step-names}
+use Rattle.protocol.proofs.Steps.{step-checked, step-names}
 use Rattle.listing.specs.Text.{listingOf}
 use Rattle.listing.specs.Listed.{listAnswer, listed, listCheck}
 use Rattle.listing.proofs.Prints.{list-answer}
 use Rattle.recordbytes.specs.Layout.{sizeFor, damaged, recordOf, noRecord, unpacked}
-use Rattle.ffi.specs.Calls.{readCall, writeCall, listCall, gradeLeft, gradeLeftAs, gradeCall, recordAs, storeCall, runCall, stepCall, recordingOwnLoss, writeOwnLoss, stepOwnLoss}
-use Rattle.ffi.proofs.Narrow.{narrow-check}
+use Rattle.ffi.specs.Calls.{readCall, writeCall, listCall, gradeLeft, gradeLeftAs, gradeCall, recordAs, storeCall, runCall, stepCall, recordingOwnLoss, writeOwnLoss, roundOwnLoss}
+use Rattle.ffi.proofs.Narrow.{many-trucks, narrowed, narrow-check}
 use Rattle.ffi.proofs.Records.{record-number}
 
 -- ---- a law for each return
@@ -48,20 +49,34 @@ pub write-own : (n R m S : ℕ) (openings words : List ℕ) (o : Outcome) (k : �
 unfolding writeOwnLoss
 write-own n R m S openings words o k few short h e = e ∙ ap ownLoss (h ∙ narrow-check openings words n R m S few short)
 
-module _ (d w : List ℕ) (u : Answer) (read : u ≡ unpacked d) where
-  step-as : ownLoss (andThen (u .outcome) (stepped (u .fleet) w .outcome)) ≡ stepOwnLoss d w
-  unfolding stepOwnLoss
-  step-as = ap (λ (a : Answer). ownLoss (andThen (a .outcome) (stepped (a .fleet) w .outcome))) read
+-- a round that passes the test is one of 400
+pub round-few : (a : Bool) (k : ℕ) → (a || ltb 400 k) ≡ false → k ≤ 400
+round-few a k h = ltb-false 400 k (or-right a (ltb 400 k) h)
 
-  pub step-own-7 : (r : Refusal) (k : ℕ) → u .outcome ≡ Refused r → k ≡ placeNumber (outcomePlace (Refused r)) → k ≡ stepOwnLoss d w
-  step-own-7 r k h e = e ∙ ap (λ (o : Outcome). ownLoss (andThen o (stepped (u .fleet) w .outcome))) (sym h) ∙ step-as
+-- a number of trucks that is handed on is one that 2 refuses too, or the same one
+module _ (n m k : ℕ) (words : List ℕ) (few : m ≡ min n 255) where
+  same-trucks : badTrucks m ≡ badTrucks n
+  same-trucks =
+      narrowed badTrucks badTrucks true n m 255 few (many-trucks 255 (omega arith)) (λ l. many-trucks n (omega arith)) (λ j h. h)
 
-  pub step-own : (a : Answer) (k : ℕ) → u .outcome ≡ Accepted → a ≡ stepped (u .fleet) w → k ≡ placeNumber (outcomePlace (a .outcome)) → k ≡ stepOwnLoss d w
-  step-own a k whole h e =
-      e
-      ∙ ap (λ (b : Answer). ownLoss (b .outcome)) h
-      ∙ ap (λ (o : Outcome). ownLoss (andThen o (stepped (u .fleet) w .outcome))) (sym whole)
-      ∙ step-as
+  -- what is answered, by the test that the code makes
+  round-by : (b t : Bool) → b ≡ badTrucks m → (b || eqb k 0 || ltb 400 k) ≡ t → roundOwnLoss n k words ≡ cond t 0 (ownLoss (roundCheck n k words))
+  unfolding roundOwnLoss badRounds
+  round-by b t e h =
+      ap (λ (x : Bool). cond (x || eqb k 0 || ltb 400 k) 0 (ownLoss (roundCheck n k words))) (sym same-trucks ∙ sym e)
+      ∙ ap (λ (x : Bool). cond x 0 (ownLoss (roundCheck n k words))) h
+
+  pub round-none : (b : Bool) → b ≡ badTrucks m → (b || eqb k 0 || ltb 400 k) ≡ true → 0 ≡ roundOwnLoss n k words
+  round-none b e h = sym (round-by b true e h)
+
+  module _ (b : Bool) (e : b ≡ badTrucks m) (h : (b || eqb k 0 || ltb 400 k) ≡ false) where
+    same-number : m ≡ n
+    same-number =
+        let i = trucks-in m (sym e ∙ or-left b (eqb k 0) (or-left (b || eqb k 0) (ltb 400 k) h)) in
+        omega (arith, i .1)
+
+    pub round-own : (o : Outcome) (j : ℕ) → o ≡ roundCheck m k words → j ≡ placeNumber (outcomePlace o) → j ≡ roundOwnLoss n k words
+    round-own o j c g = g ∙ ap ownLoss (c ∙ ap (λ (i : ℕ). roundCheck i k words) same-number) ∙ sym (round-by b false e h)
 
 -- ---- what they answer where a call answers 6
 number-of : (o : Outcome) (values : List ℕ) → numbered o values .0 ≡ outcomeNumber o
@@ -144,17 +159,23 @@ whole-6 {A} d = go (damaged d)
 
 -- a step: the round is the one after those done
 pub step-6 : (d w : List ℕ) → stepCall d w .number ≡ 6
-    → (truck : ℕ) × (stepOwnLoss d w ≡ (unpacked d .fleet .done + 1) * 256 + truck) × FirstOwn (λ k. getD w k 0) (unpacked d .fleet .n) 1 0 truck
-unfolding stepCall stepOwnLoss
+    → (truck : ℕ) × (roundOwnLoss (unpacked d .fleet .n) (unpacked d .fleet .done + 1) w ≡ (unpacked d .fleet .done + 1) * 256 + truck)
+    × FirstOwn (λ k. getD w k 0) (unpacked d .fleet .n) 1 0 truck
+unfolding stepCall roundOwnLoss badRounds
 step-6 d w h = go (unpacked d .outcome) refl (sym (record-number (andThen (unpacked d .outcome) (stepped f w .outcome)) (stepped f w .fleet .n) (stepped f w .fleet) d) ∙ h)
   where
     f : Fleet
     f = unpacked d .fleet
 
+    k : ℕ
+    k = f .done + 1
+
     go : (o : Outcome) → unpacked d .outcome ≡ o → outcomeNumber (andThen o (stepped f w .outcome)) ≡ 6
-        → (truck : ℕ) × (ownLoss (andThen o (stepped f w .outcome)) ≡ (f .done + 1) * 256 + truck) × FirstOwn (λ k. getD w k 0) (f .n) 1 0 truck
+        → (truck : ℕ) × (cond (badTrucks (f .n) || eqb k 0 || ltb 400 k) 0 (ownLoss (roundCheck (f .n) k w)) ≡ k * 256 + truck) × FirstOwn (λ j. getD w j 0) (f .n) 1 0 truck
     go Accepted e g =
-        let (round, truck, r) = outcome-6 (stepped f w .outcome) g in
+        let (round, truck, r) = outcome-6 (stepCheck f w) (sym (ap outcomeNumber (step-checked twoRound f w)) ∙ g) in
         let n = step-names twoRound f w round truck r in
-        (truck, ap ownLoss r ∙ ap (λ (k : ℕ). k * 256 + truck) (n .0), n .1)
+        let within : (badTrucks (f .n) || eqb k 0 || ltb 400 k) ≡ false =
+        or-none (badTrucks (f .n) || eqb k 0) (ltb 400 k) (or-none (badTrucks (f .n)) (eqb k 0) (n .trucks) (ne-eqb k 0 (λ z. omega arith))) (le-ltb 400 k (omega (arith, n .room))) in
+        (truck, ap (λ (t : Bool). cond t 0 (ownLoss (roundCheck (f .n) k w))) within ∙ ap ownLoss (n .own) ∙ ap (λ (j : ℕ). j * 256 + truck) (n .round-next), n .first)
     go (Refused r) e g = whole-6 d (ap outcomeNumber e ∙ g)

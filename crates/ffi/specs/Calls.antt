@@ -2,9 +2,9 @@
 -- The number answered is document 01's number of the refusal, and 0 where nothing is refused; the values of an answer are put where the caller said, and
 -- without a value what is there stays: a refusal changes nothing that was lent.
 use Prim.Native.Nat.{ℕ}
-use mathlib.Core.Bool.{cond}
+use mathlib.Core.Bool.{cond, _||_}
 use mathlib.Core.List.{List, [], _∷_, _++_}
-use lib.Dec.{ltb}
+use lib.Dec.{ltb, eqb}
 use lib.ListN.{length, getD, drop}
 use Rattle.basics.specs.Lists.{filled}
 use Rattle.refusals.specs.Numbers.{numberOf}
@@ -13,7 +13,7 @@ use Rattle.refusals.specs.declared.Refusal.the-variants.{ShortBuffer}
 use Rattle.refusals.specs.declared.Outcome.{Outcome}
 use Rattle.refusals.specs.declared.Outcome.the-variants.{Accepted, Refused}
 use Rattle.refusals.specs.Outcomes.{refuse, andThen}
-use Rattle.recording.specs.Checks.{checkOf, plainCheck}
+use Rattle.recording.specs.Checks.{badTrucks, badRounds, checkOf, roundCheck, plainCheck}
 use Rattle.roads.specs.Opening.{openingOf, openingAnswer}
 use Rattle.plain.specs.Forms.{readAnswer, readPlain, writeAnswer, writePlain}
 use Rattle.protocol.specs.declared.Fleet.{Fleet}
@@ -148,18 +148,16 @@ unfoldable pub bytesAfter : List ℕ → List (List ℕ) → List ℕ
 bytesAfter d [] = d
 bytesAfter d (w ∷ ws) = bytesAfter (stepCall d w .bytes) ws
 
--- ---- where an own loss bit is: the round and the truck that refusal 6 names, as one number, and 0 where the call does not refuse 6
+-- ---- where an own loss bit is: the round and the truck that refusal 6 names, as one number; 0 where none is named
 
--- reading, running, listing and grading a recording
+-- of a recording, which is read, run, listed or graded
 unfoldable pub recordingOwnLoss : List ℕ → ℕ
 recordingOwnLoss bytes = placeNumber (outcomePlace (checkOf bytes))
 
--- writing
+-- of plain form, which is written
 unfoldable pub writeOwnLoss : ℕ → ℕ → List ℕ → List ℕ → ℕ
 writeOwnLoss n R openings words = placeNumber (outcomePlace (plainCheck n R openings words))
 
--- a step
-unfoldable pub stepOwnLoss : List ℕ → List ℕ → ℕ
-stepOwnLoss d words =
-    let u = unpacked d in
-    placeNumber (outcomePlace (andThen (u .outcome) (stepped (u .fleet) words .outcome)))
+-- of round k of n trucks, by which a fleet is stepped; 0 where n or k is outside the limits
+unfoldable pub roundOwnLoss : ℕ → ℕ → List ℕ → ℕ
+roundOwnLoss n k words = cond (badTrucks n || eqb k 0 || badRounds k) 0 (placeNumber (outcomePlace (roundCheck n k words)))

@@ -9,7 +9,7 @@ ghost use Rattle.refusals.specs.declared.Outcome.the-variants.{Accepted};
 ghost use Rattle.recording.specs.Checks.{badTrucks};
 ghost use Rattle.ffi.specs.Calls.{openingLeft, openingCall, readLeft, readCall, writeLeft, writeCall};
 ghost use Rattle.ffi.specs.Calls.{recordLeft, storeCall, runCall, startCall, stepCall, listLeft, listCall, gradeLeft, gradeCall};
-ghost use Rattle.ffi.specs.Calls.{recordingOwnLoss, writeOwnLoss, stepOwnLoss};
+ghost use Rattle.ffi.specs.Calls.{recordingOwnLoss, writeOwnLoss, roundOwnLoss};
 use listing::Listed;
 use plain::ReadOutcome;
 use plain::WriteOutcome;
@@ -236,20 +236,14 @@ pub extern "C" fn rajvokshul_write_own_loss(
     own_loss(plain::check_plain(n, k, openings, words))
 }
 
-// Where the own loss bit is for which a step is refused.
+// Where an own loss bit of one round is, for which a step by that round is refused.
 #[no_mangle]
-pub extern "C" fn rajvokshul_step_own_loss(fleet: &[u8], words: &[u32]) -> u32
-    ensures { λ r. ⌜ r ≡ stepOwnLoss (now (fleet .entry)) (now (words .entry)) ⌝ }
+pub extern "C" fn rajvokshul_round_own_loss(trucks: u32, round: u32, words: &[u32]) -> u32
+    ensures { λ r. ⌜ r ≡ roundOwnLoss trucks round (now (words .entry)) ⌝ }
 {
-    let u = recordbytes::unpack(fleet);
-    let whole = u.outcome;
-    match whole {
-        Outcome::Refused(r) => own_loss(Outcome::Refused(r)),
-        Outcome::Accepted => {
-            let f = u.fleet;
-            let a = fleet::step(f, words);
-            let taken = a.outcome;
-            own_loss(taken)
-        }
+    let n = narrow_trucks(trucks);
+    if recording::bad_trucks(n) | (round == 0) | (400 < round) {
+        return 0;
     }
+    own_loss(plain::check_round(n, round as u16, words))
 }

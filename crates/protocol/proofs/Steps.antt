@@ -5,7 +5,7 @@ use mathlib.Core.List.{List, [], _∷_, _++_, append-assoc, append-nil}
 use Prim.Native.Nat.{ℕ, zero, suc, _+_, _≤_, _<_}
 use native.Mathlib.Numerals.{add-one}
 use native.Mathlib.Omega.{arith}
-use borrow.Author.Tests.{lt-ltb, le-ltb, le-leb, ltb-true, eqb-true, eqb-false}
+use borrow.Author.Tests.{lt-ltb, le-ltb, le-leb, ltb-true, eqb-true, eqb-false, not-false}
 use lib.Dec.{ltb, eqb}
 use lib.ListN.{length, getD, length-append, List·getD-append}
 use lib.Seq.{getD-append-seam}
@@ -33,7 +33,7 @@ use Rattle.protocol.specs.Runs.{trucksIn, openedTrucks}
 use Rattle.protocol.specs.Fleets.{Protocol, answer, blank, startCheck, started, goodTruckIn, goodFleetIn, stepCheckIn, nextFleetIn, steppedIn, fleetIn, ranIn}
 use Rattle.protocol.specs.Steps.{lastRecordIn, isTaken, takenFrom, taken, roundIn, recordingOf}
 use Rattle.protocol.proofs.AnyRun.{rounds-ext, at-suc}
-use Rattle.protocol.proofs.Good.{Sound, good-whole, good-at}
+use Rattle.protocol.proofs.Good.{Sound, record-parts, good-whole, good-at}
 
 -- what was taken: rounds that 8 and 6 accept, and no more than 400
 pub taken-good : (n c : ℕ) (ws : List (List ℕ)) (k : ℕ) → k < length (takenFrom n c ws) → GoodRound n (getD (takenFrom n c ws) k [])
@@ -71,20 +71,35 @@ pub accepted-by : (o : Outcome) (f g : Fleet) → answer o f g .outcome ≡ Acce
 accepted-by Accepted f g h = (refl, refl)
 accepted-by (Refused r) f g h = absurd (false≢true (ap accepted h))
 
--- a step is refused 6 for the round after those done, and for the lowest truck of it whose own loss bit is 1
-pub step-names : (p : Protocol) (f : Fleet) (w : List ℕ) (round truck : ℕ) → steppedIn p f w .outcome ≡ Refused (OwnLoss round truck)
-    → (round ≡ f .done + 1) × FirstOwn (λ k. getD w k 0) (f .n) 1 0 truck
-unfolding steppedIn stepCheckIn
+-- a step's outcome is that of its check
+pub step-checked : (p : Protocol) (f : Fleet) (w : List ℕ) → steppedIn p f w .outcome ≡ stepCheckIn p f w
+unfolding steppedIn
+step-checked p f w = go (stepCheckIn p f w)
+  where
+    go : (o : Outcome) → answer o (nextFleetIn p f w) f .outcome ≡ o
+    go Accepted = refl
+    go (Refused r) = refl
+
+-- it is refused 6 for the round after those done, which is at most 400, and for the lowest truck of it whose own loss bit is 1
+pub record StepNamed (f : Fleet) (w : List ℕ) (round truck : ℕ) : Type 0 where
+  pub trucks : badTrucks (f .n) ≡ false
+  pub room : f .done < 400
+  pub round-next : round ≡ f .done + 1
+  pub own : roundCheck (f .n) (f .done + 1) w ≡ Refused (OwnLoss round truck)
+  pub first : FirstOwn (λ k. getD w k 0) (f .n) 1 0 truck
+
+pub step-names : (p : Protocol) (f : Fleet) (w : List ℕ) (round truck : ℕ) → stepCheckIn p f w ≡ Refused (OwnLoss round truck) → StepNamed f w round truck
+unfolding stepCheckIn
 step-names p f w round truck h =
     let q : Refusal = OwnLoss round truck in
     let own : Outcome = roundCheck (f .n) (f .done + 1) w in
     let later : Outcome = refuse (eqb (f .done) 400) RoundsDone own in
-    let h₁₄ = refuse-past (not (goodFleetIn p f)) Record q later (λ e. omega arith) (same (stepCheckIn p f w) h) .1 in
-    round-names (f .n) (f .done + 1) w round truck (refuse-past (eqb (f .done) 400) RoundsDone q own (λ e. omega arith) h₁₄ .1)
-  where
-    same : (o : Outcome) → answer o (nextFleetIn p f w) f .outcome ≡ Refused (OwnLoss round truck) → o ≡ Refused (OwnLoss round truck)
-    same Accepted e = e
-    same (Refused r) e = e
+    let h₇ = refuse-past (not (goodFleetIn p f)) Record q later (λ e. omega arith) h in
+    let h₁₄ = refuse-past (eqb (f .done) 400) RoundsDone q own (λ e. omega arith) (h₇ .1) in
+    let good = record-parts p f (not-false (goodFleetIn p f) (h₇ .0)) in
+    let full : f .done ≡ 400 → ⊥ = eqb-false (f .done) 400 (h₁₄ .0) in
+    let named = round-names (f .n) (f .done + 1) w round truck (h₁₄ .1) in
+    record { trucks = good .trucks; room = omega (arith, good .done); round-next = named .0; own = h₁₄ .1; first = named .1 }
 
 -- a start, by what it was given
 pub record Start (n : ℕ) (openings : List ℕ) : Type 0 where
@@ -125,15 +140,8 @@ module _ (p : Protocol) (sound : Sound p) (n : ℕ) (openings : List ℕ) (start
   -- of such a record a step can only be refused 14, 8 and 6
   pub step-outcome : (rounds : ℕ → List ℕ) (k : ℕ) (w : List ℕ) → k ≤ 400
       → steppedIn p (fleetIn p n openings rounds k) w .outcome ≡ refuse (eqb k 400) RoundsDone (roundCheck n (k + 1) w)
-  unfolding steppedIn stepCheckIn fleetIn
-  step-outcome rounds k w l = rw (good-fleet rounds k l) (go (refuse (eqb k 400) RoundsDone (roundCheck n (k + 1) w)))
-    where
-      f : Fleet
-      f = fleetIn p n openings rounds k
-
-      go : (o : Outcome) → answer o (nextFleetIn p f w) f .outcome ≡ o
-      go Accepted = refl
-      go (Refused r) = refl
+  unfolding stepCheckIn fleetIn
+  step-outcome rounds k w l = step-checked p (fleetIn p n openings rounds k) w ∙ rw (good-fleet rounds k l)
 
   -- what a step makes of such a record: the next one where its round is taken, else the same
   step-taken : (rounds : ℕ → List ℕ) (k : ℕ) (w : List ℕ) → k ≤ 400

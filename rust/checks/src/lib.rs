@@ -77,9 +77,9 @@ mod raw {
             words: *const u32,
             words_len: usize,
         ) -> u32;
-        pub fn rajvokshul_step_own_loss(
-            record: *const u8,
-            record_len: usize,
+        pub fn rajvokshul_round_own_loss(
+            trucks: u32,
+            round: u32,
             words: *const u32,
             words_len: usize,
         ) -> u32;
@@ -191,10 +191,8 @@ pub fn write_own_loss(trucks: u32, rounds: u32, openings: &[u8], words: &[u32]) 
     }
 }
 
-pub fn step_own_loss(record: &[u8], words: &[u32]) -> u32 {
-    unsafe {
-        raw::rajvokshul_step_own_loss(record.as_ptr(), record.len(), words.as_ptr(), words.len())
-    }
+pub fn round_own_loss(trucks: u32, round: u32, words: &[u32]) -> u32 {
+    unsafe { raw::rajvokshul_round_own_loss(trucks, round, words.as_ptr(), words.len()) }
 }
 
 /// What these three answer of a place: 256 times the round, and the truck; 0 of none.

@@ -188,6 +188,26 @@ fn own_bits_of_largest_sizes() {
     }
 }
 
+/// One round, with numbers of trucks and rounds within the limits and outside them.
+#[test]
+fn own_bits_of_one_round() {
+    let mut rng = Rng::new(18);
+    let mut named = 0;
+    for k in 0..times(30_000) {
+        let n = rng.within(1, 32);
+        let words =
+            if k % 3 == 0 { a_round(&mut rng, n, 1) } else { gen::bad_round(&mut rng, n).0 };
+        let (any, other) = (rng.within(1, 400) as u32, rng.next_u64() as u32);
+        let round = rng.pick(&[1, any, any, 399, 400, 0, 401, 65_536 + any, other]);
+        let n = n as u32;
+        let trucks = if k % 5 == 0 { rng.pick(&[0, 33, 256 + n, other]) } else { n };
+        let expected = oracle::round_own_bit(trucks, round, &words);
+        assert_eq!(checks::round_own_loss(trucks, round, &words), own_loss_number(expected));
+        named += usize::from(expected.is_some());
+    }
+    assert!(named > 1000);
+}
+
 #[test]
 fn any_short_bytes() {
     let mut rng = Rng::new(4);
@@ -246,12 +266,14 @@ fn a_round(rng: &mut Rng, n: usize, number: usize) -> Vec<u32> {
 /// One step on both sides, from the same record.
 fn step_both(f: &oracle::Fleet, words: &[u32]) -> oracle::Fleet {
     let mut d = record_bytes(f);
-    let own_loss = checks::step_own_loss(&d, words);
     let number = checks::step(&mut d, words);
     let (expected, next) = oracle::step(f, words);
     let own_bit = oracle::step_own_bit(f, words);
     assert_eq!(own_bit.is_some(), expected == 6);
-    assert_eq!(own_loss, own_loss_number(own_bit));
+    if own_bit.is_some() {
+        let own_loss = checks::round_own_loss(u32::from(f.n), u32::from(f.done) + 1, words);
+        assert_eq!(own_loss, own_loss_number(own_bit));
+    }
     assert_eq!(number, u32::from(expected));
     assert_eq!(d, record_bytes(&next));
     next

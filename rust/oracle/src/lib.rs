@@ -28,7 +28,8 @@ pub use listing::{listing, listing_into, program};
 pub use lists::List;
 pub use marks::{calm, grade, Classes};
 pub use recording::{
-    check, own_bit, read, read_into, write, write_into, write_own_bit, Header, OwnBit, Plain,
+    check, own_bit, read, read_into, round_own_bit, write, write_into, write_own_bit, Header,
+    OwnBit, Plain,
 };
 pub use roads::opening;
 pub use steps::{run, start, step, step_own_bit, Air};

@@ -131,6 +131,17 @@ pub fn write_own_bit(n: u64, rounds: u64, openings: &[u8], words: &[u32]) -> Opt
     words_own_bit(n as usize, words)
 }
 
+/// Where the own loss bits of one round are that a step refuses; nothing of a
+/// round that is misshapen, or of numbers outside the limits.
+pub fn round_own_bit(n: u32, round: u32, words: &[u32]) -> Option<OwnBit> {
+    let within = (1..=MAX_TRUCKS as u32).contains(&n) && (1..=MAX_ROUNDS as u32).contains(&round);
+    if !within || round_misshapen(n as usize, words) {
+        return None;
+    }
+    let least = words_own_bit(n as usize, words)?;
+    Some(OwnBit { round: round as u16, ..least })
+}
+
 /// The least own loss bit that is 1 in plain rounds of 3 + n words each.
 pub fn words_own_bit(n: usize, words: &[u32]) -> Option<OwnBit> {
     let width = 3 + n;

@@ -64,9 +64,9 @@ extern "C" {
         words: *const u32,
         words_len: usize,
     ) -> u32;
-    pub fn rajvokshul_step_own_loss(
-        record: *const u8,
-        record_len: usize,
+    pub fn rajvokshul_round_own_loss(
+        trucks: u32,
+        round: u32,
         words: *const u32,
         words_len: usize,
     ) -> u32;

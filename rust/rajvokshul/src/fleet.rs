@@ -121,11 +121,12 @@ impl Fleet {
             )
         };
         Refusal::check(answer, || {
+            let round = u32::from(self.rounds_done()) + 1;
             // SAFETY: as above.
             unsafe {
-                ffi::rajvokshul_step_own_loss(
-                    self.bytes.as_ptr(),
-                    self.bytes.len(),
+                ffi::rajvokshul_round_own_loss(
+                    u32::from(self.trucks()),
+                    round,
                     words.as_ptr(),
                     words.len(),
                 )

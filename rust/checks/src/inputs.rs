@@ -231,3 +231,13 @@ fn two_steps(n: usize) -> [Step; 2] {
 pub fn steps() -> Vec<Step> {
     [32, 8, 1].into_iter().flat_map(two_steps).collect()
 }
+
+/// The largest recording that is refused 6 as late as can be: for the last truck of its last round.
+pub fn own_bit_at_the_end() -> Input {
+    let mut input = largest().swap_remove(0);
+    let header = Header { n: 32, rounds: 400 };
+    oracle::recording::set_bit(&mut input.bytes, header.loss_place(399, 31, 31));
+    let named = oracle::OwnBit { round: 400, truck: 31 };
+    assert_eq!(oracle::own_bit(&input.bytes), Some(named));
+    Input { what: "32 trucks, 400 rounds, in the last round".to_string(), bytes: input.bytes }
+}

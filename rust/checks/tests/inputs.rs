@@ -1,6 +1,6 @@
 //! The inputs that are measured: each is what its name says, and the library, the independent reading and the fast one come to the same on it.
 
-use checks::{inputs, record_bytes, RECORD};
+use checks::{inputs, own_loss_number, record_bytes, RECORD};
 use oracle::fast;
 use std::collections::BTreeSet;
 
@@ -51,4 +51,12 @@ fn measured_steps() {
         let mut plain = record_bytes(&input.fleet);
         assert_eq!((checks::plain_step(&mut plain, &input.words), plain), (number, record));
     }
+}
+
+#[test]
+fn measured_own_bit() {
+    let bytes = inputs::own_bit_at_the_end().bytes;
+    let named = oracle::own_bit(&bytes);
+    assert_eq!(fast::own_bit(&bytes), named);
+    assert_eq!(checks::recording_own_loss(&bytes), own_loss_number(named));
 }

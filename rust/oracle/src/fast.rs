@@ -5,7 +5,7 @@
 //! truck j at the bit worth 2 to the j; one is the other reversed.
 
 use crate::fleet::{record_refused, Fleet, Heard, State, Truck};
-use crate::recording::{Header, Plain};
+use crate::recording::{Header, OwnBit, Plain};
 
 const FIRST: u32 = 1 << 31;
 
@@ -144,6 +144,50 @@ pub fn check(bytes: &[u8]) -> Result<Header, u8> {
         }
     }
     Ok(header)
+}
+
+/// Where refusal 6 finds an own loss bit of a recording.
+pub fn own_bit(bytes: &[u8]) -> Option<OwnBit> {
+    let header = check_frame(bytes).ok()?;
+    let n = header.n;
+    for index in 0..header.rounds {
+        let mut at = header.loss_place(index, 0, 0);
+        for truck in 0..n {
+            if bytes[at / 8] & (0x80 >> (at % 8)) != 0 {
+                return Some(OwnBit { round: index as u16 + 1, truck: truck as u8 });
+            }
+            at += n + 1;
+        }
+    }
+    None
+}
+
+/// The lowest truck whose own loss bit is 1 in the words of one round.
+fn own_truck(round: &[u32]) -> Option<u8> {
+    let own = round[3..].iter().enumerate().fold(0, |own, (i, row)| own | row & 1 << i);
+    (own != 0).then_some(own.trailing_zeros() as u8)
+}
+
+/// Where refusal 6 finds an own loss bit of plain rounds that are written.
+pub fn write_own_bit(n: u64, rounds: u64, openings: &[u8], words: &[u32]) -> Option<OwnBit> {
+    let header = check_shape(n, rounds, openings, words).ok()?;
+    let rounds = words.chunks_exact(3 + header.n);
+    rounds.zip(1..).find_map(|(round, number)| {
+        let truck = own_truck(round)?;
+        Some(OwnBit { round: number, truck })
+    })
+}
+
+/// Where refusal 6 finds an own loss bit of one round.
+pub fn round_own_bit(n: u32, round: u32, words: &[u32]) -> Option<OwnBit> {
+    if n == 0 || n > 32 || round == 0 || round > 400 {
+        return None;
+    }
+    let n = n as usize;
+    if words.len() != 3 + n || any_bit(words) & high_bits(n) != 0 {
+        return None;
+    }
+    Some(OwnBit { round: round as u16, truck: own_truck(words)? })
 }
 
 /// What grading wants to know of each running truck in each round.
@@ -428,8 +472,8 @@ pub fn read(bytes: &[u8]) -> Result<Plain, u8> {
     Ok(Plain { n: header.n, rounds: header.rounds, openings, words })
 }
 
-/// Refusals 2, 3, 7, 8, 6.
-fn check_writing(n: u64, rounds: u64, openings: &[u8], words: &[u32]) -> Result<Header, u8> {
+/// Refusals 2, 3, 7, 8.
+fn check_shape(n: u64, rounds: u64, openings: &[u8], words: &[u32]) -> Result<Header, u8> {
     if n == 0 || n > 32 {
         return Err(2);
     }
@@ -444,7 +488,13 @@ fn check_writing(n: u64, rounds: u64, openings: &[u8], words: &[u32]) -> Result<
     if words.len() != header.total_words() || any_bit(words) & high_bits(n) != 0 {
         return Err(8);
     }
-    for round in words.chunks_exact(3 + n) {
+    Ok(header)
+}
+
+/// Refusals 2, 3, 7, 8, 6.
+fn check_writing(n: u64, rounds: u64, openings: &[u8], words: &[u32]) -> Result<Header, u8> {
+    let header = check_shape(n, rounds, openings, words)?;
+    for round in words.chunks_exact(3 + header.n) {
         let own = round[3..].iter().enumerate().fold(0, |own, (i, row)| own | row & 1 << i);
         if own != 0 {
             return Err(6);

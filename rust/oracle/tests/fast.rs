@@ -7,6 +7,7 @@ fn same(bytes: &[u8]) -> u8 {
     let simple = run(bytes);
     assert_eq!(fast::run(bytes), simple, "{bytes:02x?}");
     assert_eq!(fast::check(bytes), check(bytes));
+    assert_eq!(fast::own_bit(bytes), own_bit(bytes));
     assert_eq!(fast::grade(bytes), grade(bytes), "{bytes:02x?}");
     assert_eq!(fast::read(bytes), read(bytes));
     simple.0
@@ -72,4 +73,25 @@ fn random_records() {
         let words = gen::round(&mut rng, fleet.n as usize, fleet.done as usize + 1, &habits);
         assert_eq!(fast::step(&fleet, &words), step(&fleet, &words));
     }
+}
+
+#[test]
+fn own_bits_of_plain_rounds() {
+    let mut rng = Rng::new(56);
+    let mut named = 0;
+    for k in 0..6_000 {
+        let w = gen::writing(&mut rng, TINY, [0, 2, 3, 7, 8, 6, 6][k % 7]);
+        let expected = write_own_bit(w.n, w.rounds, &w.openings, &w.words);
+        assert_eq!(fast::write_own_bit(w.n, w.rounds, &w.openings, &w.words), expected);
+        named += usize::from(expected.is_some());
+        let n = rng.within(1, 32);
+        let (words, _) = gen::bad_round(&mut rng, n);
+        for (n, round) in [(n as u32, 1), (n as u32, 400), (n as u32, 401), (n as u32, 0), (33, 1)]
+        {
+            let expected = round_own_bit(n, round, &words);
+            assert_eq!(fast::round_own_bit(n, round, &words), expected);
+            named += usize::from(expected.is_some());
+        }
+    }
+    assert!(named > 1_000);
 }

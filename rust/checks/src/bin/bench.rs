@@ -203,6 +203,38 @@ fn step(table: &mut Table, input: &Step) {
     );
 }
 
+/// Where an own loss bit is: of a recording, of its rounds in plain form, and of the last of them.
+fn own_loss(table: &mut Table, input: &Input) {
+    let bytes = &input.bytes;
+    let ours = || {
+        black_box(checks::recording_own_loss(black_box(bytes)));
+    };
+    let plain = || {
+        black_box(fast::own_bit(black_box(bytes)));
+    };
+    table.row(&format!("own loss bit of a recording, {}", input.what), 400, times(ours, plain));
+
+    let mut words = vec![0; 400 * 35];
+    words[400 * 35 - 1] = 1 << 31;
+    let openings = [0; 32];
+    let ours = || {
+        black_box(checks::write_own_loss(32, 400, &openings, black_box(&words)));
+    };
+    let plain = || {
+        black_box(fast::write_own_bit(32, 400, &openings, black_box(&words)));
+    };
+    table.row(&format!("own loss bit of writing, {}", input.what), 400, times(ours, plain));
+
+    let last = &words[399 * 35..];
+    let ours = || {
+        black_box(checks::round_own_loss(32, 400, black_box(last)));
+    };
+    let plain = || {
+        black_box(fast::round_own_bit(32, 400, black_box(last)));
+    };
+    table.row("own loss bit of a round, 32 trucks, of the last truck", 1, times(ours, plain));
+}
+
 /// An opening crusher by 16 roads.
 fn opening(table: &mut Table) {
     let roads =
@@ -233,12 +265,14 @@ fn main() {
     let mut recordings = inputs::largest();
     recordings.extend(inputs::sizes());
     let steps = inputs::steps();
+    let own_bit = inputs::own_bit_at_the_end();
     let mut table = Table::default();
     for _ in 0..5 {
         table.next = 0;
         recordings.iter().for_each(|input| recording(&mut table, input));
         steps.iter().for_each(|input| step(&mut table, input));
         opening(&mut table);
+        own_loss(&mut table, &own_bit);
     }
     table.print();
 }

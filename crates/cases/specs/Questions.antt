@@ -1,15 +1,20 @@
 -- What a row of the table asks, and what the definitions answer.
-use mathlib.Core.List.{List, _∷_}
+use mathlib.Core.List.{List, [], _∷_}
 use Prim.Native.Nat.{ℕ, _-_, _/_, _%_}
 use Prim.Native.String.{String}
 use Rattle.basics.specs.Lists.{tab, who}
 use Rattle.radio.specs.Radio.{Radio, sent, heard}
+use Rattle.refusals.specs.declared.Outcome.{Outcome}
+use Rattle.refusals.specs.declared.Place.{Place}
+use Rattle.refusals.specs.Numbers.{outcomeNumber}
+use Rattle.refusals.specs.Places.{outcomePlace}
 use Rattle.recording.specs.Packed.{trucksOf, openingsOf, roundAt}
+use Rattle.recording.specs.Checks.{plainCheck}
 use Rattle.protocol.specs.declared.Grading.{Grading}
 use Rattle.protocol.specs.declared.Grading.the-variants.{Graded}
 use Rattle.protocol.specs.Rules.{truck, valuesHeard}
-use Rattle.protocol.specs.Runs.{trucksAt, radioAt}
-use Rattle.protocol.specs.Fleets.{graded}
+use Rattle.protocol.specs.Runs.{openedTrucks, trucksAt, radioAt}
+use Rattle.protocol.specs.Fleets.{stepCheck, graded}
 use Rattle.listing.specs.Text.{text, printed}
 use Rattle.roads.specs.Opening.{Road, numerator, denominator, openingOf, openingAnswer}
 
@@ -26,6 +31,10 @@ pub data Question : Type 0 where
   values : ℕ → ℕ → List ℕ → Question
   -- how many messages are sent in round k of a recording, and how many of them each truck hears
   messages : ℕ → List ℕ → Question
+  -- what writing these counts, openings and words is refused for
+  writes : ℕ → ℕ → List ℕ → List ℕ → Question
+  -- what a step by these words is refused for, of n running trucks with so many rounds done
+  steps : ℕ → ℕ → List ℕ → Question
   -- the opening crusher of three lists
   opens : List ℕ → List ℕ → List ℕ → Question
   -- the exact seconds of a road of this length, metres and seconds, as quotient and remainder
@@ -35,12 +44,17 @@ pub data Reply : Type 0 where
   bytes : List ℕ → Reply
   grading : Grading → Reply
   numbers : List ℕ → Reply
+  -- a refusal by its number and what it names
+  refused : ℕ × Place → Reply
   opening : ℕ × List ℕ → Reply
   exactly : ℕ × ℕ → Reply
 
 -- round k of a recording on the radio
 abbrev roundOf : List ℕ → ℕ → Radio
 roundOf s k = radioAt (trucksOf s) (openingsOf s) (roundAt s) k
+
+abbrev outcome : Outcome → Reply
+outcome o = refused (outcomeNumber o, outcomePlace o)
 
 -- the reply that the definitions give
 unfoldable pub reply : Question → Reply
@@ -52,6 +66,8 @@ reply (estimates k s) =
 reply (senders k s) = numbers (who (roundOf s k .sends) (trucksOf s))
 reply (values i k s) = numbers (valuesHeard (roundOf s k) (trucksAt (trucksOf s) (openingsOf s) (roundAt s) (k - 1)) i)
 reply (messages k s) = numbers (sent (roundOf s k) ∷ tab (heard (roundOf s k)) (trucksOf s))
+reply (writes n R openings words) = outcome (plainCheck n R openings words)
+reply (steps n done words) = outcome (stepCheck (record { n = n; done = done; trucks = openedTrucks [] }) words)
 reply (opens lengths metres seconds) = opening (openingAnswer (openingOf lengths metres seconds))
 reply (takes length metres seconds) =
     let r : Road = record { length = length; metres = metres; seconds = seconds } in

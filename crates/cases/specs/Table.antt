@@ -1,9 +1,10 @@
--- The starred cases C1 to C12 of document 01, a row for each thing that it says of them, and cases of F-2 of document 02.
-use mathlib.Core.List.{List, [], _∷_}
+-- The starred cases C1 to C12 of document 01, a row for each thing that it says of them, and cases of F-2 and F-7 of document 02.
+use mathlib.Core.List.{List, [], _∷_, _++_}
 use Prim.Native.Nat.{ℕ}
 use lib.ListN.{replicate}
-use Rattle.cases.specs.Questions.{Question, prints, grades, estimates, senders, values, messages, opens, takes}
-use Rattle.cases.specs.Questions.{Reply, numbers, opening, exactly, says, gradesAre}
+use Rattle.refusals.specs.declared.Place.the-variants.{Unnamed, At}
+use Rattle.cases.specs.Questions.{Question, prints, grades, estimates, senders, values, messages, writes, steps, opens, takes}
+use Rattle.cases.specs.Questions.{Reply, numbers, refused, opening, exactly, says, gradesAre}
 
 pub record Row : Type 0 where
   pub asks : Question
@@ -23,6 +24,10 @@ c2 = 0x08 ∷ 0x02 ∷ 0x35 ∷ 0x31 ∷ 0x80 ∷ 0x00 ∷ []
 -- C2 with both mark bits of round 1 set
 abbrev pub c3 : List ℕ
 c3 = 0x08 ∷ 0x02 ∷ 0x35 ∷ 0x3d ∷ 0x80 ∷ 0x00 ∷ []
+
+-- a round of two trucks in which nothing happens, in plain form
+abbrev quiet : List ℕ
+quiet = 0 ∷ 0 ∷ 0 ∷ 0 ∷ 0 ∷ []
 
 unfoldable pub table : List Row
 table =
@@ -64,6 +69,25 @@ table =
     ∷ (prints (0x08 ∷ 0x02 ∷ 0x35 ∷ 0x31 ∷ 0x80 ∷ 0x01 ∷ []) ⟶ says "refused 5\n")
     -- C10: C2 with fourth byte 33, truck 0's own bit
     ∷ (prints (0x08 ∷ 0x02 ∷ 0x35 ∷ 0x33 ∷ 0x80 ∷ 0x00 ∷ []) ⟶ says "refused 6 round 1 truck 0\n")
+    -- F-7: C2 with other own bits. That of truck 1 in round 1, besides that of truck 0 in round 2; both in round 2, and that of truck 1 alone
+    ∷ (prints (0x08 ∷ 0x02 ∷ 0x35 ∷ 0x31 ∷ 0xc0 ∷ 0x80 ∷ []) ⟶ says "refused 6 round 1 truck 1\n")
+    ∷ (prints (0x08 ∷ 0x02 ∷ 0x35 ∷ 0x31 ∷ 0x80 ∷ 0x90 ∷ []) ⟶ says "refused 6 round 2 truck 0\n")
+    ∷ (prints (0x08 ∷ 0x02 ∷ 0x35 ∷ 0x31 ∷ 0x80 ∷ 0x10 ∷ []) ⟶ says "refused 6 round 2 truck 1\n")
+    -- all four, and an end bit, which comes before
+    ∷ (prints (0x08 ∷ 0x02 ∷ 0x35 ∷ 0x33 ∷ 0xc0 ∷ 0x90 ∷ []) ⟶ says "refused 6 round 1 truck 0\n")
+    ∷ (prints (0x08 ∷ 0x02 ∷ 0x35 ∷ 0x33 ∷ 0xc0 ∷ 0x91 ∷ []) ⟶ says "refused 5\n")
+    -- one truck, in round 400
+    ∷ (prints (0x05 ∷ 0x90 ∷ replicate 200 0x00 ++ (0x10 ∷ [])) ⟶ says "refused 6 round 400 truck 0\n")
+    -- a step names the round after those done; 8 and 14 come before
+    ∷ (steps 2 0 (0 ∷ 0 ∷ 0 ∷ 1 ∷ 2 ∷ []) ⟶ refused (6, At 1 0))
+    ∷ (steps 2 399 (0 ∷ 0 ∷ 0 ∷ 1 ∷ 2 ∷ []) ⟶ refused (6, At 400 0))
+    ∷ (steps 2 399 (0 ∷ 0 ∷ 0 ∷ 0 ∷ 2 ∷ []) ⟶ refused (6, At 400 1))
+    ∷ (steps 2 399 (0 ∷ 4 ∷ 0 ∷ 1 ∷ 2 ∷ []) ⟶ refused (8, Unnamed))
+    ∷ (steps 2 400 (0 ∷ 0 ∷ 0 ∷ 1 ∷ 2 ∷ []) ⟶ refused (14, Unnamed))
+    -- writing: own bits of truck 1 in round 2 and of truck 0 in round 3; with a word too large in round 4; with an opening too high
+    ∷ (writes 2 4 (3 ∷ 5 ∷ []) (quiet ++ (0 ∷ 0 ∷ 0 ∷ 0 ∷ 2 ∷ []) ++ (0 ∷ 0 ∷ 0 ∷ 1 ∷ 0 ∷ []) ++ quiet) ⟶ refused (6, At 2 1))
+    ∷ (writes 2 4 (3 ∷ 5 ∷ []) (quiet ++ (0 ∷ 0 ∷ 0 ∷ 0 ∷ 2 ∷ []) ++ quiet ++ (0 ∷ 4 ∷ 0 ∷ 0 ∷ 0 ∷ [])) ⟶ refused (8, Unnamed))
+    ∷ (writes 2 1 (3 ∷ 16 ∷ []) (0 ∷ 0 ∷ 0 ∷ 1 ∷ 0 ∷ []) ⟶ refused (7, Unnamed))
     -- C11: both roads take 180 seconds
     ∷ (takes 1200 600 90 ⟶ exactly (180, 0))
     ∷ (takes 900 300 60 ⟶ exactly (180, 0))

@@ -9,7 +9,7 @@ use borrow.Author.Tests.{ltb-false, le-ltb, ne-eqb}
 use lib.Dec.{ltb, eqb}
 use lib.ListN.{length, getD, drop}
 use Rattle.basics.proofs.Laws.{or-left, or-right, or-none}
-use Rattle.refusals.specs.declared.Refusal.the-variants.{OwnLoss, ShortBuffer}
+use Rattle.refusals.specs.declared.Refusal.the-variants.{ShortBuffer}
 use Rattle.refusals.specs.declared.Outcome.{Outcome}
 use Rattle.refusals.specs.declared.Outcome.the-variants.{Accepted, Refused}
 use Rattle.refusals.specs.Numbers.{numberOf, outcomeNumber, numbered}
@@ -20,19 +20,17 @@ use Rattle.recording.specs.Packed.{trucksOf, roundsOf, openingsOf, roundAt, wor
 use Rattle.recording.specs.Checks.{badTrucks, badRounds, checkOf, roundCheck, plainCheck, FirstOwn, FirstOwnAt}
 use Rattle.recording.proofs.Accepted.{trucks-in}
 use Rattle.recording.proofs.Named.{check-names, plain-names}
-use Rattle.plain.specs.Forms.{readAnswer, readPlain, readCheck, shortBuffers, writeAnswer, writePlain, writeCheck}
+use Rattle.plain.specs.Forms.{readCheck, shortBuffers, writeCheck}
 use Rattle.plain.proofs.RoundTrip.{read-answer, write-answer}
 use Rattle.protocol.specs.declared.Fleet.{Fleet}
-use Rattle.protocol.specs.declared.Answer.{Answer}
-use Rattle.protocol.specs.Runs.{radiosIn, gradesFor}
-use Rattle.protocol.specs.Fleets.{twoRound, answer, blank, stepCheck, stepped, fleetAt, ran, ranIn, gradeAnswer, graded}
+use Rattle.protocol.specs.Fleets.{twoRound, answer, blank, stepCheck, stepped, fleetAt, ran, ranIn}
 use Rattle.protocol.proofs.Ran.{grade-answer}
 use Rattle.protocol.proofs.Steps.{step-checked, step-names}
 use Rattle.listing.specs.Text.{listingOf}
-use Rattle.listing.specs.Listed.{listAnswer, listed, listCheck}
+use Rattle.listing.specs.Listed.{listCheck}
 use Rattle.listing.proofs.Prints.{list-answer}
 use Rattle.recordbytes.specs.Layout.{sizeFor, damaged, recordOf, noRecord, unpacked}
-use Rattle.ffi.specs.Calls.{readCall, writeCall, listCall, gradeLeft, gradeLeftAs, gradeCall, recordAs, storeCall, runCall, stepCall, recordingOwnLoss, writeOwnLoss, roundOwnLoss}
+use Rattle.ffi.specs.Calls.{readCall, writeCall, listCall, gradeLeft, gradeLeftAs, gradeCall, storeCall, runCall, stepCall, recordingOwnLoss, writeOwnLoss, roundOwnLoss}
 use Rattle.ffi.proofs.Narrow.{many-trucks, narrowed, narrow-check}
 use Rattle.ffi.proofs.Records.{record-number}
 

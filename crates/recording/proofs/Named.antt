@@ -11,10 +11,10 @@ use Rattle.refusals.specs.declared.Refusal.the-variants.{ShortRecording, TruckC
 use Rattle.refusals.specs.declared.Outcome.{Outcome}
 use Rattle.refusals.specs.declared.Outcome.the-variants.{Accepted, Refused}
 use Rattle.refusals.specs.Outcomes.{refuse, andThen}
-use Rattle.refusals.proofs.Outcomes.{refused-not, refuse-past, refuse-on}
+use Rattle.refusals.proofs.Outcomes.{refused-not, refuse-past}
 use Rattle.recording.specs.Packed.{trucksOf, roundsOf, wordAt}
 use Rattle.recording.specs.Checks.{tooShort, badTrucks, badRounds, badLength, endBit, badOpenings, badWords, FirstOwn, FirstOwnAt, frameCheck, ownCheck, ownLossCheck, checkOf, roundsCheck, roundCheck, plainCheck}
-use Rattle.recording.proofs.Accepted.{frame-good, trucks-in, rounds-in}
+use Rattle.recording.proofs.Accepted.{frame-good}
 use Rattle.recording.proofs.OwnLoss.{own-named, own-names}
 
 -- none of 1 to 5 is 6

@@ -1,7 +1,7 @@
 -- Laws of refusal 6: it accepts exactly where no own loss bit is 1, and names the earliest round and, in it, the lowest truck.
 use mathlib.Core.Path.{_≡_, refl, ap, ap₂, sym, subst, _∙_}
 use mathlib.Core.Bool.{Bool, true, false}
-use Prim.Native.Nat.{ℕ, _+_, _*_, _≤_, _<_}
+use Prim.Native.Nat.{ℕ, _+_, _*_, _<_}
 use native.Mathlib.Omega.{arith}
 use lib.Arith.{digits-lt}
 use Rattle.refusals.specs.declared.Refusal.the-variants.{OwnLoss}
@@ -10,7 +10,7 @@ use Rattle.refusals.specs.Outcomes.{refuse}
 use Rattle.refusals.proofs.Outcomes.{refused-not, refuse-false, refuse-on}
 use Rattle.basics.specs.Bits.{bit}
 use Rattle.basics.specs.Lists.{first}
-use Rattle.basics.proofs.Laws.{someBelow-none, none-someBelow, someBelow-by, some-first, first-none, first-before, first-at, first-unique, first-step, first-found, first-all}
+use Rattle.basics.proofs.Laws.{someBelow-none, none-someBelow, someBelow-by, some-first, first-none, first-before, first-at, first-unique, first-step, first-found}
 use Rattle.recording.specs.Checks.{ownBit, ownIn, ownLoss, ownRound, ownTruck, ownLossCheck, FirstOwn, FirstOwnAt}
 
 -- words that agree have the same own loss bits

@@ -2,6 +2,7 @@
 box=$(mktemp -d)
 bytes_of tests/cases/c01.hex > "$box/c01"
 bytes_of tests/cases/c08.hex > "$box/c08"
+bytes_of tests/cases/c10.hex > "$box/c10"
 listing=$(cat tests/cases/c01.out)
 # STATUS OUTPUT ERROR COMMAND..: how a command ends, what it prints, and how its message begins. One that waits for itself is ended.
 ends() {
@@ -20,6 +21,7 @@ expect "replay of a file after --" ends 0 "$listing" "" ./replay -- "$box/c01"
 expect "replay of standard input" ends 0 "$listing" "" ./replay < "$box/c01"
 expect "replay of -" ends 0 "$listing" "" ./replay - < "$box/c01"
 expect "replay of a refused recording" ends 1 "refused 4" "" ./replay "$box/c08"
+expect "replay of an own loss bit" ends 1 "refused 6 round 1 truck 0" "" ./replay "$box/c10"
 expect "replay --help" test "$(head -n 1 <<< "$usage")" = "usage: replay [FILE]"
 expect "replay -h" ends 0 "$usage" "" ./replay -h
 for wrong in "-x" "--all" "$box/c01 $box/c08" "-- -x $box/c01"; do

@@ -5,9 +5,9 @@ use Prim.Native.String.{String}
 use Rattle.basics.specs.Lists.{tab, who}
 use Rattle.radio.specs.Radio.{Radio, sent, heard}
 use Rattle.refusals.specs.declared.Outcome.{Outcome}
-use Rattle.refusals.specs.declared.Place.{Place}
+use Rattle.refusals.specs.declared.Location.{Location}
 use Rattle.refusals.specs.Numbers.{outcomeNumber}
-use Rattle.refusals.specs.Places.{outcomePlace}
+use Rattle.refusals.specs.Locations.{outcomeLocation}
 use Rattle.recording.specs.Packed.{trucksOf, openingsOf, roundAt}
 use Rattle.recording.specs.Checks.{plainCheck}
 use Rattle.protocol.specs.declared.Grading.{Grading}
@@ -45,7 +45,7 @@ pub data Reply : Type 0 where
   grading : Grading → Reply
   numbers : List ℕ → Reply
   -- a refusal by its number and what it names
-  refused : ℕ × Place → Reply
+  refused : ℕ × Location → Reply
   opening : ℕ × List ℕ → Reply
   exactly : ℕ × ℕ → Reply
 
@@ -54,7 +54,7 @@ abbrev roundOf : List ℕ → ℕ → Radio
 roundOf s k = radioAt (trucksOf s) (openingsOf s) (roundAt s) k
 
 abbrev outcome : Outcome → Reply
-outcome o = refused (outcomeNumber o, outcomePlace o)
+outcome o = refused (outcomeNumber o, outcomeLocation o)
 
 -- the reply that the definitions give
 unfoldable pub reply : Question → Reply

@@ -2,7 +2,7 @@
 use mathlib.Core.List.{List, [], _∷_, _++_}
 use Prim.Native.Nat.{ℕ}
 use lib.ListN.{replicate}
-use Rattle.refusals.specs.declared.Place.the-variants.{Unnamed, At}
+use Rattle.refusals.specs.declared.Location.the-variants.{Unnamed, At}
 use Rattle.cases.specs.Questions.{Question, prints, grades, estimates, senders, values, messages, writes, steps, opens, takes}
 use Rattle.cases.specs.Questions.{Reply, numbers, refused, opening, exactly, says, gradesAre}
 

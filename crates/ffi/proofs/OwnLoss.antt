@@ -14,8 +14,8 @@ use Rattle.refusals.specs.declared.Outcome.{Outcome}
 use Rattle.refusals.specs.declared.Outcome.the-variants.{Accepted, Refused}
 use Rattle.refusals.specs.Numbers.{numberOf, outcomeNumber, numbered}
 use Rattle.refusals.specs.Outcomes.{refuse, andThen}
-use Rattle.refusals.specs.Places.{outcomePlace, placeNumber}
-use Rattle.refusals.proofs.Places.{outcome-6}
+use Rattle.refusals.specs.Locations.{outcomeLocation, locationNumber}
+use Rattle.refusals.proofs.Locations.{outcome-6}
 use Rattle.recording.specs.Packed.{trucksOf, roundsOf, openingsOf, roundAt, wordAt, bytesFor}
 use Rattle.recording.specs.Checks.{badTrucks, badRounds, checkOf, roundCheck, plainCheck, FirstOwn, FirstOwnAt}
 use Rattle.recording.proofs.Accepted.{trucks-in}
@@ -36,14 +36,14 @@ use Rattle.ffi.proofs.Records.{record-number}
 
 -- ---- a law for each return
 abbrev ownLoss : Outcome → ℕ
-ownLoss o = placeNumber (outcomePlace o)
+ownLoss o = locationNumber (outcomeLocation o)
 
-pub recording-own : (s : List ℕ) (o : Outcome) (k : ℕ) → o ≡ checkOf s → k ≡ placeNumber (outcomePlace o) → k ≡ recordingOwnLoss s
+pub recording-own : (s : List ℕ) (o : Outcome) (k : ℕ) → o ≡ checkOf s → k ≡ locationNumber (outcomeLocation o) → k ≡ recordingOwnLoss s
 unfolding recordingOwnLoss
 recording-own s o k h e = e ∙ ap ownLoss h
 
 pub write-own : (n R m S : ℕ) (openings words : List ℕ) (o : Outcome) (k : ℕ) → m ≡ min n 255 → S ≡ min R 65535 → o ≡ plainCheck m S openings words
-    → k ≡ placeNumber (outcomePlace o) → k ≡ writeOwnLoss n R openings words
+    → k ≡ locationNumber (outcomeLocation o) → k ≡ writeOwnLoss n R openings words
 unfolding writeOwnLoss
 write-own n R m S openings words o k few short h e = e ∙ ap ownLoss (h ∙ narrow-check openings words n R m S few short)
 
@@ -73,7 +73,7 @@ module _ (n m k : ℕ) (words : List ℕ) (few : m ≡ min n 255) where
         let i = trucks-in m (sym e ∙ or-left b (eqb k 0) (or-left (b || eqb k 0) (ltb 400 k) h)) in
         omega (arith, i .1)
 
-    pub round-own : (o : Outcome) (j : ℕ) → o ≡ roundCheck m k words → j ≡ placeNumber (outcomePlace o) → j ≡ roundOwnLoss n k words
+    pub round-own : (o : Outcome) (j : ℕ) → o ≡ roundCheck m k words → j ≡ locationNumber (outcomeLocation o) → j ≡ roundOwnLoss n k words
     round-own o j c g = g ∙ ap ownLoss (c ∙ ap (λ (i : ℕ). roundCheck i k words) same-number) ∙ sym (round-by b false e h)
 
 -- ---- what they answer where a call answers 6

@@ -8,7 +8,7 @@ use lib.Dec.{ltb, eqb}
 use lib.ListN.{length, getD, drop}
 use Rattle.basics.specs.Lists.{filled}
 use Rattle.refusals.specs.Numbers.{numberOf}
-use Rattle.refusals.specs.Places.{outcomePlace, placeNumber}
+use Rattle.refusals.specs.Locations.{outcomeLocation, locationNumber}
 use Rattle.refusals.specs.declared.Refusal.the-variants.{ShortBuffer}
 use Rattle.refusals.specs.declared.Outcome.{Outcome}
 use Rattle.refusals.specs.declared.Outcome.the-variants.{Accepted, Refused}
@@ -152,12 +152,12 @@ bytesAfter d (w ∷ ws) = bytesAfter (stepCall d w .bytes) ws
 
 -- of a recording, which is read, run, listed or graded
 unfoldable pub recordingOwnLoss : List ℕ → ℕ
-recordingOwnLoss bytes = placeNumber (outcomePlace (checkOf bytes))
+recordingOwnLoss bytes = locationNumber (outcomeLocation (checkOf bytes))
 
 -- of plain form, which is written
 unfoldable pub writeOwnLoss : ℕ → ℕ → List ℕ → List ℕ → ℕ
-writeOwnLoss n R openings words = placeNumber (outcomePlace (plainCheck n R openings words))
+writeOwnLoss n R openings words = locationNumber (outcomeLocation (plainCheck n R openings words))
 
 -- of round k of n trucks, by which a fleet is stepped; 0 where n or k is outside the limits
 unfoldable pub roundOwnLoss : ℕ → ℕ → List ℕ → ℕ
-roundOwnLoss n k words = cond (badTrucks n || eqb k 0 || badRounds k) 0 (placeNumber (outcomePlace (roundCheck n k words)))
+roundOwnLoss n k words = cond (badTrucks n || eqb k 0 || badRounds k) 0 (locationNumber (outcomeLocation (roundCheck n k words)))

@@ -4,7 +4,7 @@ ghost use mathlib.Core.Path.{_≡_};
 ghost use mathlib.Core.Bool.{false};
 ghost use Prim.Native.Nat.{min};
 ghost use Rattle.refusals.specs.Numbers.{numberOf, outcomeNumber};
-ghost use Rattle.refusals.specs.Places.{outcomePlace, placeNumber};
+ghost use Rattle.refusals.specs.Locations.{outcomeLocation, locationNumber};
 ghost use Rattle.refusals.specs.declared.Outcome.the-variants.{Accepted};
 ghost use Rattle.recording.specs.Checks.{badTrucks};
 ghost use Rattle.ffi.specs.Calls.{openingLeft, openingCall, readLeft, readCall, writeLeft, writeCall};
@@ -32,9 +32,9 @@ fn outcome_number(o: Outcome) -> u32
 }
 
 fn own_loss(o: Outcome) -> u32
-    ensures { λ k. ⌜ k ≡ placeNumber (outcomePlace o) ⌝ }
+    ensures { λ k. ⌜ k ≡ locationNumber (outcomeLocation o) ⌝ }
 {
-    refusals::place_number(refusals::outcome_place(o))
+    refusals::location_number(refusals::outcome_location(o))
 }
 
 // The crusher that a truck opens with.

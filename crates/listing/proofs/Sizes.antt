@@ -12,13 +12,13 @@ use lib.ListN.{length, length-append, replicate}
 use Rattle.basics.specs.Lists.{allBelow}
 use Rattle.refusals.specs.declared.Refusal.{Refusal}
 use Rattle.refusals.specs.declared.Refusal.the-variants.{OwnLoss}
-use Rattle.refusals.specs.declared.Place.{Place}
-use Rattle.refusals.specs.declared.Place.the-variants.{Unnamed, At}
+use Rattle.refusals.specs.declared.Location.{Location}
+use Rattle.refusals.specs.declared.Location.the-variants.{Unnamed, At}
 use Rattle.refusals.specs.declared.Outcome.the-variants.{Accepted, Refused}
 use Rattle.refusals.specs.Numbers.{numberOf}
-use Rattle.refusals.specs.Places.{placeOf}
+use Rattle.refusals.specs.Locations.{locationOf}
 use Rattle.refusals.proofs.Numbers.{number-range}
-use Rattle.refusals.proofs.Places.{named-6}
+use Rattle.refusals.proofs.Locations.{named-6}
 use Rattle.recording.specs.Packed.{trucksOf, roundsOf}
 use Rattle.recording.specs.Checks.{badTrucks, checkOf}
 use Rattle.recording.proofs.Accepted.{bytes-good}
@@ -33,7 +33,7 @@ use Rattle.protocol.specs.Fleets.{twoRound, goodState, goodTruckIn, goodFleetIn
 use Rattle.protocol.proofs.Good.{Good, state-ended}
 use Rattle.protocol.proofs.OneRound.{sound-two}
 use Rattle.protocol.proofs.Ran.{ran-fleet, ran-good}
-use Rattle.listing.specs.Text.{text, decimalIn, decimal, stateText, truckLine, truckLines, listingOf, placeText, refusalText}
+use Rattle.listing.specs.Text.{text, decimalIn, decimal, stateText, truckLine, truckLines, listingOf, locationText, refusalText}
 use Rattle.listing.specs.Program.{longestListing, longestRefusal}
 
 -- a number below 10 to the m + 1 has at most m + 1 digits
@@ -160,9 +160,9 @@ listing-size s h =
     (λ i l. rw (ap (λ (f : Fleet). f .done) (ran-fleet twoRound s h)) (ran-good twoRound s sound-two h i (subst (λ (f : Fleet). i < f .n) (ran-fleet twoRound s h) l)))
 
 -- a round within the limits and a truck below 32
-place-size : (round truck : ℕ) → round ≤ 400 → truck < 32 → length (placeText (At round truck)) ≤ 19
-unfolding placeText
-place-size round truck h l =
+location-size : (round truck : ℕ) → round ≤ 400 → truck < 32 → length (locationText (At round truck)) ≤ 19
+unfolding locationText
+location-size round truck h l =
     let a = text " round " ++ decimal round in
     let lb : length (text " round ") ≡ 7 = refl in
     let lc : length (text " truck ") ≡ 7 = refl in
@@ -176,26 +176,26 @@ place-size round truck h l =
     )
 
 -- a line by its parts
-line-parts : (r : Refusal) → length (refusalText r) ≡ 9 + length (decimal (numberOf r)) + length (placeText (placeOf r))
+line-parts : (r : Refusal) → length (refusalText r) ≡ 9 + length (decimal (numberOf r)) + length (locationText (locationOf r))
 unfolding refusalText
 line-parts r =
     let a = text "refused " ++ decimal (numberOf r) in
-    let b = placeText (placeOf r) in
+    let b = locationText (locationOf r) in
     let la : length (text "refused ") ≡ 8 = refl in
     let lc : length (text "\n") ≡ 1 = refl in
     omega (arith, length-append (text "refused ") (decimal (numberOf r)), length-append a b, length-append (a ++ b) (text "\n"))
 
 -- the line of a refusal that names a round and a truck within the limits, or none
 pub refusal-size : (r : Refusal) → ((round truck : ℕ) → r ≡ OwnLoss round truck → (round ≤ 400) × (truck < 32)) → length (refusalText r) ≤ longestRefusal
-unfolding placeText
-refusal-size r within = go (placeOf r) refl
+unfolding locationText
+refusal-size r within = go (locationOf r) refl
   where
-    go : (p : Place) → placeOf r ≡ p → length (refusalText r) ≤ longestRefusal
+    go : (p : Location) → locationOf r ≡ p → length (refusalText r) ≤ longestRefusal
     go Unnamed e =
         omega (
           arith,
           line-parts r,
-          ap (λ (p : Place). length (placeText p)) e,
+          ap (λ (p : Location). length (locationText p)) e,
           digits 1 (numberOf r) (let o : numberOf r < 10 ^ 2 = omega (arith, number-range r) in o),
         )
     go (At round truck) e =
@@ -204,8 +204,8 @@ refusal-size r within = go (placeOf r) refl
         omega (
           arith,
           line-parts r,
-          ap (λ (p : Place). length (placeText p)) e,
-          place-size round truck (l .0) (l .1),
+          ap (λ (p : Location). length (locationText p)) e,
+          location-size round truck (l .0) (l .1),
           digits 0 (numberOf r) (let o : numberOf r < 10 ^ 1 = omega (arith, ap numberOf six) in o),
         )
 
@@ -222,5 +222,5 @@ unfolding fullest goodTruckIn goodFleetIn badTrucks allBelow decimalIn decimal s
 listing-longest = (refl, refl)
 
 pub refusal-longest : length (refusalText (OwnLoss 400 31)) ≡ longestRefusal
-unfolding decimalIn decimal placeText refusalText
+unfolding decimalIn decimal locationText refusalText
 refusal-longest = refl

@@ -7,10 +7,10 @@ use mathlib.Core.Bool.{cond}
 use mathlib.Core.List.{List, [], _∷_, _++_}
 use lib.Dec.{ltb}
 use Rattle.refusals.specs.Numbers.{numberOf}
-use Rattle.refusals.specs.Places.{placeOf}
+use Rattle.refusals.specs.Locations.{locationOf}
 use Rattle.refusals.specs.declared.Refusal.{Refusal}
-use Rattle.refusals.specs.declared.Place.{Place}
-use Rattle.refusals.specs.declared.Place.the-variants.{Unnamed, At}
+use Rattle.refusals.specs.declared.Location.{Location}
+use Rattle.refusals.specs.declared.Location.the-variants.{Unnamed, At}
 use Rattle.refusals.specs.declared.Outcome.{Outcome}
 use Rattle.refusals.specs.declared.Outcome.the-variants.{Accepted, Refused}
 use Rattle.protocol.specs.declared.State.{State}
@@ -56,13 +56,13 @@ unfoldable pub listingOf : Fleet → List ℕ
 listingOf f = text "trucks " ++ decimal (f .n) ++ text " rounds " ++ decimal (f .done) ++ text "\n" ++ truckLines (f .trucks) (f .n)
 
 -- the round and the truck that a refusal names, where it names them
-unfoldable pub placeText : Place → List ℕ
-placeText Unnamed = []
-placeText (At round truck) = text " round " ++ decimal round ++ text " truck " ++ decimal truck
+unfoldable pub locationText : Location → List ℕ
+locationText Unnamed = []
+locationText (At round truck) = text " round " ++ decimal round ++ text " truck " ++ decimal truck
 
 -- the one line of a refused recording
 unfoldable pub refusalText : Refusal → List ℕ
-refusalText r = text "refused " ++ decimal (numberOf r) ++ placeText (placeOf r) ++ text "\n"
+refusalText r = text "refused " ++ decimal (numberOf r) ++ locationText (locationOf r) ++ text "\n"
 
 -- the listing of a run, or the line of a refusal
 abbrev pub printedFor : Outcome → Fleet → List ℕ

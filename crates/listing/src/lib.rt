@@ -3,14 +3,14 @@ ghost use mathlib.Core.Path.{_≡_};
 ghost use mathlib.Core.List.{_∷_, []};
 ghost use Prim.Native.Nat.{_+_, _<_, _≤_};
 ghost use lib.ListN.{length};
-ghost use Rattle.listing.specs.Text.{decimal, stateText, truckLine, truckLines, listingOf, placeText, refusalText};
+ghost use Rattle.listing.specs.Text.{decimal, stateText, truckLine, truckLines, listingOf, locationText, refusalText};
 ghost use Rattle.listing.specs.Listed.{left, textIn, listed, refusalListed};
 ghost use Rattle.listing.specs.Writing.{Put, openingText, endedText, headerText, spaced};
 use protocol::Fleet;
 use protocol::State;
 use protocol::Truck;
+use refusals::Location;
 use refusals::Outcome;
-use refusals::Place;
 use refusals::Refusal;
 
 // A text of so many bytes in the lent buffer, or why there is none.
@@ -162,14 +162,14 @@ fn lend_text(t: &[u8], buf: &mut [u8]) -> Listed
 }
 
 // Puts the round and the truck that a refusal names.
-fn put_place(buf: &mut [u8], at: usize, p: Place) -> usize
+fn put_location(buf: &mut [u8], at: usize, p: Location) -> usize
     requires { ⌜ at + 24 ≤ length (now buf) ⌝ }
-    ensures placed { λ r. ⌜ Put (now (buf .entry)) at (placeText p) (now (buf .exit)) r ⌝ }
+    ensures placed { λ r. ⌜ Put (now (buf .entry)) at (locationText p) (now (buf .exit)) r ⌝ }
     ensures within { λ r. ⌜ r ≤ at + 24 ⌝ }
 {
     match p {
-        Place::Unnamed => at,
-        Place::At { round, truck } => {
+        Location::Unnamed => at,
+        Location::At { round, truck } => {
             let a = put(buf, at, b" round ");
             let b = put_number(buf, a, round);
             let c = put(buf, b, b" truck ");
@@ -186,7 +186,7 @@ fn put_refusal(buf: &mut [u8], r: Refusal) -> usize
 {
     let a = put(buf, 0, b"refused ");
     let b = put_number(buf, a, refusals::number(r) as u16);
-    let c = put_place(buf, b, refusals::place_of(r));
+    let c = put_location(buf, b, refusals::location_of(r));
     put(buf, c, b"\n")
 }
 

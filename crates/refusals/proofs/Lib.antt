@@ -1,3 +1,3 @@
 pub mod Outcomes
 pub mod Numbers
-pub mod Places
+pub mod Locations

@@ -1,3 +1,3 @@
 pub mod Numbers
 pub mod Outcomes
-pub mod Places
+pub mod Locations

@@ -1,7 +1,7 @@
 // Why an input is refused. Document 01 numbers these conditions; `numberOf` in specs/ holds its numbers.
 ghost use mathlib.Core.Path.{_≡_};
 ghost use Rattle.refusals.specs.Numbers.{numberOf, outcomeNumber};
-ghost use Rattle.refusals.specs.Places.{placeOf, outcomePlace, placeNumber};
+ghost use Rattle.refusals.specs.Locations.{locationOf, outcomeLocation, locationNumber};
 
 pub enum Refusal {
     // Whoever made the recording.
@@ -26,7 +26,7 @@ pub enum Refusal {
 }
 
 // Where in a recording the cause of a refusal stands, of a refusal that names it.
-pub enum Place {
+pub enum Location {
     Unnamed,
     At { round: u16, truck: u8 },
 }
@@ -73,43 +73,43 @@ pub fn outcome_number(o: Outcome) -> u8
 }
 
 // The round and the truck that the refusal names.
-pub fn place_of(r: Refusal) -> Place
-    ensures { λ p. ⌜ p ≡ placeOf r ⌝ }
+pub fn location_of(r: Refusal) -> Location
+    ensures { λ p. ⌜ p ≡ locationOf r ⌝ }
 {
     match r {
-        Refusal::ShortRecording => Place::Unnamed,
-        Refusal::TruckCount => Place::Unnamed,
-        Refusal::RoundCount => Place::Unnamed,
-        Refusal::RecordingLength => Place::Unnamed,
-        Refusal::EndBit => Place::Unnamed,
-        Refusal::OwnLoss { round, truck } => Place::At { round, truck },
-        Refusal::Record => Place::Unnamed,
-        Refusal::PlainRound => Place::Unnamed,
-        Refusal::ShortBuffer => Place::Unnamed,
-        Refusal::RoadLists => Place::Unnamed,
-        Refusal::Seconds => Place::Unnamed,
-        Refusal::NoTime => Place::Unnamed,
-        Refusal::AllIdle => Place::Unnamed,
-        Refusal::RoundsDone => Place::Unnamed,
+        Refusal::ShortRecording => Location::Unnamed,
+        Refusal::TruckCount => Location::Unnamed,
+        Refusal::RoundCount => Location::Unnamed,
+        Refusal::RecordingLength => Location::Unnamed,
+        Refusal::EndBit => Location::Unnamed,
+        Refusal::OwnLoss { round, truck } => Location::At { round, truck },
+        Refusal::Record => Location::Unnamed,
+        Refusal::PlainRound => Location::Unnamed,
+        Refusal::ShortBuffer => Location::Unnamed,
+        Refusal::RoadLists => Location::Unnamed,
+        Refusal::Seconds => Location::Unnamed,
+        Refusal::NoTime => Location::Unnamed,
+        Refusal::AllIdle => Location::Unnamed,
+        Refusal::RoundsDone => Location::Unnamed,
     }
 }
 
 // What an outcome names: nothing where the input is accepted.
-pub fn outcome_place(o: Outcome) -> Place
-    ensures { λ p. ⌜ p ≡ outcomePlace o ⌝ }
+pub fn outcome_location(o: Outcome) -> Location
+    ensures { λ p. ⌜ p ≡ outcomeLocation o ⌝ }
 {
     match o {
-        Outcome::Accepted => Place::Unnamed,
-        Outcome::Refused(r) => place_of(r),
+        Outcome::Accepted => Location::Unnamed,
+        Outcome::Refused(r) => location_of(r),
     }
 }
 
-// A place as one number: 256 times the round, and the truck; 0 where none is named.
-pub fn place_number(p: Place) -> u32
-    ensures { λ k. ⌜ k ≡ placeNumber p ⌝ }
+// A location as one number: 256 times the round, and the truck; 0 where none is named.
+pub fn location_number(p: Location) -> u32
+    ensures { λ k. ⌜ k ≡ locationNumber p ⌝ }
 {
     match p {
-        Place::Unnamed => 0,
-        Place::At { round, truck } => round as u32 * 256 + truck as u32,
+        Location::Unnamed => 0,
+        Location::At { round, truck } => round as u32 * 256 + truck as u32,
     }
 }

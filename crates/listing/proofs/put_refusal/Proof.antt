@@ -1,7 +1,7 @@
 -- `put_refusal` meets its contract.
 use native.Mathlib.Omega.{arith}
 use mathlib.Core.Path.{ap}
-use Rattle.listing.specs.Text.{decimal, placeText, refusalText}
+use Rattle.listing.specs.Text.{decimal, locationText, refusalText}
 use Rattle.listing.proofs.Laws.{put-join, put-as}
 use borrow.Author.Needs.{needs}
 use Rattle.listing.proofs.put_refusal.Statement.{statement}
@@ -16,7 +16,7 @@ returns c =
       put-join
           (put-join
           (put-join (text .put .ensures) (put-as (ap decimal (number .before .number .ensures)) (number .put-number .ensures .0)))
-          (put-as (ap placeText (place .before .place-of .ensures)) (place .put-place .ensures .0)))
+          (put-as (ap locationText (place .before .location-of .ensures)) (place .put-location .ensures .0)))
           (c .before .before .put2 .ensures),
       omega arith,
     )

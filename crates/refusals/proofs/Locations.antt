@@ -7,14 +7,14 @@ use Rattle.refusals.specs.declared.Refusal.the-variants.{ShortRecording,
 use Rattle.refusals.specs.declared.Refusal.the-variants.{PlainRound, ShortBuffer, RoadLists, Seconds, NoTime, AllIdle, RoundsDone}
 use Rattle.refusals.specs.declared.Outcome.{Outcome}
 use Rattle.refusals.specs.declared.Outcome.the-variants.{Accepted, Refused}
-use Rattle.refusals.specs.declared.Place.the-variants.{Unnamed, At}
+use Rattle.refusals.specs.declared.Location.the-variants.{Unnamed, At}
 use Rattle.refusals.specs.Numbers.{numberOf, outcomeNumber}
-use Rattle.refusals.specs.Places.{placeOf}
+use Rattle.refusals.specs.Locations.{locationOf}
 
 unnamed-not : {A : Type 0} (round truck : ℕ) → Unnamed ≡ At round truck → A
 unnamed-not round truck h = let z : _≡_ {A = ℕ} 0 1 = cc in absurd (omega arith)
 
-pub named-6 : (r : Refusal) (round truck : ℕ) → placeOf r ≡ At round truck → r ≡ OwnLoss round truck
+pub named-6 : (r : Refusal) (round truck : ℕ) → locationOf r ≡ At round truck → r ≡ OwnLoss round truck
 named-6 ShortRecording round truck h = unnamed-not round truck h
 named-6 TruckCount round truck h = unnamed-not round truck h
 named-6 RoundCount round truck h = unnamed-not round truck h

@@ -1,17 +1,17 @@
--- `put_place` meets its contract.
+-- `put_location` meets its contract.
 use native.Mathlib.Omega.{arith}
-use Rattle.listing.specs.Text.{placeText}
+use Rattle.listing.specs.Text.{locationText}
 use Rattle.listing.proofs.Laws.{put-none, put-join}
 use borrow.Author.Needs.{needs}
-use Rattle.listing.proofs.put_place.Statement.{statement}
-use Rattle.listing.proofs.put_place.Tie as tie
+use Rattle.listing.proofs.put_location.Statement.{statement}
+use Rattle.listing.proofs.put_location.Tie as tie
 
 returns : tie.Need-returns
-unfolding placeText
+unfolding locationText
 returns c = rw (c .enum-told .given .1) (put-none _ _, omega arith)
 
 returns-2 : tie.Need-returns-2
-unfolding placeText
+unfolding locationText
 returns-2 c =
     let text = c .before .before .before .before .before .before in
     let round = text .before .before .before .before .before in
@@ -19,8 +19,8 @@ returns-2 c =
     rw (word .before .before .before .before .p .given .1)
     (put-join (put-join (put-join (word .put .ensures) (round .put-number .ensures .0)) (text .put2 .ensures)) (c .before .before .put-number2 .ensures .0), omega arith)
 
-pub put-place-spec : {M : Type 1} → statement M
-put-place-spec =
+pub put-location-spec : {M : Type 1} → statement M
+put-location-spec =
     tie.close
     (tie.spec
     (λ c. search needs)

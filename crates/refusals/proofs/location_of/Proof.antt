@@ -1,15 +1,15 @@
--- `place_of` meets its contract: of the one refusal with a place by what its match says, of the others by computing.
+-- `location_of` meets its contract: of the one refusal with a place by what its match says, of the others by computing.
 use mathlib.Core.Path.{ap, sym}
 use borrow.Author.Needs.{needs}
-use Rattle.refusals.specs.Places.{placeOf}
-use Rattle.refusals.proofs.place_of.Statement.{statement}
-use Rattle.refusals.proofs.place_of.Tie as tie
+use Rattle.refusals.specs.Locations.{locationOf}
+use Rattle.refusals.proofs.location_of.Statement.{statement}
+use Rattle.refusals.proofs.location_of.Tie as tie
 
 returns-6 : tie.Need-returns-6
-returns-6 c = ap placeOf (sym (c .before .r .given .1))
+returns-6 c = ap locationOf (sym (c .before .r .given .1))
 
-pub place-of-spec : {M : Type 1} → statement M
-place-of-spec =
+pub location-of-spec : {M : Type 1} → statement M
+location-of-spec =
     tie.close
     (tie.spec
     (λ c. search needs)

@@ -4,9 +4,9 @@
  * Link with librajvokshul.a of an installation (`pkg-config --cflags --libs rajvokshul`), or in the repository with the
  * archive that `rt staticlib ffi` writes, target/staticlib/libffi.a (name the file: `-lffi` is another library).
  *
- * Every function that is not inline answers 0, or the number of the refusal, which rajvokshul_reason puts in words. On a
- * refusal nothing that was lent is changed. Where the number is 6, one of the three functions whose names end in _own_loss
- * tells the round and the truck. Buffers may be longer than needed: everything past the part written stays as it was.
+ * Every function that is not inline answers 0, or the number of the refusal, which rajvokshul_reason puts in words; but for
+ * the three whose names end in _own_loss, which tell the round and the truck where another answered 6. On a refusal nothing
+ * that was lent is changed. Buffers may be longer than needed: everything past the part written stays as it was.
  *
  * A pointer followed by a length is a list; the length counts elements, not bytes. The pointer of a list of length 0 is
  * not used and may be NULL. No other pointer may be: not that of a list with elements, nor of a number that is written,

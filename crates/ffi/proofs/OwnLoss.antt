@@ -23,9 +23,9 @@ use Rattle.recording.proofs.Named.{check-names, plain-names}
 use Rattle.plain.specs.Forms.{readCheck, shortBuffers, writeCheck}
 use Rattle.plain.proofs.RoundTrip.{read-answer, write-answer}
 use Rattle.protocol.specs.declared.Fleet.{Fleet}
-use Rattle.protocol.specs.Fleets.{twoRound, answer, blank, stepCheck, stepped, fleetAt, ran, ranIn}
+use Rattle.protocol.specs.Fleets.{twoRound, blank, stepCheck, stepped, fleetAt, ran, ranIn}
 use Rattle.protocol.proofs.Ran.{grade-answer}
-use Rattle.protocol.proofs.Steps.{step-checked, step-names}
+use Rattle.protocol.proofs.Steps.{answer-outcome, step-checked, step-names}
 use Rattle.listing.specs.Text.{listingOf}
 use Rattle.listing.specs.Listed.{listCheck}
 use Rattle.listing.proofs.Prints.{list-answer}
@@ -115,14 +115,9 @@ module _ (s : List ℕ) where
   unfolding runCall storeCall ranIn
   run-6 d h =
       let short = ltb (length d) (sizeFor 32) in
-      named (same (checkOf s) (before-9 (ran s .outcome) short (sym (record-number (andThen (ran s .outcome) (refuse short ShortBuffer Accepted)) 32 (ran s .fleet) d) ∙ h)))
-    where
-      f : Fleet
-      f = fleetAt (trucksOf s) (openingsOf s) (roundAt s) (roundsOf s)
-
-      same : (o : Outcome) → outcomeNumber (answer o f blank .outcome) ≡ 6 → outcomeNumber o ≡ 6
-      same Accepted e = e
-      same (Refused r) e = e
+      let f : Fleet = fleetAt (trucksOf s) (openingsOf s) (roundAt s) (roundsOf s) in
+      let ran-6 = before-9 (ran s .outcome) short (sym (record-number (andThen (ran s .outcome) (refuse short ShortBuffer Accepted)) 32 (ran s .fleet) d) ∙ h) in
+      named (sym (ap outcomeNumber (answer-outcome (checkOf s) f blank)) ∙ ran-6)
 
   pub grade-6 : (grades : List ℕ) → gradeCall s grades .number ≡ 6 → RecordingNamed
   unfolding gradeCall

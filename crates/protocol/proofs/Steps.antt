@@ -71,14 +71,15 @@ pub accepted-by : (o : Outcome) (f g : Fleet) → answer o f g .outcome ≡ Acce
 accepted-by Accepted f g h = (refl, refl)
 accepted-by (Refused r) f g h = absurd (false≢true (ap accepted h))
 
+-- the outcome of an answer is the one that it was given for
+pub answer-outcome : (o : Outcome) (f g : Fleet) → answer o f g .outcome ≡ o
+answer-outcome Accepted f g = refl
+answer-outcome (Refused r) f g = refl
+
 -- a step's outcome is that of its check
 pub step-checked : (p : Protocol) (f : Fleet) (w : List ℕ) → steppedIn p f w .outcome ≡ stepCheckIn p f w
 unfolding steppedIn
-step-checked p f w = go (stepCheckIn p f w)
-  where
-    go : (o : Outcome) → answer o (nextFleetIn p f w) f .outcome ≡ o
-    go Accepted = refl
-    go (Refused r) = refl
+step-checked p f w = answer-outcome (stepCheckIn p f w) (nextFleetIn p f w) f
 
 -- it is refused 6 for the round after those done, which is at most 400, and for the lowest truck of it whose own loss bit is 1
 pub record StepNamed (f : Fleet) (w : List ℕ) (round truck : ℕ) : Type 0 where

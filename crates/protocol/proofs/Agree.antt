@@ -54,7 +54,7 @@ module _ (n : ℕ) (active : ℕ → Bool) (k : ℕ) (w : List ℕ) (ts : List T
       }
     where
       played : ℕ → Truck
-      played i = proposed (a .marked i) (different (valuesHeard a ts i)) (leastOr (truck ts i .estimate) (valuesHeard a ts i)) (truck ts i)
+      played i = proposed (a .sends i) (a .marked i) (different (valuesHeard a ts i)) (leastOr (truck ts i .estimate) (valuesHeard a ts i)) (truck ts i)
 
   -- two trucks that will not veto after a majority complete proposal round, one of which heard one value, took the same value
   open-alike : odd k ≡ true → majorityComplete a ≡ true → (i j : ℕ) → i < n → j < n → runs (truck ts′ i) ≡ true → runs (truck ts′ j) ≡ true

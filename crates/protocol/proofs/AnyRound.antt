@@ -29,15 +29,15 @@ turn-cases P (Decided r) b stopped played t idle stop play = idle refl
 -- what a cycle has to show of states: a stop and a decision hold their rounds
 pub record Stamps {T : Type 0} {K : Kind T} (c : Rules K) : Type 0 where
   pub stops : (k : ℕ) (t : T) → K .state (c .stops k t) ≡ Stopped k
-  pub plays : (k : ℕ) (b m : Bool) (vs : List ℕ) (t : T) → runsIn K t ≡ true
-      → (K .state (c .plays k b m vs t) ≡ Running) ⊎ (K .state (c .plays k b m vs t) ≡ Decided k)
+  pub plays : (k : ℕ) (b s m : Bool) (vs : List ℕ) (t : T) → runsIn K t ≡ true
+      → (K .state (c .plays k b s m vs t) ≡ Running) ⊎ (K .state (c .plays k b s m vs t) ≡ Decided k)
 
 -- what a cycle in which estimates are heard has to show of them: a truck opens with its opening, and keeps its estimate or takes one that it hears
 pub record Takes {T : Type 0} {K : Kind T} (c : Rules K) : Type 0 where
   pub opened : (v : ℕ) → K .estimate (K .opened v) ≡ v
   pub stops : (k : ℕ) (t : T) → K .estimate (c .stops k t) ≡ K .estimate t
-  pub plays : (k : ℕ) (b m : Bool) (vs : List ℕ) (t : T)
-      → (K .estimate (c .plays k b m vs t) ≡ K .estimate t) ⊎ List·Memᴰ (K .estimate (c .plays k b m vs t)) vs
+  pub plays : (k : ℕ) (b s m : Bool) (vs : List ℕ) (t : T)
+      → (K .estimate (c .plays k b s m vs t) ≡ K .estimate t) ⊎ List·Memᴰ (K .estimate (c .plays k b s m vs t)) vs
 
 -- no truck runs any more
 abbrev pub EndedIn : {T : Type 0} → Kind T → ℕ → List T → Type 0
@@ -111,7 +111,7 @@ module _ {T : Type 0} {K : Kind T} (c : Rules K) (n : ℕ) (active : ℕ → Boo
   values-heard i = simp length-map
 
   -- what a truck plays, with its mark as on the radio
-  pub plays-is : (i : ℕ) → playsIn c radio k w ts i ≡ c .plays k (activeBit w i) (radio .marked i) (valuesIn K radio ts i) (truckIn K ts i)
+  pub plays-is : (i : ℕ) → playsIn c radio k w ts i ≡ c .plays k (activeBit w i) (radio .sends i) (radio .marked i) (valuesIn K radio ts i) (truckIn K ts i)
   unfolding playsIn radioIn
   plays-is i = refl
 
@@ -125,10 +125,10 @@ module _ {T : Type 0} {K : Kind T} (c : Rules K) (n : ℕ) (active : ℕ → Boo
       → ((j : ℕ) → j < n → radio .sends j ≡ true → P (K .estimate (truckIn K ts j))) → P (K .estimate (truckIn K next i))
   estimate-next takes P i l own sent =
       after-cases (λ (t : T). P (K .estimate t)) i l (λ h. own) (λ h s. rw (takes .stops k (old i)) own)
-      (λ h r. rw (plays-is i) (go (takes .plays k (activeBit w i) (radio .marked i) (valuesIn K radio ts i) (old i))))
+      (λ h r. rw (plays-is i) (go (takes .plays k (activeBit w i) (radio .sends i) (radio .marked i) (valuesIn K radio ts i) (old i))))
     where
       new : ℕ
-      new = K .estimate (c .plays k (activeBit w i) (radio .marked i) (valuesIn K radio ts i) (old i))
+      new = K .estimate (c .plays k (activeBit w i) (radio .sends i) (radio .marked i) (valuesIn K radio ts i) (old i))
 
       go : (new ≡ K .estimate (old i)) ⊎ List·Memᴰ new (valuesIn K radio ts i) → P new
       go (inl e) = subst P (sym e) own

@@ -16,6 +16,7 @@ use Rattle.recording.specs.Checks.{badTrucks}
 use Rattle.recording.proofs.Accepted.{GoodOpenings}
 use Rattle.protocol.specs.declared.State.{State}
 use Rattle.protocol.specs.declared.State.the-variants.{Running, Stopped, Decided}
+use Rattle.protocol.specs.declared.Sent.{Sent}
 use Rattle.protocol.specs.declared.Truck.{Truck}
 use Rattle.protocol.specs.declared.Fleet.{Fleet}
 use Rattle.protocol.specs.Cycles.{isRunning, valuesIn}
@@ -32,22 +33,25 @@ pub record Good (p : Protocol) (done : ℕ) (t : Truck) : Type 0 where
   pub estimate : leb (t .estimate) 15 ≡ true
   pub state : goodStateIn p done (t .state) ≡ true
   pub memory : p .goodMemory done t ≡ true
+  pub counts : p .goodCounts done (t .sent) ≡ true
 
 pub good-parts : (p : Protocol) (done : ℕ) (t : Truck) → goodTruckIn p done t ≡ true → Good p done t
 unfolding goodTruckIn
 good-parts p done t h =
-    let three = and-left (leb (t .opening) 15 && leb (t .estimate) 15 && goodStateIn p done (t .state)) (p .goodMemory done t) h in
+    let four = and-left (leb (t .opening) 15 && leb (t .estimate) 15 && goodStateIn p done (t .state) && p .goodMemory done t) (p .goodCounts done (t .sent)) h in
+    let three = and-left (leb (t .opening) 15 && leb (t .estimate) 15 && goodStateIn p done (t .state)) (p .goodMemory done t) four in
     let two = and-left (leb (t .opening) 15 && leb (t .estimate) 15) (goodStateIn p done (t .state)) three in
     record {
       opening = and-left (leb (t .opening) 15) (leb (t .estimate) 15) two;
       estimate = and-right (leb (t .opening) 15) (leb (t .estimate) 15) two;
       state = and-right (leb (t .opening) 15 && leb (t .estimate) 15) (goodStateIn p done (t .state)) three;
-      memory = and-right (leb (t .opening) 15 && leb (t .estimate) 15 && goodStateIn p done (t .state)) (p .goodMemory done t) h;
+      memory = and-right (leb (t .opening) 15 && leb (t .estimate) 15 && goodStateIn p done (t .state)) (p .goodMemory done t) four;
+      counts = and-right (leb (t .opening) 15 && leb (t .estimate) 15 && goodStateIn p done (t .state) && p .goodMemory done t) (p .goodCounts done (t .sent)) h;
     }
 
 pub good-whole : (p : Protocol) (done : ℕ) (t : Truck) → Good p done t → goodTruckIn p done t ≡ true
 unfolding goodTruckIn
-good-whole p done t g = rw (g .opening, g .estimate, g .state, g .memory)
+good-whole p done t g = rw (g .opening, g .estimate, g .state, g .memory, g .counts)
 
 -- what it asks of a record, part by part
 pub record GoodRecord (p : Protocol) (f : Fleet) : Type 0 where
@@ -106,15 +110,21 @@ pub record Sound (p : Protocol) : Type 0 where
   pub takes : Takes (p .rules)
   -- openings stay
   pub stops-opening : (k : ℕ) (t : Truck) → p .rules .stops k t .opening ≡ t .opening
-  pub plays-opening : (k : ℕ) (b m : Bool) (vs : List ℕ) (t : Truck) → p .rules .plays k b m vs t .opening ≡ t .opening
+  pub plays-opening : (k : ℕ) (b s m : Bool) (vs : List ℕ) (t : Truck) → p .rules .plays k b s m vs t .opening ≡ t .opening
   -- decisions are made in their rounds
-  pub in-time : (k : ℕ) (b m : Bool) (vs : List ℕ) (t : Truck) → runs t ≡ true → p .rules .plays k b m vs t .state ≡ Decided k → p .decisions k ≡ true
+  pub in-time : (k : ℕ) (b s m : Bool) (vs : List ℕ) (t : Truck) → runs t ≡ true → p .rules .plays k b s m vs t .state ≡ Decided k → p .decisions k ≡ true
   -- memories stay good
   pub opened-memory : (v : ℕ) → p .goodMemory 0 (opened v) ≡ true
   pub idle-memory : (done : ℕ) (t : Truck) → runs t ≡ false → p .goodMemory done t ≡ true → p .goodMemory (suc done) t ≡ true
   pub stops-memory : (done : ℕ) (t : Truck) → runs t ≡ true → p .goodMemory done t ≡ true → p .goodMemory (suc done) (p .rules .stops (suc done) t) ≡ true
-  pub plays-memory : (done : ℕ) (b m : Bool) (vs : List ℕ) (t : Truck) → runs t ≡ true → p .goodMemory done t ≡ true
-      → p .goodMemory (suc done) (p .rules .plays (suc done) b m vs t) ≡ true
+  pub plays-memory : (done : ℕ) (b s m : Bool) (vs : List ℕ) (t : Truck) → runs t ≡ true → p .goodMemory done t ≡ true
+      → p .goodMemory (suc done) (p .rules .plays (suc done) b s m vs t) ≡ true
+  -- counts stay good
+  pub opened-counts : (v : ℕ) → p .goodCounts 0 (opened v .sent) ≡ true
+  pub later-counts : (done : ℕ) (c : Sent) → p .goodCounts done c ≡ true → p .goodCounts (suc done) c ≡ true
+  pub stops-sent : (k : ℕ) (t : Truck) → p .rules .stops k t .sent ≡ t .sent
+  pub plays-counts : (done : ℕ) (b s m : Bool) (vs : List ℕ) (t : Truck) → p .goodCounts done (t .sent) ≡ true
+      → p .goodCounts (suc done) (p .rules .plays (suc done) b s m vs t .sent) ≡ true
 
 module _ (p : Protocol) (sound : Sound p) (n : ℕ) (active : ℕ → Bool) (done : ℕ) (w : List ℕ) (ts : List Truck)
     (before : (i : ℕ) → i < n → Good p done (truck ts i)) where
@@ -124,29 +134,33 @@ module _ (p : Protocol) (sound : Sound p) (n : ℕ) (active : ℕ → Bool) (don
   abbrev ts′ : List Truck
   ts′ = next (p .rules) n active (suc done) w ts
 
-  -- opening, state and memory; the estimate is `estimate-next`'s
+  -- opening, state, memory and counts; the estimate is `estimate-next`'s
   abbrev Rest : Truck → Type 0
-  Rest t = (leb (t .opening) 15 ≡ true) × (goodStateIn p (suc done) (t .state) ≡ true) × (p .goodMemory (suc done) t ≡ true)
+  Rest t =
+      (leb (t .opening) 15 ≡ true) × (goodStateIn p (suc done) (t .state) ≡ true) × (p .goodMemory (suc done) t ≡ true) × (p .goodCounts (suc done) (t .sent) ≡ true)
 
   rest : (i : ℕ) → i < n → Rest (truck ts′ i)
   rest i l =
       let t = truck ts i in
       let g = before i l in
       after-cases (p .rules) n active (suc done) w ts Rest i l
-      (λ h. (g .opening, state-later p done (t .state) (g .state), sound .idle-memory done t h (g .memory)))
+      (λ h. (g .opening, state-later p done (t .state) (g .state), sound .idle-memory done t h (g .memory), sound .later-counts done (t .sent) (g .counts)))
       (λ h s. (
         ap (λ (v : ℕ). leb v 15) (sound .stops-opening (suc done) t) ∙ g .opening,
         state-stopped p done (p .rules .stops (suc done) t .state) (sound .stamps .stops (suc done) t),
         sound .stops-memory done t h (g .memory),
+        ap (p .goodCounts (suc done)) (sound .stops-sent (suc done) t) ∙ sound .later-counts done (t .sent) (g .counts),
       ))
       (λ h r.
       let b = activeBit w i in
+      let s = a .sends i in
       let m = a .marked i in
       let vs = valuesIn recorded a ts i in
       rw (plays-is (p .rules) n active (suc done) w ts i) (
-        ap (λ (v : ℕ). leb v 15) (sound .plays-opening (suc done) b m vs t) ∙ g .opening,
-        state-played p done (p .rules .plays (suc done) b m vs t .state) (sound .in-time (suc done) b m vs t h) (sound .stamps .plays (suc done) b m vs t h),
-        sound .plays-memory done b m vs t h (g .memory),
+        ap (λ (v : ℕ). leb v 15) (sound .plays-opening (suc done) b s m vs t) ∙ g .opening,
+        state-played p done (p .rules .plays (suc done) b s m vs t .state) (sound .in-time (suc done) b s m vs t h) (sound .stamps .plays (suc done) b s m vs t h),
+        sound .plays-memory done b s m vs t h (g .memory),
+        sound .plays-counts done b s m vs t (g .counts),
       ))
 
   -- the record after a round
@@ -158,6 +172,7 @@ module _ (p : Protocol) (sound : Sound p) (n : ℕ) (active : ℕ → Bool) (don
         estimate = estimate-next (p .rules) n active (suc done) w ts (sound .takes) (λ (u : ℕ). leb u 15 ≡ true) i l (before i l .estimate) (λ j lj s. before j lj .estimate);
         state = r .1;
         memory = r .2;
+        counts = r .3;
       }
 
 -- every record of a run
@@ -168,6 +183,6 @@ good-at p sound n openings small good rounds k =
     (λ i l.
     let o : leb (getD openings i 0) 15 ≡ true = le-leb (getD openings i 0) 15 (good .opening i l) in
     rw (opened-truck (p .rules) n openings rounds i (omega arith))
-    (record { opening = o; estimate = o; state = refl; memory = sound .opened-memory (getD openings i 0) }))
+    (record { opening = o; estimate = o; state = refl; memory = sound .opened-memory (getD openings i 0); counts = sound .opened-counts (getD openings i 0) }))
     (λ k l h. good-next p sound n (activeBit (rounds k)) k (rounds k) (trucksIn (p .rules) n openings rounds k) h)
     k (omega arith)

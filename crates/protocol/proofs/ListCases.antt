@@ -10,6 +10,7 @@ use Rattle.recording.specs.Packed.{joined, packed, pack, packBit, roundBit, ope
 use Rattle.recording.specs.Checks.{badTrucks, badOpenings, highBit, badWords, ownBit, ownIn, ownLoss, ownRound, ownTruck, ownLossCheck, roundsCheck, roundCheck}
 use Rattle.protocol.specs.declared.Heard.the-variants.{One}
 use Rattle.protocol.specs.declared.State.the-variants.{Running}
+use Rattle.protocol.specs.declared.Sent.{Sent}
 use Rattle.protocol.specs.Cycles.{radioIn, valuesIn, playsIn, afterIn}
 use Rattle.protocol.specs.Rules.{truck, allSame, different, leastOr}
 use Rattle.protocol.specs.Runs.{openedIn}
@@ -34,9 +35,13 @@ pub recording-case : recordingOf 2 (3 ∷ 5 ∷ []) steps ≡ 0x08 ∷ 0x03 ∷ 
 unfolding recordingOf takenFrom isTaken highBit badWords ownBit ownIn ownLoss ownRound ownTruck ownLossCheck roundsCheck roundCheck first someBelow joined packed pack packBit roundBit openingBit bitsFor bytesFor numAt tab tabFrom
 recording-case = refl
 
+-- two proposals and a veto: both heard 3 and 5 in the first proposal round
+abbrev twoOne : Sent
+twoOne = record { proposals = 2; vetoes = 1 }
+
 -- both trucks have come to crusher 3, run, and remember one value
 pub record-case : (lastRecord (started 2 (3 ∷ 5 ∷ []) .fleet) steps .done ≡ 3)
-    × (truck (lastRecord (started 2 (3 ∷ 5 ∷ []) .fleet) steps .trucks) 0 ≡ record { opening = 3; estimate = 3; mark = false; heard = One; state = Running })
-    × (truck (lastRecord (started 2 (3 ∷ 5 ∷ []) .fleet) steps .trucks) 1 ≡ record { opening = 5; estimate = 3; mark = false; heard = One; state = Running })
+    × (truck (lastRecord (started 2 (3 ∷ 5 ∷ []) .fleet) steps .trucks) 0 ≡ record { opening = 3; estimate = 3; mark = false; heard = One; state = Running; sent = twoOne })
+    × (truck (lastRecord (started 2 (3 ∷ 5 ∷ []) .fleet) steps .trucks) 1 ≡ record { opening = 5; estimate = 3; mark = false; heard = One; state = Running; sent = twoOne })
 unfolding badOpenings lastRecordIn steppedIn stepCheckIn nextFleetIn goodFleetIn goodTruckIn started startCheck badTrucks highBit badWords ownBit ownIn ownLoss ownRound ownTruck ownLossCheck roundsCheck roundCheck first someBelow allBelow tab tabFrom filled who hears heardBy heard radioIn valuesIn playsIn afterIn openedIn allSame different leastOr
 record-case = (refl, refl, refl)

@@ -16,11 +16,11 @@ use Rattle.protocol.specs.declared.Truck.{Truck}
 use Rattle.protocol.specs.Cycles.{isRunning}
 use Rattle.protocol.specs.Claims.{isDecided}
 use Rattle.protocol.specs.Rules.{twoRules, truck, isOne, runs, vetoes, different, leastOr, stops, proposed, decides, vetoed, radioOf, valuesHeard, plays}
-use Rattle.protocol.specs.Fleets.{twoMemory, twoRound}
+use Rattle.protocol.specs.Fleets.{twoMemory, twoCounts, twoRound}
 use Rattle.protocol.proofs.AnyRound.{sends-rules, values-heard, plays-is}
 use Rattle.protocol.proofs.Good.{Sound}
 use Rattle.protocol.proofs.Decisions.{running-state, decided-state, decided-if, least-taken}
-use Rattle.protocol.proofs.Rules.{decides-parts, decides-by, sends-veto, plays-odd, plays-even, plays-cases, memory-even, memory-odd, memory-idle}
+use Rattle.protocol.proofs.Rules.{decides-parts, decides-by, sends-veto, plays-odd, plays-even, plays-cases, memory-even, memory-odd, memory-idle, counts-later, counts-proposed, counts-vetoed}
 
 -- the two-round cycle has what any cycle of fleet records has to show
 pub sound-two : Sound twoRound
@@ -28,29 +28,34 @@ sound-two =
     record {
       stamps = record {
         stops = λ k t. refl;
-        plays = λ k b m vs t h.
-            plays-cases k b m vs t (λ (u : Truck). (u .state ≡ Running) ⊎ (u .state ≡ Decided k))
+        plays = λ k b s m vs t h.
+            plays-cases k b s m vs t (λ (u : Truck). (u .state ≡ Running) ⊎ (u .state ≡ Decided k))
             (λ e. inl (running-state (t .state) h)) (λ e. decided-state k (decides m (ltb 0 (length vs)) t) (t .state) h);
       };
       takes = record {
         opened = λ v. refl;
         stops = λ k t. refl;
-        plays = λ k b m vs t.
-            plays-cases k b m vs t (λ (u : Truck). (u .estimate ≡ t .estimate) ⊎ List·Memᴰ (u .estimate) vs)
+        plays = λ k b s m vs t.
+            plays-cases k b s m vs t (λ (u : Truck). (u .estimate ≡ t .estimate) ⊎ List·Memᴰ (u .estimate) vs)
             (λ e. least-taken m (t .estimate) vs) (λ e. inl refl);
       };
       stops-opening = λ k t. refl;
-      plays-opening = λ k b m vs t. plays-cases k b m vs t (λ (u : Truck). u .opening ≡ t .opening) (λ e. refl) (λ e. refl);
-      in-time = λ k b m vs t h.
-          plays-cases k b m vs t (λ (u : Truck). u .state ≡ Decided k → not (odd k) ≡ true)
+      plays-opening = λ k b s m vs t. plays-cases k b s m vs t (λ (u : Truck). u .opening ≡ t .opening) (λ e. refl) (λ e. refl);
+      in-time = λ k b s m vs t h.
+          plays-cases k b s m vs t (λ (u : Truck). u .state ≡ Decided k → not (odd k) ≡ true)
           (λ e d. absurd (false≢true (sym (ap isRunning d) ∙ h))) (λ e d. ap not e);
       opened-memory = λ v. refl;
       idle-memory = λ done t h g. memory-idle (suc done) t h ∙ sym (memory-idle done t h) ∙ g;
       stops-memory = λ done t h g. memory-idle (suc done) (stops (suc done) t) refl;
-      plays-memory = λ done b m vs t h g.
-          plays-cases (suc done) b m vs t (λ (u : Truck). twoMemory (suc done) u ≡ true)
-          (λ e. memory-odd (suc done) (proposed m (different vs) (leastOr (t .estimate) vs) t) e h)
-          (λ e. memory-even (suc done) (vetoed (suc done) m (ltb 0 (length vs)) t) e);
+      plays-memory = λ done b s m vs t h g.
+          plays-cases (suc done) b s m vs t (λ (u : Truck). twoMemory (suc done) u ≡ true)
+          (λ e. memory-odd (suc done) (proposed s m (different vs) (leastOr (t .estimate) vs) t) e h)
+          (λ e. memory-even (suc done) (vetoed (suc done) s m (ltb 0 (length vs)) t) e);
+      opened-counts = λ v. refl;
+      later-counts = counts-later;
+      stops-sent = λ k t. refl;
+      plays-counts = λ done b s m vs t g.
+          plays-cases (suc done) b s m vs t (λ (u : Truck). twoCounts (suc done) (u .sent) ≡ true) (counts-proposed done s m vs t g) (counts-vetoed done s m vs t g);
     }
 
 module _ (n : ℕ) (active : ℕ → Bool) (k : ℕ) (w : List ℕ) (ts : List Truck) where
@@ -64,16 +69,16 @@ module _ (n : ℕ) (active : ℕ → Bool) (k : ℕ) (w : List ℕ) (ts : List T
   -- what the two kinds of round make of a truck that plays
   pub plays-proposal : (i : ℕ) → odd k ≡ true
       → plays (radioOf n active k w ts) k w ts i
-      ≡ proposed (radioOf n active k w ts .marked i) (different (valuesHeard (radioOf n active k w ts) ts i))
+      ≡ proposed (radioOf n active k w ts .sends i) (radioOf n active k w ts .marked i) (different (valuesHeard (radioOf n active k w ts) ts i))
       (leastOr (truck ts i .estimate) (valuesHeard (radioOf n active k w ts) ts i)) (truck ts i)
-  plays-proposal i e = plays-is twoRules n active k w ts i ∙ plays-odd k (activeBit w i) (a .marked i) (valuesHeard a ts i) (truck ts i) e
+  plays-proposal i e = plays-is twoRules n active k w ts i ∙ plays-odd k (activeBit w i) (a .sends i) (a .marked i) (valuesHeard a ts i) (truck ts i) e
 
   pub plays-veto : (i : ℕ) → odd k ≡ false
-      → plays (radioOf n active k w ts) k w ts i ≡ vetoed k (radioOf n active k w ts .marked i) (ltb 0 (heard (radioOf n active k w ts) i)) (truck ts i)
+      → plays (radioOf n active k w ts) k w ts i ≡ vetoed k (radioOf n active k w ts .sends i) (radioOf n active k w ts .marked i) (ltb 0 (heard (radioOf n active k w ts) i)) (truck ts i)
   plays-veto i e =
       plays-is twoRules n active k w ts i
-      ∙ plays-even k (activeBit w i) (a .marked i) (valuesHeard a ts i) (truck ts i) e
-      ∙ ap (λ (m : ℕ). vetoed k (a .marked i) (ltb 0 m) (truck ts i)) (values-heard twoRules n active k w ts i)
+      ∙ plays-even k (activeBit w i) (a .sends i) (a .marked i) (valuesHeard a ts i) (truck ts i) e
+      ∙ ap (λ (m : ℕ). vetoed k (a .sends i) (a .marked i) (ltb 0 m) (truck ts i)) (values-heard twoRules n active k w ts i)
 
   -- a proposal round leaves a truck that plays it running
   pub proposal-runs : (i : ℕ) → odd k ≡ true → runs (truck ts i) ≡ true → isDecided (plays (radioOf n active k w ts) k w ts i .state) ≡ false

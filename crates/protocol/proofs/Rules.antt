@@ -1,23 +1,27 @@
 -- Laws of the two-round rules for one truck: who sends and who vetoes, who decides, what each kind of round makes of a truck that plays it, and what
--- refusal 7 asks of its memory. Where they can, the proofs go by cases and not by the text of the rules. A truck with other memory than t is `proposed` of t.
+-- refusal 7 asks of its memory and of its counts. Where they can, the proofs go by cases and not by the text of the rules. A truck with other memory than t is `proposed` of t.
 use mathlib.Core.Path.{_≡_, refl, sym, subst}
 use mathlib.Core.Bool.{Bool, true, false, true≢false, false≢true}
 use mathlib.Core.List.{List}
-use Prim.Native.Nat.{ℕ}
-use lib.Dec.{ltb}
+use Prim.Native.Nat.{ℕ, suc, _+_, _/_, _%_, _≤_}
+use native.Mathlib.Omega.{arith}
+use borrow.Author.Tests.{le-leb, leb-true, eqb-true, eqb-false}
+use lib.Dec.{ltb, leb}
 use lib.ListN.{length}
 use Rattle.basics.specs.Bits.{odd}
+use Rattle.basics.proofs.Laws.{and-left, and-right}
 use Rattle.protocol.specs.declared.Heard.{Heard}
 use Rattle.protocol.specs.declared.Heard.the-variants.{Nothing, One, Several}
+use Rattle.protocol.specs.declared.Sent.{Sent}
 use Rattle.protocol.specs.declared.Truck.{Truck}
-use Rattle.protocol.specs.Rules.{isSeveral, isOne, runs, vetoes, different, leastOr, proposed, decides, vetoed, twoRules}
-use Rattle.protocol.specs.Fleets.{isEmpty, twoMemory}
+use Rattle.protocol.specs.Rules.{isSeveral, isOne, runs, vetoes, different, leastOr, counted, proposed, decides, vetoed, twoRules}
+use Rattle.protocol.specs.Fleets.{isEmpty, twoMemory, twoCounts}
 
 -- a truck without a veto: it had no mark and did not hear several values
 pub no-veto-parts : (t : Truck) → vetoes t ≡ false → (t .mark ≡ false) × (isSeveral (t .heard) ≡ false)
 no-veto-parts t h = go (t .mark) (t .heard) h
   where
-    go : (m : Bool) (h : Heard) → vetoes (proposed m h 0 t) ≡ false → (m ≡ false) × (isSeveral h ≡ false)
+    go : (m : Bool) (h : Heard) → vetoes (proposed false m h 0 t) ≡ false → (m ≡ false) × (isSeveral h ≡ false)
     go false Nothing g = (refl, refl)
     go false One g = (refl, refl)
     go false Several g = absurd (true≢false g)
@@ -32,7 +36,7 @@ no-veto-by t m h = rw (m, h)
 pub decides-parts : (m veto : Bool) (t : Truck) → decides m veto t ≡ true → (veto ≡ false) × (m ≡ false) × (isOne (t .heard) ≡ true)
 decides-parts m veto t h = go m veto (t .heard) h
   where
-    go : (m v : Bool) (h : Heard) → decides m v (proposed m h 0 t) ≡ true → (v ≡ false) × (m ≡ false) × (isOne h ≡ true)
+    go : (m v : Bool) (h : Heard) → decides m v (proposed false m h 0 t) ≡ true → (v ≡ false) × (m ≡ false) × (isOne h ≡ true)
     go false false One g = (refl, refl, refl)
     go false false Nothing g = absurd (false≢true g)
     go false false Several g = absurd (false≢true g)
@@ -54,18 +58,18 @@ pub sends-veto : (k : ℕ) (active : Bool) (t : Truck) → odd k ≡ false → t
 sends-veto k active t e = rw e
 
 -- a truck that plays round k, by the kind of round
-module _ (k : ℕ) (b m : Bool) (vs : List ℕ) (t : Truck) where
-  pub plays-odd : odd k ≡ true → twoRules .plays k b m vs t ≡ proposed m (different vs) (leastOr (t .estimate) vs) t
+module _ (k : ℕ) (b s m : Bool) (vs : List ℕ) (t : Truck) where
+  pub plays-odd : odd k ≡ true → twoRules .plays k b s m vs t ≡ proposed s m (different vs) (leastOr (t .estimate) vs) t
   plays-odd e = rw e
 
-  pub plays-even : odd k ≡ false → twoRules .plays k b m vs t ≡ vetoed k m (ltb 0 (length vs)) t
+  pub plays-even : odd k ≡ false → twoRules .plays k b s m vs t ≡ vetoed k s m (ltb 0 (length vs)) t
   plays-even e = rw e
 
-  pub plays-cases : (P : Truck → Type 0) → (odd k ≡ true → P (proposed m (different vs) (leastOr (t .estimate) vs) t))
-      → (odd k ≡ false → P (vetoed k m (ltb 0 (length vs)) t)) → P (twoRules .plays k b m vs t)
+  pub plays-cases : (P : Truck → Type 0) → (odd k ≡ true → P (proposed s m (different vs) (leastOr (t .estimate) vs) t))
+      → (odd k ≡ false → P (vetoed k s m (ltb 0 (length vs)) t)) → P (twoRules .plays k b s m vs t)
   plays-cases P proposal veto = go (odd k) refl
     where
-      go : (o : Bool) → odd k ≡ o → P (twoRules .plays k b m vs t)
+      go : (o : Bool) → odd k ≡ o → P (twoRules .plays k b s m vs t)
       go true e = subst P (sym (plays-odd e)) (proposal e)
       go false e = subst P (sym (plays-even e)) (veto e)
 
@@ -83,3 +87,36 @@ module _ (done : ℕ) (t : Truck) where
       go : (o : Bool) → odd done ≡ o → twoMemory done t ≡ isEmpty (t .mark) (t .heard)
       go true e = rw (e, h)
       go false e = memory-even e
+
+-- the counts that refusal 7 lets pass
+pub counts-parts : (done : ℕ) (c : Sent) → twoCounts done c ≡ true → (c .proposals ≤ (done + 1) / 2) × (c .vetoes ≤ done / 2)
+counts-parts done c h = (
+  leb-true (c .proposals) ((done + 1) / 2) (and-left (leb (c .proposals) ((done + 1) / 2)) (leb (c .vetoes) (done / 2)) h),
+  leb-true (c .vetoes) (done / 2) (and-right (leb (c .proposals) ((done + 1) / 2)) (leb (c .vetoes) (done / 2)) h),
+)
+
+pub counts-by : (done : ℕ) (c : Sent) → c .proposals ≤ (done + 1) / 2 → c .vetoes ≤ done / 2 → twoCounts done c ≡ true
+counts-by done c p v = rw (le-leb (c .proposals) ((done + 1) / 2) p, le-leb (c .vetoes) (done / 2) v)
+
+counted-most : (sends : Bool) (c : ℕ) → counted sends c ≤ c + 1
+counted-most true c = omega arith
+counted-most false c = omega arith
+
+-- with one more round done: of a truck that sent nothing in it, and of one that played it
+pub counts-later : (done : ℕ) (c : Sent) → twoCounts done c ≡ true → twoCounts (suc done) c ≡ true
+counts-later done c h =
+    let g = counts-parts done c h in
+    counts-by (suc done) c (omega (arith, g .0)) (omega (arith, g .1))
+
+module _ (done : ℕ) (s m : Bool) (vs : List ℕ) (t : Truck) (h : twoCounts done (t .sent) ≡ true) where
+  pub counts-proposed : odd (suc done) ≡ true → twoCounts (suc done) (proposed s m (different vs) (leastOr (t .estimate) vs) t .sent) ≡ true
+  counts-proposed e =
+      let g = counts-parts done (t .sent) h in
+      counts-by (suc done) (proposed s m (different vs) (leastOr (t .estimate) vs) t .sent)
+      (omega (arith, g .0, counted-most s (t .sent .proposals), eqb-true (suc done % 2) 1 e)) (omega (arith, g .1))
+
+  pub counts-vetoed : odd (suc done) ≡ false → twoCounts (suc done) (vetoed (suc done) s m (ltb 0 (length vs)) t .sent) ≡ true
+  counts-vetoed e =
+      let g = counts-parts done (t .sent) h in
+      counts-by (suc done) (vetoed (suc done) s m (ltb 0 (length vs)) t .sent)
+      (omega (arith, g .0)) (omega (arith, g .1, counted-most s (t .sent .vetoes), eqb-false (suc done % 2) 1 e))

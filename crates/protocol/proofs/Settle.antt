@@ -34,7 +34,7 @@ module _ (n : ℕ) (active : ℕ → Bool) (k : ℕ) (w : List ℕ) (ts : List T
 
   -- a truck that runs after a calm proposal round had no mark, and heard every value that was sent, at least one
   heard-all : (b i : ℕ) → odd k ≡ true → calmRound b true a ≡ true → i < n → runs (truck ts′ i) ≡ true
-      → (truck ts′ i ≡ proposed false (different sent) (leastOr (truck ts i .estimate) sent) (truck ts i)) × ((u : ℕ) × List·Memᴰ u sent)
+      → (truck ts′ i ≡ proposed (a .sends i) false (different sent) (leastOr (truck ts i .estimate) sent) (truck ts i)) × ((u : ℕ) × List·Memᴰ u sent)
   heard-all b i e c l r =
       let p = next-played twoRules n active k w ts (sound-two .stamps) i l r in
       let h = calm-all twoRules n active k w ts b c i l (p .0) in

@@ -1,12 +1,14 @@
 -- What demand 3 says (document 01, 'Whole lists of steps'), for any protocol. Who runs, sends, hears, misses, stops and decides is `trucksIn` and `radiosIn`:
 -- it follows from n, the openings and the words of the rounds.
 use mathlib.Core.Path.{_≡_}
-use mathlib.Core.Bool.{Bool, true, false}
+use mathlib.Core.Bool.{Bool, true, false, cond, not, _&&_}
 use mathlib.Core.List.{List}
 use Prim.Native.Nat.{ℕ, _+_, _≤_, _<_}
 use lib.Dec.{eqb}
 use lib.ListN.{length, getD}
-use Rattle.radio.specs.Radio.{Radio, majorityComplete, calmFor}
+use Rattle.basics.specs.Bits.{odd}
+use Rattle.radio.specs.Round.{activeBit}
+use Rattle.radio.specs.Radio.{Radio, majorityComplete, calmFor, timesSent}
 use Rattle.refusals.specs.declared.Outcome.the-variants.{Accepted}
 use Rattle.refusals.specs.declared.Refusal.the-variants.{RoundsDone}
 use Rattle.refusals.specs.Outcomes.{refuse}
@@ -15,9 +17,9 @@ use Rattle.recording.specs.Packed.{trucksOf, roundsOf, openingsOf, roundAt}
 use Rattle.protocol.specs.declared.State.{State}
 use Rattle.protocol.specs.declared.State.the-variants.{Running, Stopped, Decided}
 use Rattle.protocol.specs.declared.Fleet.{Fleet}
-use Rattle.protocol.specs.Rules.{truck}
-use Rattle.protocol.specs.Runs.{radiosIn}
-use Rattle.protocol.specs.Fleets.{Protocol, twoRound, started, steppedIn, ranIn}
+use Rattle.protocol.specs.Rules.{truck, radioOf}
+use Rattle.protocol.specs.Runs.{radiosIn, radioAt}
+use Rattle.protocol.specs.Fleets.{Protocol, twoRound, started, steppedIn, stepped, ranIn}
 use Rattle.protocol.specs.Steps.{lastRecordIn, taken, roundIn, recordingOf}
 
 abbrev pub isDecided : State → Bool
@@ -103,3 +105,25 @@ MajorityAgreement = HoldsIn twoRound (agreesWith MajorityMarks)
 -- agreement, and decisions being openings, with cheaper marks in even rounds (document 02, F-12); false marks are allowed, and nothing else is assumed
 abbrev pub MixedAgreement : Type 0
 MixedAgreement = HoldsIn twoRound (agreesWith MixedMarks)
+
+-- each truck below n has sent as many proposals as there are odd rounds in which it sends, and as many vetoes as there are even ones
+abbrev pub countsSent : Claim
+countsSent n openings rounds R f =
+    (i : ℕ) → i < n
+    → (truck (f .trucks) i .sent .proposals ≡ timesSent odd (radioAt n openings rounds) i R)
+    × (truck (f .trucks) i .sent .vetoes ≡ timesSent (λ k. not (odd k)) (radioAt n openings rounds) i R)
+
+-- what the counts are from a fresh start (document 02, F-5)
+abbrev pub SentCounts : Type 0
+SentCounts = HoldsIn twoRound countsSent
+
+-- a step of a record adds 1 to a count of a truck exactly if its round is of that kind and the truck sends in it
+abbrev pub StepCounts : Type 0
+StepCounts =
+    (f : Fleet) (w : List ℕ) → stepped f w .outcome ≡ Accepted → (i : ℕ) → i < f .n
+    → let k = f .done + 1 in
+    let a = radioOf (f .n) (activeBit w) k w (f .trucks) in
+    let t = truck (f .trucks) i in
+    let t′ = truck (stepped f w .fleet .trucks) i in
+    (t′ .sent .proposals ≡ cond (odd k && a .sends i) (t .sent .proposals + 1) (t .sent .proposals))
+    × (t′ .sent .vetoes ≡ cond (not (odd k) && a .sends i) (t .sent .vetoes + 1) (t .sent .vetoes))

@@ -27,8 +27,9 @@ pub record Rules {T : Type 0} (K : Kind T) : Type 0 where
   pub sends : ℕ → Bool → T → Bool
   -- what a stop in round k leaves of a truck
   pub stops : ℕ → T → T
-  -- what round k makes of a truck that plays it, by the bit in the place of its active bit, its mark, and the estimates of the senders that it hears
-  pub plays : ℕ → Bool → Bool → List ℕ → T → T
+  -- what round k makes of a truck that plays it, by the bit in the place of its active bit, whether it sends, its mark, and the estimates of the senders that it
+  -- hears
+  pub plays : ℕ → Bool → Bool → Bool → List ℕ → T → T
 
 -- a round for one truck: a truck that isn't running is left alone; a running one with its stop bit set stops; any other plays
 abbrev pub turn : {T : Type 0} → State → Bool → T → T → T → T
@@ -64,7 +65,7 @@ module _ {T : Type 0} {K : Kind T} (c : Rules K) where
 
   -- what round k makes of truck i, if it runs and doesn't stop
   unfoldable pub playsIn : Radio → ℕ → List ℕ → List T → ℕ → T
-  playsIn a k w ts i = c .plays k (activeBit w i) (markBit w i) (valuesIn K a ts i) (truckIn K ts i)
+  playsIn a k w ts i = c .plays k (activeBit w i) (a .sends i) (markBit w i) (valuesIn K a ts i) (truckIn K ts i)
 
   -- the trucks after round k with the words w; places n and above stay as they are
   unfoldable pub afterIn : ℕ → (ℕ → Bool) → ℕ → List ℕ → List T → List T

@@ -1,6 +1,6 @@
 -- Starting, stepping, running and grading a fleet, with their refusals (document 01, 'Who can cause which refusal'). The laws of what refusal 7 asks are in
 -- proofs/Good.
-use Prim.Native.Nat.{ℕ, _+_}
+use Prim.Native.Nat.{ℕ, _+_, _/_}
 use mathlib.Core.Bool.{Bool, true, false, cond, not, _&&_, _||_}
 use mathlib.Core.List.{List, [], _∷_}
 use lib.Dec.{eqb, leb, ltb}
@@ -19,6 +19,7 @@ use Rattle.protocol.specs.declared.Heard.{Heard}
 use Rattle.protocol.specs.declared.Heard.the-variants.{Nothing, One, Several}
 use Rattle.protocol.specs.declared.State.{State}
 use Rattle.protocol.specs.declared.State.the-variants.{Running, Stopped, Decided}
+use Rattle.protocol.specs.declared.Sent.{Sent}
 use Rattle.protocol.specs.declared.Truck.{Truck}
 use Rattle.protocol.specs.declared.Fleet.{Fleet}
 use Rattle.protocol.specs.declared.Answer.{Answer}
@@ -30,7 +31,7 @@ use Rattle.protocol.specs.Cycles.{Rules, afterIn}
 use Rattle.protocol.specs.Rules.{recorded, twoRules, truck, runs}
 use Rattle.protocol.specs.Runs.{openedTrucks, trucksIn, radiosIn, gradesFor}
 
--- the record that a refused start or run holds: n 0, no rounds done, and in every place a running truck of opening and estimate 0 with empty memory
+-- the record that a refused start or run holds: n 0, no rounds done, and in every place a running truck of opening and estimate 0 with empty memory and counts 0
 unfoldable pub blank : Fleet
 blank = record { n = 0; done = 0; trucks = openedTrucks [] }
 
@@ -54,6 +55,8 @@ pub record Protocol : Type 0 where
   pub decisions : ℕ → Bool
   -- what refusal 7 asks of a truck's memory with some rounds done
   pub goodMemory : ℕ → Truck → Bool
+  -- what it asks of a truck's counts
+  pub goodCounts : ℕ → Sent → Bool
   -- what the marks of round k must be worth for agreement
   pub worth : ℕ → Radio → Bool
   -- calm from S lasts from round S to round S + `calmSpan`
@@ -71,6 +74,10 @@ isEmpty mark Several = false
 abbrev pub twoMemory : ℕ → Truck → Bool
 twoMemory done t = implies (not (odd done) || not (runs t)) (isEmpty (t .mark) (t .heard))
 
+-- in the two-round cycle no truck has sent more proposals than there are odd rounds among those done, nor more vetoes than even ones
+abbrev pub twoCounts : ℕ → Sent → Bool
+twoCounts done c = leb (c .proposals) ((done + 1) / 2) && leb (c .vetoes) (done / 2)
+
 -- in the two-round cycle marks must be majority complete in odd rounds and zero complete in even ones
 abbrev pub twoWorth : ℕ → Radio → Bool
 twoWorth k a = cond (odd k) (majorityComplete a) (zeroComplete a)
@@ -82,6 +89,7 @@ twoRound =
       rules = twoRules;
       decisions = λ k. not (odd k);
       goodMemory = twoMemory;
+      goodCounts = twoCounts;
       worth = twoWorth;
       calmSpan = 4;
       proposes = odd;
@@ -108,9 +116,10 @@ module _ (p : Protocol) where
   goodStateIn done (Stopped k) = isDone done k
   goodStateIn done (Decided k) = isDone done k && p .decisions k
 
-  -- what refusal 7 asks of one truck: no crusher above 15, a good round, and a good memory
+  -- what refusal 7 asks of one truck: no crusher above 15, a good round, a good memory, and good counts
   unfoldable pub goodTruckIn : ℕ → Truck → Bool
-  goodTruckIn done t = leb (t .opening) 15 && leb (t .estimate) 15 && goodStateIn done (t .state) && p .goodMemory done t
+  goodTruckIn done t =
+      leb (t .opening) 15 && leb (t .estimate) 15 && goodStateIn done (t .state) && p .goodMemory done t && p .goodCounts done (t .sent)
 
   -- a fleet record that refusal 7 lets pass; places n and above are not read
   unfoldable pub goodFleetIn : Fleet → Bool

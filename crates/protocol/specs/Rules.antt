@@ -1,6 +1,6 @@
 -- The rules of the two-round cycle (document 01, 'The fleet and its rounds'): odd rounds are for proposals, even rounds for vetoes.
 -- Their laws are in proofs/Rules and, for lists of values, in proofs/Values.
-use Prim.Native.Nat.{ℕ, min}
+use Prim.Native.Nat.{ℕ, _+_, min}
 use mathlib.Core.Bool.{Bool, true, false, cond, not, _&&_, _||_}
 use mathlib.Core.List.{List, [], _∷_}
 use lib.Dec.{eqb, ltb}
@@ -13,9 +13,9 @@ use Rattle.protocol.specs.declared.State.the-variants.{Running, Stopped,
 use Rattle.protocol.specs.declared.Truck.{Truck}
 use Rattle.protocol.specs.Cycles.{Kind, Rules, truckIn, runsIn, valuesIn, radioIn, playsIn, afterIn}
 
--- a truck of a fleet record before round 1, in any cycle: running, its estimate is its opening, its memory reads no mark and no value
+-- a truck of a fleet record before round 1, in any cycle: running, its estimate is its opening, its memory reads no mark and no value, both counts are 0
 abbrev pub opened : ℕ → Truck
-opened v = record { opening = v; estimate = v; mark = false; heard = Nothing; state = Running }
+opened v = record { opening = v; estimate = v; mark = false; heard = Nothing; state = Running; sent = record { proposals = 0; vetoes = 0 } }
 
 -- what the trucks of a fleet record show
 abbrev pub recorded : Kind Truck
@@ -58,27 +58,40 @@ unfoldable pub leastOr : ℕ → List ℕ → ℕ
 leastOr e [] = e
 leastOr e (v ∷ vs) = min v (leastOr v vs)
 
--- a truck stops in round k
-abbrev pub stops : ℕ → Truck → Truck
-stops k t = record { opening = t .opening; estimate = t .estimate; mark = false; heard = Nothing; state = Stopped k }
+-- a count of what a truck sent, after a round of that kind: 1 more exactly if it sends
+abbrev pub counted : Bool → ℕ → ℕ
+counted sends c = cond sends (c + 1) c
 
--- after a proposal round with mark m: h says how many different values it heard, v is the least of them (its estimate where it heard none)
-abbrev pub proposed : Bool → Heard → ℕ → Truck → Truck
-proposed m h v t = record { opening = t .opening; estimate = cond m (t .estimate) v; mark = m; heard = h; state = t .state }
+-- a truck stops in round k; it keeps its counts
+abbrev pub stops : ℕ → Truck → Truck
+stops k t = record { opening = t .opening; estimate = t .estimate; mark = false; heard = Nothing; state = Stopped k; sent = t .sent }
+
+-- after a proposal round with mark m, in which it sends or not: h says how many different values it heard, v is the least of them (its estimate where it heard none)
+abbrev pub proposed : Bool → Bool → Heard → ℕ → Truck → Truck
+proposed sends m h v t =
+    record {
+      opening = t .opening;
+      estimate = cond m (t .estimate) v;
+      mark = m;
+      heard = h;
+      state = t .state;
+      sent = record { proposals = counted sends (t .sent .proposals); vetoes = t .sent .vetoes };
+    }
 
 -- it decides after a veto round: it heard no veto, has no mark now, and in the proposal round had exactly one value
 abbrev pub decides : Bool → Bool → Truck → Bool
 decides m veto t = not veto && not m && isOne (t .heard)
 
--- after the veto round k with mark m; `veto` says whether it heard one
-abbrev pub vetoed : ℕ → Bool → Bool → Truck → Truck
-vetoed k m veto t =
+-- after the veto round k with mark m, in which it sends or not; `veto` says whether it heard one
+abbrev pub vetoed : ℕ → Bool → Bool → Bool → Truck → Truck
+vetoed k sends m veto t =
     record {
       opening = t .opening;
       estimate = t .estimate;
       mark = false;
       heard = Nothing;
       state = cond (decides m veto t) (Decided k) (t .state);
+      sent = record { proposals = t .sent .proposals; vetoes = counted sends (t .sent .vetoes) };
     }
 
 -- the rules of the two-round cycle: in odd rounds a truck sends its estimate if it is active, in even rounds its veto if it has one;
@@ -88,7 +101,8 @@ twoRules =
     record {
       sends = λ k active t. cond (odd k) active (vetoes t);
       stops = stops;
-      plays = λ k active m vs t. cond (odd k) (proposed m (different vs) (leastOr (t .estimate) vs) t) (vetoed k m (ltb 0 (length vs)) t);
+      plays = λ k active sends m vs t.
+          cond (odd k) (proposed sends m (different vs) (leastOr (t .estimate) vs) t) (vetoed k sends m (ltb 0 (length vs)) t);
     }
 
 -- one round of it: on the radio, the values that a truck hears, what it makes of a truck that plays, and of all trucks

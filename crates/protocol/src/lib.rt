@@ -17,13 +17,21 @@ pub enum State {
     Decided(u16),
 }
 
-// One truck: its opening and present estimate, and what it heard in the proposal round before: whether it had a mark, and how many values.
+// How many messages of each kind a truck has sent. There are at most 200 rounds of each kind, so a byte holds a count.
+pub struct Sent {
+    pub proposals: u8,
+    pub vetoes: u8,
+}
+
+// One truck: its opening and present estimate; what it heard in the proposal round before: whether it had a mark, and how many values; its state; and how much
+// it has sent.
 pub struct Truck {
     pub opening: u8,
     pub estimate: u8,
     pub mark: bool,
     pub heard: Heard,
     pub state: State,
+    pub sent: Sent,
 }
 
 // A fleet of n trucks with some rounds done. Places n and above of the array hold no truck of the fleet.

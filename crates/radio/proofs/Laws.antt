@@ -10,7 +10,7 @@ use lib.Dec.{ltb, leb, eqb}
 use lib.ListN.{length, length-append}
 use Rattle.basics.specs.Lists.{who, allBelow, someBelow}
 use Rattle.basics.proofs.Laws.{who-ext, and-left, and-right, and-both, allBelow-at, allBelow-all, someBelow-at, someBelow-by, someBelow-none, none-someBelow}
-use Rattle.radio.specs.Radio.{Radio, implies, sent, hears, heardBy, heard, misses, missesAny, judged, complete, majorityComplete, zeroComplete, accurate, inFull, fewSenders, someRunning, calmRound, calmFor}
+use Rattle.radio.specs.Radio.{Radio, implies, sent, hears, heardBy, heard, misses, missesAny, judged, complete, majorityComplete, zeroComplete, accurate, inFull, fewSenders, someRunning, calmRound, calmFor, timesSent}
 
 -- how many of the first m have p
 abbrev count : (ℕ → Bool) → ℕ → ℕ
@@ -23,6 +23,16 @@ count-suc p m = length-append (who p m) (cond (p m) (m ∷ []) []) ∙ ap (λ (k
     go : (b : Bool) → length (cond b (m ∷ []) []) ≡ cond b 1 0
     go true = refl
     go false = refl
+
+-- how often a truck sends, round by round
+pub times-none : (kind : ℕ → Bool) (radios : ℕ → Radio) (i : ℕ) → timesSent kind radios i 0 ≡ 0
+unfolding timesSent who
+times-none kind radios i = refl
+
+pub times-suc : (kind : ℕ → Bool) (radios : ℕ → Radio) (i R : ℕ)
+    → timesSent kind radios i (suc R) ≡ timesSent kind radios i R + cond (kind (suc R) && radios (suc R) .sends i) 1 0
+unfolding timesSent
+times-suc kind radios i R = count-suc (λ e. kind (suc e) && radios (suc e) .sends i) R
 
 -- two sets within s with no common element have sizes that add up to at most that of s
 overlap : (p q s : ℕ → Bool) (m : ℕ)

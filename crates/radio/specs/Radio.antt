@@ -94,3 +94,7 @@ unfoldable pub firstBreak : (Radio → Bool) → (ℕ → Radio) → ℕ → ℕ
 firstBreak class radios R =
     let k = first (λ e. not (class (radios (suc e)))) R in
     cond (ltb k R) (suc k) 0
+
+-- in how many of the rounds 1 to R that are of a kind truck i sends
+unfoldable pub timesSent : (ℕ → Bool) → (ℕ → Radio) → ℕ → ℕ → ℕ
+timesSent kind radios i R = length (who (λ e. kind (suc e) && radios (suc e) .sends i) R)

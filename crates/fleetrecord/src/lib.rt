@@ -2,6 +2,7 @@
 use protocol::Answer;
 use protocol::Fleet;
 use protocol::Heard;
+use protocol::Sent;
 use protocol::State;
 use protocol::Truck;
 use refusals::Outcome;
@@ -13,7 +14,7 @@ ghost use Rattle.refusals.specs.declared.Outcome.the-variants.{Refused};
 ghost use Rattle.basics.specs.Bits.{odd};
 ghost use Rattle.basics.specs.Lists.{allBelow};
 ghost use Rattle.protocol.specs.Rules.{opened, truck};
-ghost use Rattle.protocol.specs.Fleets.{blank, started, isEmpty, goodState, goodTruck, goodFleet};
+ghost use Rattle.protocol.specs.Fleets.{blank, started, isEmpty, twoCounts, goodState, goodTruck, goodFleet};
 ghost use Rattle.fleetrecord.specs.Opens.{openFleet};
 
 fn opened(v: u8) -> Truck
@@ -25,6 +26,10 @@ fn opened(v: u8) -> Truck
         mark: false,
         heard: Heard::Nothing,
         state: State::Running,
+        sent: Sent {
+            proposals: 0,
+            vetoes: 0,
+        },
     }
 }
 
@@ -82,13 +87,25 @@ fn good_state(done: u16, state: State) -> bool
     }
 }
 
+// No more proposals than odd rounds done, and no more vetoes than even ones.
+fn good_counts(done: u16, sent: Sent) -> bool
+    ensures { λ r. ⌜ r ≡ twoCounts done sent ⌝ }
+{
+    (sent.proposals as u16 <= done / 2 + done % 2) & (sent.vetoes as u16 <= done / 2)
+}
+
 fn good_truck(done: u16, t: Truck) -> bool
     ensures { λ r. ⌜ r ≡ goodTruck done t ⌝ }
 {
     let state = t.state;
     let heard = t.heard;
+    let sent = t.sent;
     let memory = !(!is_odd(done) | !truck::runs(t)) | is_empty(t.mark, heard);
-    (t.opening <= 15) & (t.estimate <= 15) & good_state(done, state) & memory
+    (t.opening <= 15)
+        & (t.estimate <= 15)
+        & good_state(done, state)
+        & memory
+        & good_counts(done, sent)
 }
 
 fn good_trucks(f: Fleet) -> bool

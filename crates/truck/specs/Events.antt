@@ -1,7 +1,8 @@
 -- What a round makes of one truck (document 01, 'The fleet and its rounds').
 use Prim.Native.Nat.{ℕ}
-use mathlib.Core.Bool.{false}
+use mathlib.Core.Bool.{Bool, false, _&&_}
 use mathlib.Core.List.{List}
+use lib.Dec.{ltb}
 use lib.ListN.{getD}
 use Rattle.basics.specs.Lists.{filled}
 use Rattle.protocol.specs.Cycles.{turn}
@@ -11,11 +12,15 @@ use Rattle.protocol.specs.Rules.{stops, proposed, vetoed, truck}
 use Rattle.truck.specs.declared.Event.{Event}
 use Rattle.truck.specs.declared.Event.the-variants.{Stop, Proposals, Vetoes}
 
+-- it sends and its count of that kind has room: a byte holds at most 255, and refusal 7 lets no count above 200 pass
+abbrev pub adds : Bool → ℕ → Bool
+adds sends c = sends && ltb c 255
+
 -- of a running truck in round k
 abbrev pub happened : ℕ → Event → Truck → Truck
 happened k Stop t = stops k t
-happened k (Proposals m h v) t = proposed m h v t
-happened k (Vetoes m veto) t = vetoed k m veto t
+happened k (Proposals sends m h v) t = proposed (adds sends (t .sent .proposals)) m h v t
+happened k (Vetoes sends m veto) t = vetoed k (adds sends (t .sent .vetoes)) m veto t
 
 -- of any truck: one that isn't running is left alone
 abbrev pub turned : ℕ → Event → Truck → Truck

@@ -1,21 +1,31 @@
 // What a round makes of one truck: by value, and where its record stands.
 use protocol::Fleet;
 use protocol::Heard;
+use protocol::Sent;
 use protocol::State;
 use protocol::Truck;
 ghost use mathlib.Core.Path.{_≡_};
 ghost use Prim.Native.Nat.{min};
-ghost use Rattle.protocol.specs.Rules.{runs, vetoes, isOne, isSeveral, stops, proposed, vetoed, decides};
-ghost use Rattle.truck.specs.Events.{happened, turned, updatedFirst};
+ghost use Rattle.protocol.specs.Rules.{runs, vetoes, isOne, isSeveral, counted, stops, proposed, vetoed, decides};
+ghost use Rattle.truck.specs.Events.{adds, happened, turned, updatedFirst};
 
 // What a round is to a running truck.
 pub enum Event {
     // Its stop bit is set.
     Stop,
-    // A proposal round: its mark, how many different values it heard, and the least of them (its estimate where it heard none).
-    Proposals { mark: bool, heard: Heard, least: u8 },
-    // A veto round: its mark, and whether it heard a veto.
-    Vetoes { mark: bool, veto: bool },
+    // A proposal round: whether it sends, its mark, how many different values it heard, and the least of them (its estimate where it heard none).
+    Proposals {
+        sends: bool,
+        mark: bool,
+        heard: Heard,
+        least: u8,
+    },
+    // A veto round: whether it sends, its mark, and whether it heard a veto.
+    Vetoes {
+        sends: bool,
+        mark: bool,
+        veto: bool,
+    },
 }
 
 // The truck is running.
@@ -59,14 +69,26 @@ fn after_stop(t: Truck, round: u16) -> Truck
     }
 }
 
-fn after_proposals(t: Truck, mark: bool, heard: Heard, least: u8) -> Truck
-    ensures { λ r. ⌜ r ≡ proposed mark heard least t ⌝ }
+// A count with 1 more where the truck sends and the count has room.
+fn count(sends: bool, c: u8) -> u8
+    ensures { λ r. ⌜ r ≡ counted (adds sends c) c ⌝ }
 {
+    if sends & (c < 255) { c + 1 } else { c }
+}
+
+fn after_proposals(t: Truck, sends: bool, mark: bool, heard: Heard, least: u8) -> Truck
+    ensures { λ r. ⌜ r ≡ proposed (adds sends (t .sent .proposals)) mark heard least t ⌝ }
+{
+    let sent = Sent {
+        proposals: count(sends, t.sent.proposals),
+        vetoes: t.sent.vetoes,
+    };
     let estimate = if mark { t.estimate } else { least };
     Truck {
         estimate,
         mark,
         heard,
+        sent,
         ..t
     }
 }
@@ -89,12 +111,17 @@ fn decides(t: Truck, mark: bool, veto: bool) -> bool
     !veto & !mark & is_one(heard)
 }
 
-fn after_vetoes(t: Truck, round: u16, mark: bool, veto: bool) -> Truck
-    ensures { λ r. ⌜ r ≡ vetoed round mark veto t ⌝ }
+fn after_vetoes(t: Truck, round: u16, sends: bool, mark: bool, veto: bool) -> Truck
+    ensures { λ r. ⌜ r ≡ vetoed round (adds sends (t .sent .vetoes)) mark veto t ⌝ }
 {
+    let sent = Sent {
+        proposals: t.sent.proposals,
+        vetoes: count(sends, t.sent.vetoes),
+    };
     let done = Truck {
         mark: false,
         heard: Heard::Nothing,
+        sent,
         ..t
     };
     if decides(t, mark, veto) {
@@ -112,8 +139,13 @@ fn after_event(t: Truck, round: u16, event: Event) -> Truck
 {
     match event {
         Event::Stop => after_stop(t, round),
-        Event::Proposals { mark, heard, least } => after_proposals(t, mark, heard, least),
-        Event::Vetoes { mark, veto } => after_vetoes(t, round, mark, veto),
+        Event::Proposals {
+            sends,
+            mark,
+            heard,
+            least,
+        } => after_proposals(t, sends, mark, heard, least),
+        Event::Vetoes { sends, mark, veto } => after_vetoes(t, round, sends, mark, veto),
     }
 }
 

@@ -5,10 +5,10 @@ use Rattle.truck.proofs.after_vetoes.Statement.{statement}
 use Rattle.truck.proofs.after_vetoes.Tie as tie
 
 returns : tie.Need-returns
-returns c = rw (sym (c .before .decides .ensures) ∙ c .if1 .taken)
+returns c = rw (c .before .before .before .count .ensures, sym (c .before .before .decides .ensures) ∙ c .before .if1 .taken)
 
 returns-2 : tie.Need-returns-2
-returns-2 c = rw (sym (c .before .decides .ensures) ∙ c .if1 .left)
+returns-2 c = rw (c .before .before .count .ensures, sym (c .before .decides .ensures) ∙ c .if1 .left)
 
 pub after-vetoes-spec : {M : Type 1} → statement M
-after-vetoes-spec = tie.close (tie.spec (λ c κs. search needs) returns returns-2)
+after-vetoes-spec = tie.close (tie.spec (λ c κs. search needs) (λ c κs. search needs) returns returns-2)

@@ -124,7 +124,7 @@ abbrev pub recordAs : Outcome → ℕ → Fleet → List ℕ → RecordLeft
 recordAs Accepted m f d = recordLeft 0 (filled (recordByte f) (sizeFor m) d)
 recordAs (Refused r) m f d = recordLeft (numberOf r) d
 
--- a whole record, all 32 places; 9 where the buffer has fewer than 227 bytes
+-- a whole record, all 32 places; 9 where the buffer has fewer than 323 bytes
 unfoldable pub storeCall : Answer → List ℕ → RecordLeft
 storeCall a d = recordAs (andThen (a .outcome) (refuse (ltb (length d) (sizeFor 32)) ShortBuffer Accepted)) 32 (a .fleet) d
 

@@ -3,7 +3,7 @@ use mathlib.Core.Path.{_≡_, refl, ap, ap₂, sym, _∙_}
 use mathlib.Core.Bool.{Bool, true, false, cond, _&&_, _||_}
 use mathlib.Core.List.{List, [], _∷_}
 use Prim.Native.Nat.{ℕ, zero, suc, _+_, _*_, _-_, _/_, _%_, _≤_, _<_}
-use native.Mathlib.Nat.{add-zero}
+use native.Mathlib.Nat.{add-zero, add-suc}
 use native.Mathlib.Numerals.{towards-suc}
 use native.Mathlib.Omega.{arith}
 use lib.Dec.{eqb, ltb}
@@ -33,10 +33,12 @@ use Rattle.recordbytes.specs.Layout.{markByte, heardByte, stateByte, rou
 
 -- ---- the bytes of a truck
 
+-- (`towards-suc` reads sums up to at + 8)
 pub truck-put : (d : List ℕ) (at : ℕ) (t : Truck) (h s r : ℕ) → h ≡ heardByte (t .heard) → s ≡ stateByte (t .state) → r ≡ roundOf (t .state)
-    → set (set (set (set (set (set (set d at (t .opening)) (at + 1) (t .estimate)) (at + 2) (boolByte (t .mark))) (at + 3) h) (at + 4) s) (at + 5) (r % 256)) (at + 6) (r / 256)
+    → let upTo4 = set (set (set (set (set d at (t .opening)) (at + 1) (t .estimate)) (at + 2) (boolByte (t .mark))) (at + 3) h) (at + 4) s in
+    set (set (set (set (set upTo4 (at + 5) (r % 256)) (at + 6) (r / 256)) (at + 7) (t .sent .proposals)) (at + 8) (t .sent .vetoes)) (at + 9) 0
     ≡ sets d at (truckBytes t)
-truck-put d at t h s r eh es er = simp (mark-byte (t .mark), eh, es, er, towards-suc)
+truck-put d at t h s r eh es er = simp (mark-byte (t .mark), eh, es, er, add-suc at 8, towards-suc)
   where
     mark-byte : (b : Bool) → boolByte b ≡ markByte b
     mark-byte true = refl
@@ -58,19 +60,19 @@ fill-sets z g d (v ∷ vs) l i e h same =
 
 -- ---- the bytes of a record
 
-pub place-byte : (f : Fleet) (q : ℕ) → getD (truckBytes (truck (f .trucks) (q / 7))) (q % 7) 0 ≡ recordByte f (3 + q)
+pub place-byte : (f : Fleet) (q : ℕ) → getD (truckBytes (truck (f .trucks) (q / 10))) (q % 10) 0 ≡ recordByte f (3 + q)
 unfolding recordByte
 place-byte f q =
     let e : 3 + q - 3 ≡ q = omega arith in
     rw (le-ltb (3 + q) 3 (omega arith), e)
 
 -- byte j of place i
-pub byte-of-place : (f : Fleet) (i j : ℕ) → j < 7 → getD (truckBytes (truck (f .trucks) i)) j 0 ≡ recordByte f (sizeFor i + j)
+pub byte-of-place : (f : Fleet) (i j : ℕ) → j < 10 → getD (truckBytes (truck (f .trucks) i)) j 0 ≡ recordByte f (sizeFor i + j)
 byte-of-place f i j h =
-    let q : (7 * i + j) / 7 ≡ i = omega arith in
-    let r : (7 * i + j) % 7 ≡ j = omega arith in
-    let e : 3 + (7 * i + j) ≡ sizeFor i + j = omega arith in
-    sym (ap₂ (λ (a b : ℕ). getD (truckBytes (truck (f .trucks) a)) b 0) q r) ∙ place-byte f (7 * i + j) ∙ ap (recordByte f) e
+    let q : (10 * i + j) / 10 ≡ i = omega arith in
+    let r : (10 * i + j) % 10 ≡ j = omega arith in
+    let e : 3 + (10 * i + j) ≡ sizeFor i + j = omega arith in
+    sym (ap₂ (λ (a b : ℕ). getD (truckBytes (truck (f .trucks) a)) b 0) q r) ∙ place-byte f (10 * i + j) ∙ ap (recordByte f) e
 
 -- a record's head
 abbrev headBytes : Fleet → List ℕ
@@ -109,7 +111,7 @@ module _ (f : Fleet) (d : List ℕ) (room : sizeFor 32 ≤ length d) where
     put-step k h e =
         e
         ∙ fill-sets 0 (recordByte f) d (truckBytes (truck (f .trucks) i)) l (sizeFor i) put-now (omega arith) (λ j h. byte-of-place f i j h)
-        ∙ ap (λ (k : ℕ). filled (recordByte f) k d) (let s : sizeFor i + 7 ≡ sizeFor (i + 1) = omega arith in s)
+        ∙ ap (λ (k : ℕ). filled (recordByte f) k d) (let s : sizeFor i + 10 ≡ sizeFor (i + 1) = omega arith in s)
         ∙ sym (over-head (i + 1) (omega arith))
 
 -- ---- what putting a record answers
@@ -170,17 +172,18 @@ module _ {A : Type 0} (b : ℕ) (x y z : A) where
     pub byte-0 : (b ≡ 2 → ⊥) → z ≡ cond (eqb b 1) x (cond (eqb b 2) y z)
     byte-0 h = rw (ne-eqb b 1 not-1, ne-eqb b 2 h)
 
-pub truck-is : (d : List ℕ) (i a b m k s r : ℕ) (h : Heard) (t : State)
+pub truck-is : (d : List ℕ) (i a b m k s r p v : ℕ) (h : Heard) (t : State)
     → k ≡ placeByte d i 3 → h ≡ heardOfByte k → s ≡ placeByte d i 4 → r ≡ placeRound d i → t ≡ stateOfByte s r
-    → a ≡ placeByte d i 0 → b ≡ placeByte d i 1 → m ≡ placeByte d i 2
-    → _≡_ {A = Truck} (record { opening = a; estimate = b; mark = eqb m 1; heard = h; state = t }) (truckAt d i)
+    → p ≡ placeByte d i 7 → v ≡ placeByte d i 8 → a ≡ placeByte d i 0 → b ≡ placeByte d i 1 → m ≡ placeByte d i 2
+    → _≡_ {A = Truck} (record { opening = a; estimate = b; mark = eqb m 1; heard = h; state = t; sent = record { proposals = p; vetoes = v } }) (truckAt d i)
 unfolding truckAt
-truck-is d i a b m k s r h t ek eh es er et ea eb em = cc
+truck-is d i a b m k s r p v h t ek eh es er et ep ev ea eb em = cc
 
-pub damaged-is : (d : List ℕ) (i m h s r : ℕ) → m ≡ placeByte d i 2 → h ≡ placeByte d i 3 → s ≡ placeByte d i 4 → r ≡ placeRound d i
-    → (ltb 1 m || ltb 2 h || ltb 2 s || (eqb s 0 && ltb 0 r)) ≡ damagedAt d i
+pub damaged-is : (d : List ℕ) (i m h s r z : ℕ)
+    → m ≡ placeByte d i 2 → h ≡ placeByte d i 3 → s ≡ placeByte d i 4 → r ≡ placeRound d i → z ≡ placeByte d i 9
+    → (ltb 1 m || ltb 2 h || ltb 2 s || (eqb s 0 && ltb 0 r) || ltb 0 z) ≡ damagedAt d i
 unfolding damagedAt
-damaged-is d i m h s r em eh es er = cc
+damaged-is d i m h s r z em eh es er ez = cc
 
 -- ---- taking bytes for a record
 

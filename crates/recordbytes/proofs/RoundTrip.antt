@@ -72,25 +72,28 @@ record Sound (d : List ℕ) (i : ℕ) : Type 0 where
   heard : ltb 2 (placeByte d i 3) ≡ false
   state : ltb 2 (placeByte d i 4) ≡ false
   round : (eqb (placeByte d i 4) 0 && ltb 0 (placeRound d i)) ≡ false
+  free : ltb 0 (placeByte d i 9) ≡ false
 
 sound : (d : List ℕ) (i : ℕ) → damagedAt d i ≡ false → Sound d i
 unfolding damagedAt
-sound d i h = go (ltb 1 (placeByte d i 2)) (ltb 2 (placeByte d i 3)) (ltb 2 (placeByte d i 4)) (eqb (placeByte d i 4) 0 && ltb 0 (placeRound d i)) refl refl refl refl h
-  where
-    go : (a b c e : Bool) → ltb 1 (placeByte d i 2) ≡ a → ltb 2 (placeByte d i 3) ≡ b → ltb 2 (placeByte d i 4) ≡ c → (eqb (placeByte d i 4) 0 && ltb 0 (placeRound d i)) ≡ e
-        → (a || b || c || e) ≡ false → Sound d i
-    go a b c e p q r t h =
-        let abc = or-left (a || b || c) e h in
-        let ab = or-left (a || b) c abc in
-        record {
-          mark = p ∙ or-left a b ab;
-          heard = q ∙ or-right a b ab;
-          state = r ∙ or-right (a || b) c abc;
-          round = t ∙ or-right (a || b || c) e h;
-        }
+sound d i h =
+    let mark = ltb 1 (placeByte d i 2) in
+    let heard = ltb 2 (placeByte d i 3) in
+    let state = ltb 2 (placeByte d i 4) in
+    let round = eqb (placeByte d i 4) 0 && ltb 0 (placeRound d i) in
+    let upTo6 = or-left (mark || heard || state || round) (ltb 0 (placeByte d i 9)) h in
+    let upTo4 = or-left (mark || heard || state) round upTo6 in
+    let upTo3 = or-left (mark || heard) state upTo4 in
+    record {
+      mark = or-left mark heard upTo3;
+      heard = or-right mark heard upTo3;
+      state = or-right (mark || heard) state upTo4;
+      round = or-right (mark || heard || state) round upTo6;
+      free = or-right (mark || heard || state || round) (ltb 0 (placeByte d i 9)) h;
+    }
 
--- its seven bytes
-place-back : (d : List ℕ) (i : ℕ) → Sound d i → placeByte d i 5 < 256 → (j : ℕ) → j < 7 → getD (truckBytes (truckAt d i)) j 0 ≡ placeByte d i j
+-- its ten bytes
+place-back : (d : List ℕ) (i : ℕ) → Sound d i → placeByte d i 5 < 256 → (j : ℕ) → j < 10 → getD (truckBytes (truckAt d i)) j 0 ≡ placeByte d i j
 unfolding truckAt
 place-back d i s low zero l = refl
 place-back d i s low (suc zero) l = refl
@@ -101,7 +104,10 @@ place-back d i s low (suc (suc (suc (suc (suc zero))))) l =
     ap (λ (k : ℕ). k % 256) (state-round-back (placeByte d i 4) (placeRound d i) (s .state) (s .round)) ∙ pair-low (placeByte d i 5) (placeByte d i 6) low
 place-back d i s low (suc (suc (suc (suc (suc (suc zero)))))) l =
     ap (λ (k : ℕ). k / 256) (state-round-back (placeByte d i 4) (placeRound d i) (s .state) (s .round)) ∙ pair-high (placeByte d i 5) (placeByte d i 6) low
-place-back d i s low (suc (suc (suc (suc (suc (suc (suc j))))))) l = absurd (omega arith)
+place-back d i s low (suc (suc (suc (suc (suc (suc (suc zero))))))) l = refl
+place-back d i s low (suc (suc (suc (suc (suc (suc (suc (suc zero)))))))) l = refl
+place-back d i s low (suc (suc (suc (suc (suc (suc (suc (suc (suc zero))))))))) l = omega (arith, ltb-false 0 (placeByte d i 9) (s .free))
+place-back d i s low (suc (suc (suc (suc (suc (suc (suc (suc (suc (suc j)))))))))) l = absurd (omega arith)
 
 -- bytes: every element of the list is below 256
 abbrev pub Bytes : List ℕ → Type 0
@@ -125,17 +131,17 @@ undamaged d h =
 
 module _ (d : List ℕ) (bytes : Bytes d) (u : Undamaged d) where
   -- a byte of a place
-  later-back : (q : ℕ) → q < 7 * getD d 0 0 → recordByte (recordOf d) (3 + q) ≡ getD d (3 + q) 0
+  later-back : (q : ℕ) → q < 10 * getD d 0 0 → recordByte (recordOf d) (3 + q) ≡ getD d (3 + q) 0
   unfolding recordOf placeByte
   later-back q h =
       let n = getD d 0 0 in
       let most : n ≤ 32 = trucks-in n (u .range) .1 in
-      let i : q / 7 < n = omega arith in
-      let low : placeByte d (q / 7) 5 < 256 = bytes (sizeFor (q / 7) + 5) (omega (arith, u .whole)) in
-      let e : sizeFor (q / 7) + q % 7 ≡ 3 + q = omega arith in
+      let i : q / 10 < n = omega arith in
+      let low : placeByte d (q / 10) 5 < 256 = bytes (sizeFor (q / 10) + 5) (omega (arith, u .whole)) in
+      let e : sizeFor (q / 10) + q % 10 ≡ 3 + q = omega arith in
       sym (place-byte (recordOf d) q)
-      ∙ ap (λ (t : Truck). getD (truckBytes t) (q % 7) 0) (getD-filled (truckAt d) n (openedTrucks []) (q / 7) (opened 0) i)
-      ∙ place-back d (q / 7) (u .places (q / 7) i) low (q % 7) (omega arith)
+      ∙ ap (λ (t : Truck). getD (truckBytes t) (q % 10) 0) (getD-filled (truckAt d) n (openedTrucks []) (q / 10) (opened 0) i)
+      ∙ place-back d (q / 10) (u .places (q / 10) i) low (q % 10) (omega arith)
       ∙ ap (λ (k : ℕ). getD d k 0) e
 
   byte-back : (p : ℕ) → p < sizeFor (getD d 0 0) → recordByte (recordOf d) p ≡ getD d p 0
@@ -190,20 +196,29 @@ state-there (Stopped k) = (refl, refl, refl)
 state-there (Decided k) = (refl, refl, refl)
 
 -- a place that holds the bytes of a truck
-module _ (d : List ℕ) (i : ℕ) (t : Truck) (holds : (j : ℕ) → j < 7 → placeByte d i j ≡ getD (truckBytes t) j 0) where
+module _ (d : List ℕ) (i : ℕ) (t : Truck) (holds : (j : ℕ) → j < 10 → placeByte d i j ≡ getD (truckBytes t) j 0) where
   place-round-there : placeRound d i ≡ roundOf (t .state)
   place-round-there = ap₂ (λ (a b : ℕ). pairOf a b) (holds 5 (omega arith)) (holds 6 (omega arith)) ∙ pair-back (roundOf (t .state))
 
   truck-there : truckAt d i ≡ t
   unfolding truckAt
   truck-there =
-      rw (holds 0 (omega arith), holds 1 (omega arith), holds 2 (omega arith), holds 3 (omega arith), holds 4 (omega arith), place-round-there)
+      rw (
+        holds 0 (omega arith),
+        holds 1 (omega arith),
+        holds 2 (omega arith),
+        holds 3 (omega arith),
+        holds 4 (omega arith),
+        place-round-there,
+        holds 7 (omega arith),
+        holds 8 (omega arith),
+      )
       (simp (mark-there (t .mark) .0, heard-there (t .heard) .0, state-there (t .state) .0))
 
   place-there : damagedAt d i ≡ false
   unfolding damagedAt
   place-there =
-      rw (holds 2 (omega arith), holds 3 (omega arith), holds 4 (omega arith), place-round-there)
+      rw (holds 2 (omega arith), holds 3 (omega arith), holds 4 (omega arith), place-round-there, holds 9 (omega arith))
       (simp (mark-there (t .mark) .1, heard-there (t .heard) .1, state-there (t .state) .1, state-there (t .state) .2))
 
 -- 32 places, of which those from n on are as a start makes them
@@ -246,7 +261,7 @@ module _ (f : Fleet) (d : List ℕ) (m : ℕ) (range : badTrucks (f .n) ≡ fals
   head-laid =
       (byte-laid 0 (omega arith), ap₂ (λ (a b : ℕ). pairOf a b) (byte-laid 1 (omega arith)) (byte-laid 2 (omega arith)) ∙ pair-back (f .done))
 
-  place-laid : (i : ℕ) → i < m → (j : ℕ) → j < 7 → placeByte laid i j ≡ getD (truckBytes (truck (f .trucks) i)) j 0
+  place-laid : (i : ℕ) → i < m → (j : ℕ) → j < 10 → placeByte laid i j ≡ getD (truckBytes (truck (f .trucks) i)) j 0
   unfolding placeByte
   place-laid i h j l = byte-laid (sizeFor i + j) (omega arith) ∙ sym (byte-of-place f i j l)
 

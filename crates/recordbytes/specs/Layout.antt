@@ -1,5 +1,6 @@
--- A fleet record as 227 bytes, for callers in other languages: n, the rounds done (low byte first), then seven bytes for each of 32 places:
--- opening, estimate, mark, what the truck heard, its state, and the round of its stop or decision (low byte first; 0 for a running truck).
+-- A fleet record as 323 bytes, for callers in other languages: n, the rounds done (low byte first), then ten bytes for each of 32 places:
+-- opening, estimate, mark, what the truck heard, its state, the round of its stop or decision (low byte first; 0 for a running truck), how many proposals
+-- and how many vetoes it sent, and a tenth byte that is always 0. The tenth byte is kept free for a field that a truck gains later: no other byte moves then.
 use Prim.Native.Nat.{ℕ, _+_, _*_, _-_, _/_, _%_}
 use mathlib.Core.Bool.{Bool, cond, _&&_, _||_}
 use mathlib.Core.List.{List, [], _∷_}
@@ -24,7 +25,7 @@ use Rattle.protocol.specs.Fleets.{blank}
 
 -- the bytes of a record's head and of m places
 abbrev pub sizeFor : ℕ → ℕ
-sizeFor m = 3 + 7 * m
+sizeFor m = 3 + 10 * m
 
 -- ---- a record as bytes
 
@@ -46,16 +47,17 @@ roundOf Running = 0
 roundOf (Stopped k) = k
 roundOf (Decided k) = k
 
--- the seven bytes of a truck
+-- the ten bytes of a truck, the last of them free
 abbrev pub truckBytes : Truck → List ℕ
 truckBytes t =
-    t .opening ∷ t .estimate ∷ markByte (t .mark) ∷ heardByte (t .heard) ∷ stateByte (t .state) ∷ roundOf (t .state) % 256 ∷ roundOf (t .state) / 256 ∷ []
+    t .opening ∷ t .estimate ∷ markByte (t .mark) ∷ heardByte (t .heard) ∷ stateByte (t .state) ∷ roundOf (t .state) % 256 ∷ roundOf (t .state) / 256
+    ∷ t .sent .proposals ∷ t .sent .vetoes ∷ 0 ∷ []
 
 -- byte p of the record
 unfoldable pub recordByte : Fleet → ℕ → ℕ
 recordByte f p =
     cond (ltb p 3) (getD (f .n ∷ f .done % 256 ∷ f .done / 256 ∷ []) p 0)
-    (getD (truckBytes (truck (f .trucks) ((p - 3) / 7))) ((p - 3) % 7) 0)
+    (getD (truckBytes (truck (f .trucks) ((p - 3) / 10))) ((p - 3) % 10) 0)
 
 -- putting a record of n trucks into a lent buffer checks 7 (n out of range), then 9
 unfoldable pub packCheck : ℕ → ℕ → Outcome
@@ -102,12 +104,15 @@ truckAt d i =
       mark = eqb (placeByte d i 2) 1;
       heard = heardOfByte (placeByte d i 3);
       state = stateOfByte (placeByte d i 4) (placeRound d i);
+      sent = record { proposals = placeByte d i 7; vetoes = placeByte d i 8 };
     }
 
--- the seven bytes of place i are those of no truck: a mark above 1, more than 2 for what it heard or for its state, or a running truck with a round
+-- the ten bytes of place i are those of no truck: a mark above 1, more than 2 for what it heard or for its state, a running truck with a round, or a tenth
+-- byte above 0
 unfoldable pub damagedAt : List ℕ → ℕ → Bool
 damagedAt d i =
     ltb 1 (placeByte d i 2) || ltb 2 (placeByte d i 3) || ltb 2 (placeByte d i 4) || (eqb (placeByte d i 4) 0 && ltb 0 (placeRound d i))
+    || ltb 0 (placeByte d i 9)
 
 -- the bytes are no record: too few, n out of range, or a damaged place below n; places n and above are not read
 unfoldable pub damaged : List ℕ → Bool

@@ -1,4 +1,4 @@
-// A fleet record as 227 bytes, for callers in other languages. specs/Layout says which byte is what.
+// A fleet record as 323 bytes, for callers in other languages. specs/Layout says which byte is what.
 ghost use mathlib.Core.Path.{_≡_};
 ghost use mathlib.Core.Bool.{false};
 ghost use mathlib.Core.List.{[]};
@@ -13,6 +13,7 @@ ghost use Rattle.recordbytes.specs.Layout.{heardOfByte, stateOfByte, pai
 use protocol::Answer;
 use protocol::Fleet;
 use protocol::Heard;
+use protocol::Sent;
 use protocol::State;
 use protocol::Truck;
 use refusals::Outcome;
@@ -48,13 +49,14 @@ fn round_of(s: State) -> u16
     }
 }
 
-// Puts the seven bytes of a truck from place `at` of a buffer on.
+// Puts the ten bytes of a truck from place `at` of a buffer on.
 fn put_truck(d: &mut [u8], at: usize, t: Truck)
-    requires { ⌜ at + 7 ≤ length (now d) ⌝ }
+    requires { ⌜ at + 10 ≤ length (now d) ⌝ }
     ensures { λ r. ⌜ now (d .exit) ≡ sets (now (d .entry)) at (truckBytes t) ⌝ }
 {
     let heard = t.heard;
     let state = t.state;
+    let sent = t.sent;
     let round = round_of(state);
     d[at] = t.opening;
     d[at + 1] = t.estimate;
@@ -63,6 +65,9 @@ fn put_truck(d: &mut [u8], at: usize, t: Truck)
     d[at + 4] = state_byte(state);
     d[at + 5] = (round % 256) as u8;
     d[at + 6] = (round / 256) as u8;
+    d[at + 7] = sent.proposals;
+    d[at + 8] = sent.vetoes;
+    d[at + 9] = 0;
 }
 
 // Puts the head and the first m places of a record into a buffer that has room for all.
@@ -76,7 +81,7 @@ fn put(f: Fleet, m: usize, d: &mut [u8])
     let mut i = 0;
     while i < m {
         let t = f.trucks[i];
-        put_truck(d, 3 + 7 * i, t);
+        put_truck(d, 3 + 10 * i, t);
         i += 1;
     }
 }
@@ -88,7 +93,7 @@ fn check(n: u8, room: usize) -> Outcome
     if recording::bad_trucks(n) {
         return Outcome::Refused(Refusal::Record);
     }
-    if room < 227 {
+    if room < 323 {
         return Outcome::Refused(Refusal::ShortBuffer);
     }
     Outcome::Accepted
@@ -153,10 +158,10 @@ fn state_of(b: u8, k: u16) -> State
 
 // Byte j of place i.
 fn place_byte(d: &[u8], i: usize, j: usize) -> u8
-    requires { ⌜ (i < 32) × ((j < 7) × (sizeFor 32 ≤ length (now d))) ⌝ }
+    requires { ⌜ (i < 32) × ((j < 10) × (sizeFor 32 ≤ length (now d))) ⌝ }
     ensures { λ r. ⌜ r ≡ placeByte (now (d .entry)) i j ⌝ }
 {
-    d[3 + 7 * i + j]
+    d[3 + 10 * i + j]
 }
 
 // A number of two bytes, low byte first.
@@ -179,12 +184,17 @@ fn truck_at(d: &[u8], i: usize) -> Truck
 {
     let heard = heard_of(place_byte(d, i, 3));
     let state = state_of(place_byte(d, i, 4), place_round(d, i));
+    let sent = Sent {
+        proposals: place_byte(d, i, 7),
+        vetoes: place_byte(d, i, 8),
+    };
     Truck {
         opening: place_byte(d, i, 0),
         estimate: place_byte(d, i, 1),
         mark: place_byte(d, i, 2) == 1,
         heard,
         state,
+        sent,
     }
 }
 
@@ -196,7 +206,8 @@ fn damaged_at(d: &[u8], i: usize) -> bool
     let heard = place_byte(d, i, 3);
     let state = place_byte(d, i, 4);
     let round = place_round(d, i);
-    (1 < mark) | (2 < heard) | (2 < state) | ((state == 0) & (0 < round))
+    let free = place_byte(d, i, 9);
+    (1 < mark) | (2 < heard) | (2 < state) | ((state == 0) & (0 < round)) | (0 < free)
 }
 
 // Some place below n is damaged.
@@ -246,7 +257,7 @@ fn record_of(d: &[u8]) -> Fleet
 pub fn unpack(d: &[u8]) -> Answer
     ensures { λ r. ⌜ r ≡ unpacked (now (d .entry)) ⌝ }
 {
-    if d.len() < 227 {
+    if d.len() < 323 {
         return fleetrecord::refused(Refusal::Record);
     }
     let n = d[0];

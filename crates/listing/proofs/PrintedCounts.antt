@@ -7,12 +7,11 @@ use Prim.Native.Nat.{ℕ, _<_}
 use Rattle.basics.specs.Bits.{odd}
 use Rattle.basics.specs.Lists.{sumBelow}
 use Rattle.basics.proofs.Laws.{sum-ext}
-use Rattle.radio.specs.Radio.{Radio, timesSent}
+use Rattle.radio.specs.Radio.{timesSent}
 use Rattle.refusals.specs.declared.Outcome.{Outcome}
 use Rattle.refusals.specs.declared.Outcome.the-variants.{Accepted}
 use Rattle.recording.specs.Packed.{trucksOf, roundsOf, openingsOf, roundAt}
 use Rattle.recording.specs.Checks.{checkOf}
-use Rattle.protocol.specs.declared.Truck.{Truck}
 use Rattle.protocol.specs.declared.Fleet.{Fleet}
 use Rattle.protocol.specs.Rules.{truck}
 use Rattle.protocol.specs.Runs.{radioAt}

@@ -1,6 +1,5 @@
 -- `put_listing` meets its contract.
 use mathlib.Core.Path.{ap₂}
-use Prim.Native.Nat.{ℕ}
 use native.Mathlib.Omega.{arith}
 use Rattle.listing.specs.Text.{totalsLine, listingOf}
 use Rattle.listing.specs.Writing.{sentLine}

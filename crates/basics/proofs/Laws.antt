@@ -1,9 +1,10 @@
--- Laws of the definitions of specs/Lists: tables and filled lists by their elements, tests over the numbers below a bound, and searches among them.
+-- Laws of the definitions of specs/Lists: tables and filled lists by their elements, tests over the numbers below a bound, searches among
+-- them, and sums over them.
 use mathlib.Core.Path.{_≡_, refl, ap, ap₂, sym, _∙_}
 use mathlib.Core.Bool.{Bool, true, false, cond, not, _&&_, _||_, true≢false, false≢true}
 use mathlib.Core.List.{List, [], _∷_, _++_, append-assoc}
-use Prim.Native.Nat.{ℕ, zero, suc, _+_, _-_, _%_, _≤_, _<_}
-use native.Mathlib.Nat.{add-zero}
+use Prim.Native.Nat.{ℕ, zero, suc, _+_, _*_, _-_, _%_, _≤_, _<_}
+use native.Mathlib.Nat.{add-zero, mul-suc}
 use native.Mathlib.Numerals.{add-one}
 use native.Mathlib.Decide.{decLt}
 use native.Mathlib.Omega.{arith}
@@ -13,7 +14,7 @@ use lib.Dec.{ltb}
 use lib.ListN.{length, getD, drop, set, length-append, length-drop, List·getD-append}
 use lib.Seq.{drop-cons, drop-append-add, drop-drop, set-at, getD-append-add, getD-drop, ext-getD}
 use Rattle.basics.specs.Bits.{odd}
-use Rattle.basics.specs.Lists.{tabFrom, tab, filled, allBelow, who, first, someBelow}
+use Rattle.basics.specs.Lists.{tabFrom, tab, filled, allBelow, who, first, someBelow, sumBelow}
 
 module _ {ℓ} {A : Type ℓ} where
   length-tabFrom : (g : ℕ → A) (i m : ℕ) → length (tabFrom g i m) ≡ m
@@ -326,3 +327,24 @@ module _ (p q : ℕ → Bool) (m : ℕ) (same : (k : ℕ) → k < m → p k ≡ 
   pub some-ext : someBelow p m ≡ someBelow q m
   unfolding someBelow
   some-ext = ap (λ (k : ℕ). ltb k m) first-ext
+
+-- a sum over no number, and over one more
+pub sum-none : (g : ℕ → ℕ) → 0 ≡ sumBelow g 0
+unfolding sumBelow
+sum-none g = refl
+
+pub sum-more : (g : ℕ → ℕ) (m : ℕ) → sumBelow g m + g m ≡ sumBelow g (m + 1)
+unfolding sumBelow
+sum-more g m = ap (sumBelow g) (sym (add-one m))
+
+-- numbers that agree below m have one sum
+pub sum-ext : (f g : ℕ → ℕ) (m : ℕ) → ((k : ℕ) → k < m → f k ≡ g k) → sumBelow f m ≡ sumBelow g m
+unfolding sumBelow
+sum-ext f g zero h = refl
+sum-ext f g (suc m) h = ap₂ (λ (a b : ℕ). a + b) (sum-ext f g m (λ k l. h k (omega arith))) (h m (omega arith))
+
+-- a sum of numbers of at most b
+pub sum-most : (g : ℕ → ℕ) (b m : ℕ) → ((k : ℕ) → k < m → g k ≤ b) → sumBelow g m ≤ b * m
+unfolding sumBelow
+sum-most g b zero h = omega arith
+sum-most g b (suc m) h = let e : b * suc m ≡ b * m + b = mul-suc b m in omega (arith, sum-most g b m (λ k l. h k (omega arith)), h m (omega arith))

@@ -1,4 +1,4 @@
--- Lists by their elements, and tests over the numbers below a bound.
+-- Lists by their elements, and tests and sums over the numbers below a bound.
 use Prim.Native.Nat.{ℕ, zero, suc, _+_}
 use mathlib.Core.Bool.{Bool, true, cond, _&&_}
 use mathlib.Core.List.{List, [], _∷_, _++_}
@@ -36,3 +36,8 @@ first p (suc m) = cond (ltb (first p m) m) (first p m) (cond (p m) m (suc m))
 -- some number below m has p
 unfoldable pub someBelow : (ℕ → Bool) → ℕ → Bool
 someBelow p m = ltb (first p m) m
+
+-- the sum of g 0, g 1, .. : m numbers
+unfoldable pub sumBelow : (ℕ → ℕ) → ℕ → ℕ
+sumBelow g zero = 0
+sumBelow g (suc m) = sumBelow g m + g m

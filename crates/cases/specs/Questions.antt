@@ -1,7 +1,8 @@
 -- What a row of the table asks, and what the definitions answer.
-use mathlib.Core.List.{List, [], _∷_}
+use mathlib.Core.List.{List, [], _∷_, _++_}
 use Prim.Native.Nat.{ℕ, _-_, _/_, _%_}
 use Prim.Native.String.{String}
+use lib.ListN.{length, drop}
 use Rattle.basics.specs.Lists.{tab, who}
 use Rattle.radio.specs.Radio.{Radio, sent, heard}
 use Rattle.refusals.specs.declared.Outcome.{Outcome}
@@ -10,6 +11,7 @@ use Rattle.refusals.specs.Numbers.{outcomeNumber}
 use Rattle.refusals.specs.Locations.{outcomeLocation}
 use Rattle.recording.specs.Packed.{trucksOf, openingsOf, roundAt}
 use Rattle.recording.specs.Checks.{plainCheck}
+use Rattle.protocol.specs.declared.Truck.{Truck}
 use Rattle.protocol.specs.declared.Grading.{Grading}
 use Rattle.protocol.specs.declared.Grading.the-variants.{Graded}
 use Rattle.protocol.specs.Rules.{truck, valuesHeard}
@@ -35,6 +37,8 @@ pub data Question : Type 0 where
   writes : ℕ → ℕ → List ℕ → List ℕ → Question
   -- what a step by these words is refused for, of n running trucks with so many rounds done
   steps : ℕ → ℕ → List ℕ → Question
+  -- the same of a record of n trucks with so many rounds done, where these trucks stand in the first places
+  stepsOf : ℕ → ℕ → List Truck → List ℕ → Question
   -- the opening crusher of three lists
   opens : List ℕ → List ℕ → List ℕ → Question
   -- the exact seconds of a road of this length, metres and seconds, as quotient and remainder
@@ -68,6 +72,7 @@ reply (values i k s) = numbers (valuesHeard (roundOf s k) (trucksAt (trucksOf s)
 reply (messages k s) = numbers (sent (roundOf s k) ∷ tab (heard (roundOf s k)) (trucksOf s))
 reply (writes n R openings words) = outcome (plainCheck n R openings words)
 reply (steps n done words) = outcome (stepCheck (record { n = n; done = done; trucks = openedTrucks [] }) words)
+reply (stepsOf n done ts words) = outcome (stepCheck (record { n = n; done = done; trucks = ts ++ drop (length ts) (openedTrucks []) }) words)
 reply (opens lengths metres seconds) = opening (openingAnswer (openingOf lengths metres seconds))
 reply (takes length metres seconds) =
     let r : Road = record { length = length; metres = metres; seconds = seconds } in

@@ -1,9 +1,14 @@
--- The starred cases C1 to C12 of document 01, a row for each thing that it says of them, and cases of F-2 and F-7 of document 02.
+-- The starred cases C1 to C12 of document 01, a row for each thing that it says of them, and cases of F-2, F-5 and F-7 of document 02.
+use mathlib.Core.Bool.{false}
 use mathlib.Core.List.{List, [], _∷_, _++_}
 use Prim.Native.Nat.{ℕ}
 use lib.ListN.{replicate}
 use Rattle.refusals.specs.declared.Location.the-variants.{Unnamed, At}
-use Rattle.cases.specs.Questions.{Question, prints, grades, estimates, senders, values, messages, writes, steps, opens, takes}
+use Rattle.protocol.specs.declared.Heard.the-variants.{Nothing}
+use Rattle.protocol.specs.declared.State.{State}
+use Rattle.protocol.specs.declared.State.the-variants.{Running, Stopped, Decided}
+use Rattle.protocol.specs.declared.Truck.{Truck}
+use Rattle.cases.specs.Questions.{Question, prints, grades, estimates, senders, values, messages, writes, steps, stepsOf, opens, takes}
 use Rattle.cases.specs.Questions.{Reply, numbers, refused, opening, exactly, says, gradesAre}
 
 pub record Row : Type 0 where
@@ -29,10 +34,14 @@ c3 = 0x08 ∷ 0x02 ∷ 0x35 ∷ 0x3d ∷ 0x80 ∷ 0x00 ∷ []
 abbrev quiet : List ℕ
 quiet = 0 ∷ 0 ∷ 0 ∷ 0 ∷ 0 ∷ []
 
+-- a truck in this state that has sent so many proposals and vetoes
+abbrev sender : State → ℕ → ℕ → Truck
+sender s p v = record { opening = 3; estimate = 3; mark = false; heard = Nothing; state = s; sent = record { proposals = p; vetoes = v } }
+
 unfoldable pub table : List Row
 table =
     -- C1: both decide 3 in round 4; both propose in rounds 1 and 3; round 1 gives both estimate 3 and two values, so both veto
-    (prints c1 ⟶ says "trucks 2 rounds 4\n0 opened 3 decided 3 round 4\n1 opened 5 decided 3 round 4\n")
+    (prints c1 ⟶ says "trucks 2 rounds 4\n0 opened 3 decided 3 round 4 sent 2 vetoes 1\n1 opened 5 decided 3 round 4 sent 2 vetoes 1\nsent 4 vetoes 2\n")
     ∷ (senders 1 c1 ⟶ numbers (0 ∷ 1 ∷ []))
     ∷ (senders 3 c1 ⟶ numbers (0 ∷ 1 ∷ []))
     ∷ (messages 1 c1 ⟶ numbers (2 ∷ 2 ∷ 2 ∷ []))
@@ -45,23 +54,23 @@ table =
     -- C2: both send, each misses the other without a mark, so it hears 1 of 2, and they decide 3 and 5
     ∷ (senders 1 c2 ⟶ numbers (0 ∷ 1 ∷ []))
     ∷ (messages 1 c2 ⟶ numbers (2 ∷ 1 ∷ 1 ∷ []))
-    ∷ (prints c2 ⟶ says "trucks 2 rounds 2\n0 opened 3 decided 3 round 2\n1 opened 5 decided 5 round 2\n")
+    ∷ (prints c2 ⟶ says "trucks 2 rounds 2\n0 opened 3 decided 3 round 2 sent 1 vetoes 0\n1 opened 5 decided 5 round 2 sent 1 vetoes 0\nsent 2 vetoes 0\n")
     ∷ (grades c2 ⟶ gradesAre 1 1 0 0)
     -- C3: both keep their estimates, both veto, none decides
-    ∷ (prints c3 ⟶ says "trucks 2 rounds 2\n0 opened 3 running 3\n1 opened 5 running 5\n")
+    ∷ (prints c3 ⟶ says "trucks 2 rounds 2\n0 opened 3 running 3 sent 1 vetoes 1\n1 opened 5 running 5 sent 1 vetoes 1\nsent 2 vetoes 2\n")
     ∷ (estimates 1 c3 ⟶ numbers (3 ∷ 5 ∷ []))
     ∷ (senders 2 c3 ⟶ numbers (0 ∷ 1 ∷ []))
     -- C4: one truck, active in round 1, and never active
-    ∷ (prints (0x04 ∷ 0x02 ∷ 0x74 ∷ 0x00 ∷ []) ⟶ says "trucks 1 rounds 2\n0 opened 7 decided 7 round 2\n")
-    ∷ (prints (0x04 ∷ 0x02 ∷ 0x70 ∷ 0x00 ∷ []) ⟶ says "trucks 1 rounds 2\n0 opened 7 running 7\n")
+    ∷ (prints (0x04 ∷ 0x02 ∷ 0x74 ∷ 0x00 ∷ []) ⟶ says "trucks 1 rounds 2\n0 opened 7 decided 7 round 2 sent 1 vetoes 0\nsent 1 vetoes 0\n")
+    ∷ (prints (0x04 ∷ 0x02 ∷ 0x70 ∷ 0x00 ∷ []) ⟶ says "trucks 1 rounds 2\n0 opened 7 running 7 sent 0 vetoes 0\nsent 0 vetoes 0\n")
     -- C5: no rounds
-    ∷ (prints (0x08 ∷ 0x00 ∷ 0x35 ∷ []) ⟶ says "trucks 2 rounds 0\n0 opened 3 running 3\n1 opened 5 running 5\n")
+    ∷ (prints (0x08 ∷ 0x00 ∷ 0x35 ∷ []) ⟶ says "trucks 2 rounds 0\n0 opened 3 running 3 sent 0 vetoes 0\n1 opened 5 running 5 sent 0 vetoes 0\nsent 0 vetoes 0\n")
     -- C6: n of 32 is taken, 33 is not
     ∷ (estimates 0 (0x80 ∷ 0x00 ∷ replicate 16 0x11) ⟶ numbers (replicate 32 1))
     ∷ (grades (0x80 ∷ 0x00 ∷ replicate 16 0x11) ⟶ gradesAre 0 0 0 0)
     ∷ (prints (0x84 ∷ 0x00 ∷ replicate 17 0x00) ⟶ says "refused 2\n")
     -- C7: R of 400 is taken, 401 is not
-    ∷ (prints (0x05 ∷ 0x90 ∷ replicate 201 0x00) ⟶ says "trucks 1 rounds 400\n0 opened 0 running 0\n")
+    ∷ (prints (0x05 ∷ 0x90 ∷ replicate 201 0x00) ⟶ says "trucks 1 rounds 400\n0 opened 0 running 0 sent 0 vetoes 0\nsent 0 vetoes 0\n")
     ∷ (prints (0x05 ∷ 0x91 ∷ replicate 201 0x00) ⟶ says "refused 3\n")
     -- C8: C1 without its last byte
     ∷ (prints (0x08 ∷ 0x04 ∷ 0x35 ∷ 0x30 ∷ 0x00 ∷ 0x03 ∷ 0x00 ∷ []) ⟶ says "refused 4\n")
@@ -88,6 +97,24 @@ table =
     ∷ (writes 2 4 (3 ∷ 5 ∷ []) (quiet ++ (0 ∷ 0 ∷ 0 ∷ 0 ∷ 2 ∷ []) ++ (0 ∷ 0 ∷ 0 ∷ 1 ∷ 0 ∷ []) ++ quiet) ⟶ refused (6, At 2 1))
     ∷ (writes 2 4 (3 ∷ 5 ∷ []) (quiet ++ (0 ∷ 0 ∷ 0 ∷ 0 ∷ 2 ∷ []) ++ quiet ++ (0 ∷ 4 ∷ 0 ∷ 0 ∷ 0 ∷ [])) ⟶ refused (8, Unnamed))
     ∷ (writes 2 1 (3 ∷ 16 ∷ []) (0 ∷ 0 ∷ 0 ∷ 1 ∷ 0 ∷ []) ⟶ refused (7, Unnamed))
+    -- F-5: three trucks. All propose in round 1. Truck 0 hears only itself, so it decides in round 2, where the others veto; truck 1 stops in round 3; truck 2
+    -- proposes in round 3 with a mark, so it vetoes in round 4. Stop, active and mark bits of the decided and the stopped truck do nothing
+    ∷ (prints (0x0c ∷ 0x04 ∷ 0x12 ∷ 0x31 ∷ 0xc3 ∷ 0x00 ∷ 0x00 ∷ 0xc0 ∷ 0xde ∷ 0x80 ∷ 0x17 ∷ 0x00 ∷ 0x00 ∷ []) ⟶ says "trucks 3 rounds 4\n0 opened 1 decided 1 round 2 sent 1 vetoes 0\n1 opened 2 stopped 1 round 3 sent 1 vetoes 1\n2 opened 3 running 1 sent 2 vetoes 2\nsent 4 vetoes 3\n")
+    -- one truck that is active and has a mark in every proposal round of 400
+    ∷ (prints (0x05 ∷ 0x90 ∷ replicate 200 0x06 ++ (0x00 ∷ [])) ⟶ says "trucks 1 rounds 400\n0 opened 0 running 0 sent 200 vetoes 200\nsent 200 vetoes 200\n")
+    -- a step: with 4 rounds done 2 of each kind have been, whatever the trucks' states
+    ∷ (stepsOf 2 4 (sender Running 2 2 ∷ sender (Stopped 1) 2 2 ∷ []) quiet ⟶ refused (0, Unnamed))
+    ∷ (stepsOf 2 4 (sender Running 2 2 ∷ sender Running 3 2 ∷ []) quiet ⟶ refused (7, Unnamed))
+    ∷ (stepsOf 2 4 (sender (Stopped 1) 2 3 ∷ sender Running 2 2 ∷ []) quiet ⟶ refused (7, Unnamed))
+    -- with 5 done, 3 odd rounds and 2 even ones
+    ∷ (stepsOf 2 5 (sender Running 3 2 ∷ sender (Decided 2) 3 2 ∷ []) quiet ⟶ refused (0, Unnamed))
+    ∷ (stepsOf 2 5 (sender Running 3 2 ∷ sender (Decided 2) 4 2 ∷ []) quiet ⟶ refused (7, Unnamed))
+    ∷ (stepsOf 2 5 (sender Running 3 3 ∷ sender (Decided 2) 3 2 ∷ []) quiet ⟶ refused (7, Unnamed))
+    -- with none done none, and with 400 done 200 of each kind, where 14 is asked next; places n and above are not read
+    ∷ (stepsOf 2 0 (sender Running 0 0 ∷ sender Running 1 0 ∷ []) quiet ⟶ refused (7, Unnamed))
+    ∷ (stepsOf 2 400 (sender Running 200 200 ∷ sender (Stopped 400) 200 200 ∷ []) quiet ⟶ refused (14, Unnamed))
+    ∷ (stepsOf 2 400 (sender Running 200 200 ∷ sender (Stopped 400) 200 201 ∷ []) quiet ⟶ refused (7, Unnamed))
+    ∷ (stepsOf 2 0 (sender Running 0 0 ∷ sender Running 0 0 ∷ sender Running 1 1 ∷ []) quiet ⟶ refused (0, Unnamed))
     -- C11: both roads take 180 seconds
     ∷ (takes 1200 600 90 ⟶ exactly (180, 0))
     ∷ (takes 900 300 60 ⟶ exactly (180, 0))

@@ -12,7 +12,7 @@ use lib.ListN.{length, getD, take, drop, set, length-append, take-append-drop}
 use lib.Seq.{take-suc, take-suc-set, take-all, drop-set-lt, drop-drop}
 use Rattle.protocol.specs.declared.Truck.{Truck}
 use Rattle.protocol.specs.Rules.{truck}
-use Rattle.listing.specs.Text.{text, decimalIn, decimal, stateText, truckLine, truckLines, listingOf, refusalText}
+use Rattle.listing.specs.Text.{text, decimalIn, decimal, stateText, sentText, truckLine, truckLines, listingOf, refusalText}
 use Rattle.refusals.specs.declared.Refusal.the-variants.{ShortBuffer}
 use Rattle.refusals.specs.declared.Refusal.{Refusal}
 use Rattle.refusals.specs.declared.Outcome.{Outcome}
@@ -26,7 +26,7 @@ use Rattle.recording.proofs.Accepted.{bytes-good}
 use Rattle.protocol.specs.declared.Fleet.{Fleet}
 use Rattle.protocol.specs.declared.Answer.{Answer}
 use Rattle.protocol.specs.Fleets.{answer, blank, fleetAt, ran, ranIn, fleetIn}
-use Rattle.listing.specs.Writing.{Put, openingText, spaced}
+use Rattle.listing.specs.Writing.{Put, openingText, spaced, sentLine}
 
 -- one byte more of a text
 pub put-more : (d₀ d t : List ℕ) (at i : ℕ) → take (at + i) d ≡ take at d₀ ++ take i t → at + i < length d → i < length t
@@ -137,10 +137,14 @@ put-digits k h l a b =
     (w, number-ends k w)
 
 -- the line of a truck, part by part
-pub line-text : (i : ℕ) (t : Truck) → openingText i (t .opening) ++ spaced (stateText (t .state) (t .estimate)) ++ text "\n" ≡ truckLine i t
+pub line-text : (i : ℕ) (t : Truck)
+    → openingText i (t .opening) ++ spaced (stateText (t .state) (t .estimate)) ++ text " " ++ sentLine (t .sent .proposals) (t .sent .vetoes) ≡ truckLine i t
 unfolding truckLine
 line-text i t =
-    ap (λ (x : List ℕ). x ++ text "\n") (sym (append-assoc (openingText i (t .opening)) (text " ") (stateText (t .state) (t .estimate))))
+    let a = openingText i (t .opening) in
+    let b = stateText (t .state) (t .estimate) in
+    let c = sentText (t .sent .proposals) (t .sent .vetoes) in
+    ap (λ (x : List ℕ). x ++ text " " ++ (c ++ text "\n")) (sym (append-assoc a (text " ") b)) ∙ sym (append-assoc (a ++ text " " ++ b ++ text " ") c (text "\n"))
 
 -- no text
 pub put-none : (d : List ℕ) (at : ℕ) → Put d at [] d at

@@ -9,7 +9,8 @@ use native.Mathlib.Omega.{arith}
 use borrow.Author.Tests.{ltb-false, leb-true}
 use lib.Dec.{ltb}
 use lib.ListN.{length, length-append, replicate}
-use Rattle.basics.specs.Lists.{allBelow}
+use Rattle.basics.specs.Lists.{allBelow, sumBelow}
+use Rattle.basics.proofs.Laws.{sum-most}
 use Rattle.refusals.specs.declared.Refusal.{Refusal}
 use Rattle.refusals.specs.declared.Refusal.the-variants.{OwnLoss}
 use Rattle.refusals.specs.declared.Location.{Location}
@@ -32,8 +33,9 @@ use Rattle.protocol.specs.Rules.{truck}
 use Rattle.protocol.specs.Fleets.{twoRound, goodState, goodTruckIn, goodFleetIn, goodFleet, fleetIn, ran}
 use Rattle.protocol.proofs.Good.{Good, state-ended}
 use Rattle.protocol.proofs.OneRound.{sound-two}
+use Rattle.protocol.proofs.Rules.{counts-parts}
 use Rattle.protocol.proofs.Ran.{ran-fleet, ran-good}
-use Rattle.listing.specs.Text.{text, decimalIn, decimal, stateText, truckLine, truckLines, listingOf, locationText, refusalText}
+use Rattle.listing.specs.Text.{text, decimalIn, decimal, stateText, sentText, truckLine, truckLines, totalsLine, listingOf, locationText, refusalText}
 use Rattle.listing.specs.Program.{longestListing, longestRefusal}
 
 -- a number below 10 to the m + 1 has at most m + 1 digits
@@ -101,18 +103,45 @@ state-size R l (Decided k) v h g =
     let b : k ≤ R = state-ended twoRound R (Decided k) refl g in
     ended-size (text "decided ") v k refl h (omega arith)
 
--- the line of such a truck: 32 bytes besides its number
-line-size : (R : ℕ) → R ≤ 400 → (i : ℕ) (t : Truck) → Good twoRound R t → length (truckLine i t) ≤ length (decimal i) + 32
+-- what two numbers of m + 1 digits take
+sent-size : (m p v : ℕ) → p < 10 ^ suc m → v < 10 ^ suc m → length (sentText p v) ≤ 15 + 2 * m
+unfolding sentText
+sent-size m p v hp hv =
+    let la : length (text "sent ") ≡ 5 = refl in
+    let lc : length (text " vetoes ") ≡ 8 = refl in
+    omega (
+      arith,
+      length-append (text "sent ") (decimal p),
+      length-append (text "sent " ++ decimal p) (text " vetoes "),
+      length-append (text "sent " ++ decimal p ++ text " vetoes ") (decimal v),
+      digits m p hp,
+      digits m v hv,
+    )
+
+-- there are at most 200 rounds of each kind
+counts-most : (R : ℕ) → R ≤ 400 → (t : Truck) → Good twoRound R t → (t .sent .proposals ≤ 200) × (t .sent .vetoes ≤ 200)
+counts-most R l t g =
+    let c = counts-parts R (t .sent) (g .counts) in
+    (omega (arith, c .0), omega (arith, c .1))
+
+-- the line of such a truck: 52 bytes besides its number
+line-size : (R : ℕ) → R ≤ 400 → (i : ℕ) (t : Truck) → Good twoRound R t → length (truckLine i t) ≤ length (decimal i) + 52
 unfolding truckLine
 line-size R l i t g =
     let lb : length (text " opened ") ≡ 8 = refl in
     let ld : length (text " ") ≡ 1 = refl in
     let lf : length (text "\n") ≡ 1 = refl in
+    let a = decimal i ++ text " opened " ++ decimal (t .opening) ++ text " " ++ stateText (t .state) (t .estimate) ++ text " " in
+    let b = sentText (t .sent .proposals) (t .sent .vetoes) in
+    let c = counts-most R l t g in
     omega (
       arith,
-      six-parts (decimal i) (text " opened ") (decimal (t .opening)) (text " ") (stateText (t .state) (t .estimate)) (text "\n"),
+      six-parts (decimal i) (text " opened ") (decimal (t .opening)) (text " ") (stateText (t .state) (t .estimate)) (text " "),
+      length-append a b,
+      length-append (a ++ b) (text "\n"),
       crusher-size (t .opening) (leb-true (t .opening) 15 (g .opening)),
       state-size R l (t .state) (t .estimate) (leb-true (t .estimate) 15 (g .estimate)) (g .state),
+      sent-size 2 (t .sent .proposals) (t .sent .vetoes) (omega arith) (omega arith),
     )
 
 -- a truck's number has one digit below 10, and two below 100
@@ -124,7 +153,7 @@ number-size i h = go (decLt i 10)
     go (no l) = omega (arith, digits 1 i (let o : i < 10 ^ 2 = omega arith in o))
 
 lines-size : (R : ℕ) → R ≤ 400 → (ts : List Truck) (n : ℕ) → n ≤ 32 → ((i : ℕ) → i < n → Good twoRound R (truck ts i))
-    → length (truckLines ts n) ≤ 33 * n + (n - 10)
+    → length (truckLines ts n) ≤ 53 * n + (n - 10)
 unfolding truckLines
 lines-size R l ts zero h g = omega arith
 lines-size R l ts (suc i) h g =
@@ -136,6 +165,17 @@ lines-size R l ts (suc i) h g =
       number-size i (omega arith),
     )
 
+-- the last line of at most 32 such trucks
+totals-size : (R : ℕ) → R ≤ 400 → (ts : List Truck) (n : ℕ) → n ≤ 32 → ((i : ℕ) → i < n → Good twoRound R (truck ts i)) → length (totalsLine ts n) ≤ 22
+unfolding totalsLine
+totals-size R l ts n h g =
+    let p = sumBelow (λ i. truck ts i .sent .proposals) n in
+    let v = sumBelow (λ i. truck ts i .sent .vetoes) n in
+    let lf : length (text "\n") ≡ 1 = refl in
+    let mp : p ≤ 200 * n = sum-most (λ i. truck ts i .sent .proposals) 200 n (λ i li. counts-most R l (truck ts i) (g i li) .0) in
+    let mv : v ≤ 200 * n = sum-most (λ i. truck ts i .sent .vetoes) 200 n (λ i li. counts-most R l (truck ts i) (g i li) .1) in
+    omega (arith, length-append (sentText p v) (text "\n"), sent-size 3 p v (omega arith) (omega arith))
+
 fleet-size : (f : Fleet) → f .n ≤ 32 → f .done ≤ 400 → ((i : ℕ) → i < f .n → Good twoRound (f .done) (truck (f .trucks) i))
     → length (listingOf f) ≤ longestListing
 unfolding listingOf
@@ -143,12 +183,15 @@ fleet-size f h l g =
     let la : length (text "trucks ") ≡ 7 = refl in
     let lc : length (text " rounds ") ≡ 8 = refl in
     let le : length (text "\n") ≡ 1 = refl in
+    let a = text "trucks " ++ decimal (f .n) ++ text " rounds " ++ decimal (f .done) ++ text "\n" ++ truckLines (f .trucks) (f .n) in
     omega (
       arith,
       six-parts (text "trucks ") (decimal (f .n)) (text " rounds ") (decimal (f .done)) (text "\n") (truckLines (f .trucks) (f .n)),
+      length-append a (totalsLine (f .trucks) (f .n)),
       digits 1 (f .n) (let o : f .n < 10 ^ 2 = omega arith in o),
       round-size (f .done) l,
       lines-size (f .done) l (f .trucks) (f .n) h g,
+      totals-size (f .done) l (f .trucks) (f .n) h g,
     )
 
 -- the listing of an accepted run
@@ -215,10 +258,10 @@ refused-size s r h = refusal-size r (λ round truck e. check-in s round truck (h
 
 -- no size is larger than it has to be: a record that refusal 7 lets pass has the longest listing, and the last truck of the last round the longest line
 pub fullest : Fleet
-fullest = record { n = 32; done = 400; trucks = replicate 32 (record { opening = 15; estimate = 15; mark = false; heard = Nothing; state = Decided 400 }) }
+fullest = record { n = 32; done = 400; trucks = replicate 32 (record { opening = 15; estimate = 15; mark = false; heard = Nothing; state = Decided 400; sent = record { proposals = 200; vetoes = 200 } }) }
 
 pub listing-longest : (goodFleet fullest ≡ true) × (length (listingOf fullest) ≡ longestListing)
-unfolding fullest goodTruckIn goodFleetIn badTrucks allBelow decimalIn decimal stateText truckLine truckLines listingOf
+unfolding fullest goodTruckIn goodFleetIn badTrucks allBelow sumBelow decimalIn decimal stateText sentText truckLine truckLines totalsLine listingOf
 listing-longest = (refl, refl)
 
 pub refusal-longest : length (refusalText (OwnLoss 400 31)) ≡ longestRefusal

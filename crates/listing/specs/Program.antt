@@ -4,7 +4,7 @@ use Rattle.recording.specs.Packed.{largestRecording}
 
 -- the bytes of the longest listing, and of the longest line of a refusal
 abbrev pub longestListing : ℕ
-longestListing = 1099
+longestListing = 1761
 
 abbrev pub longestRefusal : ℕ
 longestRefusal = 29

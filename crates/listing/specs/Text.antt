@@ -1,4 +1,4 @@
--- The printed text (document 01, 'Runs worked through'), as bytes.
+-- The printed text (document 01, 'Runs worked through'; document 02, F-5), as bytes.
 use Prim.Native.Nat.{ℕ, zero, suc, _+_, _/_, _%_}
 use Prim.Native.Char.{code}
 use Prim.Native.String as string
@@ -6,6 +6,7 @@ use Prim.Native.String.{String}
 use mathlib.Core.Bool.{cond}
 use mathlib.Core.List.{List, [], _∷_, _++_}
 use lib.Dec.{ltb}
+use Rattle.basics.specs.Lists.{sumBelow}
 use Rattle.refusals.specs.Numbers.{numberOf}
 use Rattle.refusals.specs.Locations.{locationOf}
 use Rattle.refusals.specs.declared.Refusal.{Refusal}
@@ -42,18 +43,31 @@ stateText Running v = text "running " ++ decimal v
 stateText (Stopped k) v = text "stopped " ++ decimal v ++ text " round " ++ decimal k
 stateText (Decided k) v = text "decided " ++ decimal v ++ text " round " ++ decimal k
 
--- the line of truck i: truck, opening, state, crusher, round
+-- how much was sent: proposals and vetoes
+unfoldable pub sentText : ℕ → ℕ → List ℕ
+sentText proposals vetoes = text "sent " ++ decimal proposals ++ text " vetoes " ++ decimal vetoes
+
+-- the line of truck i: truck, opening, state, crusher, round, and how much it sent
 unfoldable pub truckLine : ℕ → Truck → List ℕ
-truckLine i t = decimal i ++ text " opened " ++ decimal (t .opening) ++ text " " ++ stateText (t .state) (t .estimate) ++ text "\n"
+truckLine i t =
+    decimal i ++ text " opened " ++ decimal (t .opening) ++ text " " ++ stateText (t .state) (t .estimate)
+    ++ text " " ++ sentText (t .sent .proposals) (t .sent .vetoes) ++ text "\n"
 
 -- the lines of the trucks below n
 unfoldable pub truckLines : List Truck → ℕ → List ℕ
 truckLines ts zero = []
 truckLines ts (suc i) = truckLines ts i ++ truckLine i (truck ts i)
 
--- the whole listing: the two header counts, then a line for each truck
+-- the last line: how much the trucks below n sent in total
+unfoldable pub totalsLine : List Truck → ℕ → List ℕ
+totalsLine ts n =
+    sentText (sumBelow (λ i. truck ts i .sent .proposals) n) (sumBelow (λ i. truck ts i .sent .vetoes) n) ++ text "\n"
+
+-- the whole listing: the two header counts, then a line for each truck, then the totals
 unfoldable pub listingOf : Fleet → List ℕ
-listingOf f = text "trucks " ++ decimal (f .n) ++ text " rounds " ++ decimal (f .done) ++ text "\n" ++ truckLines (f .trucks) (f .n)
+listingOf f =
+    text "trucks " ++ decimal (f .n) ++ text " rounds " ++ decimal (f .done) ++ text "\n" ++ truckLines (f .trucks) (f .n)
+    ++ totalsLine (f .trucks) (f .n)
 
 -- the round and the truck that a refusal names, where it names them
 unfoldable pub locationText : Location → List ℕ

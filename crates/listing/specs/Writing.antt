@@ -3,7 +3,7 @@ use mathlib.Core.Path.{_≡_}
 use mathlib.Core.List.{List, _++_}
 use Prim.Native.Nat.{ℕ, _+_}
 use lib.ListN.{length, take, drop}
-use Rattle.listing.specs.Text.{text, decimal}
+use Rattle.listing.specs.Text.{text, decimal, sentText}
 
 -- s was put at place `at` of the buffer d: d′ is the buffer now, r the next place; what stood before `at` and from r on stands there still
 pub record Put (d : List ℕ) (at : ℕ) (s : List ℕ) (d′ : List ℕ) (r : ℕ) : Type 0 where
@@ -11,7 +11,7 @@ pub record Put (d : List ℕ) (at : ℕ) (s : List ℕ) (d′ : List ℕ) (r : �
   pub front : take r d′ ≡ take at d ++ s
   pub rest : drop r d′ ≡ drop r d
 
--- the parts of a truck's line
+-- the parts of a line
 abbrev pub openingText : ℕ → ℕ → List ℕ
 openingText i v = decimal i ++ text " opened " ++ decimal v
 
@@ -20,6 +20,9 @@ endedText word v k = word ++ decimal v ++ text " round " ++ decimal k
 
 abbrev pub spaced : List ℕ → List ℕ
 spaced s = text " " ++ s
+
+abbrev pub sentLine : ℕ → ℕ → List ℕ
+sentLine proposals vetoes = sentText proposals vetoes ++ text "\n"
 
 abbrev pub headerText : ℕ → ℕ → List ℕ
 headerText n R = text "trucks " ++ decimal n ++ text " rounds " ++ decimal R ++ text "\n"

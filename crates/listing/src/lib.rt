@@ -3,9 +3,11 @@ ghost use mathlib.Core.Path.{_≡_};
 ghost use mathlib.Core.List.{_∷_, []};
 ghost use Prim.Native.Nat.{_+_, _<_, _≤_};
 ghost use lib.ListN.{length};
+ghost use Rattle.basics.specs.Lists.{sumBelow};
+ghost use Rattle.protocol.specs.Rules.{truck};
 ghost use Rattle.listing.specs.Text.{decimal, stateText, truckLine, truckLines, listingOf, locationText, refusalText};
 ghost use Rattle.listing.specs.Listed.{left, textIn, listed, refusalListed};
-ghost use Rattle.listing.specs.Writing.{Put, openingText, endedText, headerText, spaced};
+ghost use Rattle.listing.specs.Writing.{Put, openingText, endedText, headerText, spaced, sentLine};
 use protocol::Fleet;
 use protocol::State;
 use protocol::Truck;
@@ -17,6 +19,12 @@ use refusals::Refusal;
 pub enum Listed {
     Text(usize),
     Refused(Refusal),
+}
+
+// How many proposals and vetoes several trucks sent together.
+struct Totals {
+    proposals: u16,
+    vetoes: u16,
 }
 
 // Puts the bytes of t into the buffer from place `at` on, and answers the next place.
@@ -95,16 +103,31 @@ fn put_state(buf: &mut [u8], at: usize, state: State, crusher: u8) -> usize
     }
 }
 
+// Puts how much was sent, and the end of the line.
+fn put_sent(buf: &mut [u8], at: usize, proposals: u16, vetoes: u16) -> usize
+    requires { ⌜ at + 24 ≤ length (now buf) ⌝ }
+    ensures placed { λ r. ⌜ Put (now (buf .entry)) at (sentLine proposals vetoes) (now (buf .exit)) r ⌝ }
+    ensures within { λ r. ⌜ r ≤ at + 24 ⌝ }
+{
+    let a = put(buf, at, b"sent ");
+    let b = put_number(buf, a, proposals);
+    let c = put(buf, b, b" vetoes ");
+    let d = put_number(buf, c, vetoes);
+    put(buf, d, b"\n")
+}
+
 // Puts the line of truck i.
 fn put_line(buf: &mut [u8], at: usize, i: u16, t: Truck) -> usize
-    requires { ⌜ at + 45 ≤ length (now buf) ⌝ }
+    requires { ⌜ at + 69 ≤ length (now buf) ⌝ }
     ensures placed { λ r. ⌜ Put (now (buf .entry)) at (truckLine i t) (now (buf .exit)) r ⌝ }
-    ensures within { λ r. ⌜ r ≤ at + 45 ⌝ }
+    ensures within { λ r. ⌜ r ≤ at + 69 ⌝ }
 {
     let a = put_opening(buf, at, i, t.opening);
     let s = t.state;
     let b = put_state(buf, a, s, t.estimate);
-    put(buf, b, b"\n")
+    let c = put(buf, b, b" ");
+    let sent = t.sent;
+    put_sent(buf, c, sent.proposals as u16, sent.vetoes as u16)
 }
 
 // Puts the first line: the two header counts.
@@ -122,9 +145,9 @@ fn put_header(buf: &mut [u8], at: usize, n: u8, done: u16) -> usize
 
 // Puts the lines of the trucks below n.
 fn put_lines(buf: &mut [u8], at: usize, f: Fleet) -> usize
-    requires { ⌜ (at + 1440 ≤ length (now buf)) × (f .n ≤ 32) ⌝ }
+    requires { ⌜ (at + 2208 ≤ length (now buf)) × (f .n ≤ 32) ⌝ }
     ensures placed { λ r. ⌜ Put (now (buf .entry)) at (truckLines (f .trucks) (f .n)) (now (buf .exit)) r ⌝ }
-    ensures within { λ r. ⌜ r ≤ at + 1440 ⌝ }
+    ensures within { λ r. ⌜ r ≤ at + 2208 ⌝ }
 {
     let n = f.n as usize;
     let mut r = at;
@@ -137,16 +160,38 @@ fn put_lines(buf: &mut [u8], at: usize, f: Fleet) -> usize
     r
 }
 
+// How much the trucks below n sent in total.
+fn sum_sent(f: Fleet) -> Totals
+    requires { ⌜ f .n ≤ 32 ⌝ }
+    ensures proposals { λ r. ⌜ r .proposals ≡ sumBelow (λ i. truck (f .trucks) i .sent .proposals) (f .n) ⌝ }
+    ensures vetoes { λ r. ⌜ r .vetoes ≡ sumBelow (λ i. truck (f .trucks) i .sent .vetoes) (f .n) ⌝ }
+{
+    let below = f.n as usize;
+    let mut proposals: u16 = 0;
+    let mut vetoes: u16 = 0;
+    let mut i: usize = 0;
+    while i < below {
+        let t = f.trucks[i];
+        let sent = t.sent;
+        proposals += sent.proposals as u16;
+        vetoes += sent.vetoes as u16;
+        i += 1;
+    }
+    Totals { proposals, vetoes }
+}
+
 // Puts the whole listing.
 fn put_listing(buf: &mut [u8], f: Fleet) -> usize
-    requires { ⌜ (1466 ≤ length (now buf)) × (f .n ≤ 32) ⌝ }
+    requires { ⌜ (2258 ≤ length (now buf)) × (f .n ≤ 32) ⌝ }
     ensures placed { λ r. ⌜ Put (now (buf .entry)) 0 (listingOf f) (now (buf .exit)) r ⌝ }
-    ensures within { λ r. ⌜ r ≤ 1466 ⌝ }
+    ensures within { λ r. ⌜ r ≤ 2258 ⌝ }
 {
     let n = f.n;
     let done = f.done;
     let at = put_header(buf, 0, n, done);
-    put_lines(buf, at, f)
+    let last = put_lines(buf, at, f);
+    let sum = sum_sent(f);
+    put_sent(buf, last, sum.proposals, sum.vetoes)
 }
 
 // Copies a text to the lent buffer where it is long enough.
@@ -209,7 +254,7 @@ pub fn list(s: &[u8], buf: &mut [u8]) -> Listed
         Outcome::Refused(r) => Listed::Refused(r),
         Outcome::Accepted => {
             let f = a.fleet;
-            let mut work = [0u8; 1466];
+            let mut work = [0u8; 2258];
             let k = put_listing(&mut work, f);
             lend_text(&work[..k], buf)
         }

@@ -69,7 +69,7 @@ fn line_of(r: refusals::Refusal, text: &mut [u8]) -> usize
 }
 
 fn replay(s: &[u8]) {
-    let mut text = [0u8; 1099];
+    let mut text = [0u8; 1761];
     let k = text_of(s, &mut text);
     print(&text[..k]);
 }

@@ -7,10 +7,15 @@ use Rattle.listing.proofs.put_line.Tie as tie
 
 returns : tie.Need-returns
 returns c =
-    let state = c .before .before .before .before .before .before .before in
+    let sent = c .before .before in
+    let space = sent .before .before .before .before .before .before .before in
+    let state = space .before .before .before .before .before in
     let opening = state .before .before .before .before in
-    let a = opening .before .before .before .args in
-    (put-as (line-text (a .i) (a .t)) (put-join (put-join (opening .put-opening .ensures .0) (state .put-state .ensures .0)) (c .before .before .put .ensures)), omega arith)
+    let a = opening .before .before .before .args in (
+      put-as (line-text (a .i) (a .t))
+          (put-join (put-join (put-join (opening .put-opening .ensures .0) (state .put-state .ensures .0)) (space .put .ensures)) (sent .put-sent .ensures .0)),
+      omega arith,
+    )
 
 pub put-line-spec : {M : Type 1} → statement M
 put-line-spec =
@@ -18,6 +23,9 @@ put-line-spec =
     (tie.spec
     (λ c κs. search needs)
     (λ c κs. search needs)
+    (λ c. search needs)
+    (λ c κs. search needs)
+    (λ c. search needs)
     (λ c. search needs)
     (λ c κs. search needs)
     (λ c. search needs)

@@ -1,4 +1,4 @@
--- `put_lines` meets its contract: the loop holds the buffer with the lines of the trucks so far, 45 bytes or fewer for each.
+-- `put_lines` meets its contract: the loop holds the buffer with the lines of the trucks so far, 69 bytes or fewer for each.
 use mathlib.Core.Path.{_≡_, ap}
 use Prim.Native.Nat.{_+_, _*_, _-_, _≤_}
 use native.Mathlib.Omega.{arith}
@@ -13,7 +13,7 @@ use Rattle.listing.proofs.put_lines.Tie as tie
 
 abbrev Inv-loop : tie.InvT-loop
 Inv-loop buf₀ at f n r₀ i₀ buf r i =
-    Put buf₀ at (truckLines (f .trucks) i) buf r × (r ≤ at + 45 * i) × (length buf ≡ length buf₀) × (i ≤ n)
+    Put buf₀ at (truckLines (f .trucks) i) buf r × (r ≤ at + 69 * i) × (length buf ≡ length buf₀) × (i ≤ n)
 
 abbrev μ-loop : tie.MeasureT-loop
 μ-loop buf₀ at f n r₀ i₀ buf r i = n - i

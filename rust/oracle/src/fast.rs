@@ -4,6 +4,7 @@
 //! bits come off a recording in the order they are packed. Plain words have
 //! truck j at the bit worth 2 to the j; one is the other reversed.
 
+use crate::bytes;
 use crate::fleet::{record_refused, Fleet, Heard, State, Truck};
 use crate::recording::{Header, OwnBit, Plain};
 
@@ -313,7 +314,9 @@ impl Play {
         let sent = self.running & round.active;
         let mut senders_of = [0u32; 16];
         for i in Trucks(sent) {
-            senders_of[self.fleet.trucks[i].estimate as usize] |= place(i);
+            let truck = &mut self.fleet.trucks[i];
+            truck.sent.proposals += 1;
+            senders_of[truck.estimate as usize] |= place(i);
         }
         // The values sent, least first, each with its senders.
         let mut values = [(0u8, 0u32); 16];
@@ -347,6 +350,9 @@ impl Play {
 
     fn veto(&mut self, number: u16, round: &Round, judge: &mut impl Judge) {
         let sent = self.running & (self.marked | self.several);
+        for i in Trucks(sent) {
+            self.fleet.trucks[i].sent.vetoes += 1;
+        }
         let may_decide = self.one & !round.mark;
         let mut decided = 0;
         for i in Trucks(self.running) {
@@ -429,6 +435,11 @@ pub fn step(fleet: &Fleet, words: &[u32]) -> (u8, Fleet) {
     let mut play = Play::resumed(fleet);
     play.round(&Round { stop, active, mark, rows }, &mut NoJudge);
     (0, play.finish())
+}
+
+/// One step of a record lent as bytes.
+pub fn step_bytes(lent: &mut [u8], words: &[u32]) -> u8 {
+    bytes::step(lent, words, step)
 }
 
 /// All bits set in some word.

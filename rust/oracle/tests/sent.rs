@@ -41,50 +41,20 @@ fn a_start_and_a_blank_record_have_no_counts() {
 /// Two trucks: what makes a truck send, and what does not.
 #[test]
 fn a_step_adds_1_exactly_where_a_truck_sends() {
-    let cases: [(&str, [u8; 2], &[&[u32]], &[(u8, u8)]); 8] = [
-        ("active bits send in odd rounds", [3, 5], &[&[0, 0b01, 0, 0, 0]], &[(1, 0), (0, 0)]),
-        (
-            "active bits do nothing in even rounds",
-            [4, 4],
-            &[&[0, 0, 0, 0, 0], &[0, 0b11, 0, 0, 0]],
-            &[(0, 0), (0, 0)],
-        ),
-        ("a marked truck sends all the same", [3, 5], &[&[0, 0b11, 0b11, 0, 0]], &[(1, 0), (1, 0)]),
-        (
-            "a mark makes a veto, whoever was active",
-            [4, 4],
-            &[&[0, 0b01, 0b10, 0, 0], &[0, 0, 0, 0, 0]],
-            &[(1, 0), (0, 1)],
-        ),
-        (
-            "several values make a veto",
-            [3, 5],
-            &[&[0, 0b11, 0, 0, 0b01], &[0, 0, 0, 0, 0]],
-            &[(1, 1), (1, 0)],
-        ),
-        (
-            "a mark in the veto round makes none",
-            [4, 4],
-            &[&[0, 0b11, 0, 0, 0], &[0, 0, 0b11, 0, 0]],
-            &[(1, 0), (1, 0)],
-        ),
-        (
-            "a truck that stops does not propose",
-            [3, 5],
-            &[&[0b10, 0b11, 0, 0, 0]],
-            &[(1, 0), (0, 0)],
-        ),
-        (
-            "a truck that stops does not veto",
-            [3, 5],
-            &[&[0, 0b11, 0, 0, 0], &[0b10, 0, 0, 0, 0]],
-            &[(1, 1), (1, 0)],
-        ),
-    ];
-    for (what, openings, rounds, expected) in cases {
+    let hold = |what: &str, openings: [u8; 2], rounds: &[&[u32]], expected: [(u8, u8); 2]| {
         let after = counts_after_each(&openings, rounds);
-        assert_eq!(after.last().unwrap(), &sent(expected), "{what}");
-    }
+        assert_eq!(after.last().unwrap(), &sent(&expected), "{what}");
+    };
+    let silent = [0; 5];
+    let both = [0, 0b11, 0, 0, 0];
+    hold("active bits send in odd rounds", [3, 5], &[&[0, 0b01, 0, 0, 0]], [(1, 0), (0, 0)]);
+    hold("active bits do nothing in even rounds", [4, 4], &[&silent, &both], [(0, 0), (0, 0)]);
+    hold("a marked truck sends all the same", [3, 5], &[&[0, 0b11, 0b11, 0, 0]], [(1, 0), (1, 0)]);
+    hold("a mark makes a veto", [4, 4], &[&[0, 0b01, 0b10, 0, 0], &silent], [(1, 0), (0, 1)]);
+    hold("several values make one", [3, 5], &[&[0, 0b11, 0, 0, 0b01], &silent], [(1, 1), (1, 0)]);
+    hold("a mark in a veto round makes none", [4, 4], &[&both, &[0, 0, 3, 0, 0]], [(1, 0), (1, 0)]);
+    hold("who stops does not propose", [3, 5], &[&[0b10, 0b11, 0, 0, 0]], [(1, 0), (0, 0)]);
+    hold("who stops does not veto", [3, 5], &[&both, &[0b10, 0, 0, 0, 0]], [(1, 1), (1, 0)]);
 }
 
 /// Messages that are lost were sent.

@@ -24,7 +24,8 @@ static void print_fleet(const uint8_t *record) {
     printf("after round %u:", rajvokshul_rounds_done(record));
     for (uint32_t i = 0; i < rajvokshul_trucks(record); i++) {
         const char *state = states[rajvokshul_truck_state(record, i)];
-        printf(" truck %u %s at %u", (unsigned)i, state, rajvokshul_truck_estimate(record, i));
+        printf("%s truck %u %s at %u, sent %u vetoes %u", i == 0 ? "" : ";", (unsigned)i, state,
+               rajvokshul_truck_estimate(record, i), rajvokshul_truck_proposals(record, i), rajvokshul_truck_vetoes(record, i));
     }
     printf("\n");
 }

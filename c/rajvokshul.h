@@ -102,9 +102,9 @@ static inline const char *rajvokshul_reason(uint32_t number) {
 #define RAJVOKSHUL_MAX_ROUNDS 400
 #define RAJVOKSHUL_MAX_RECORDING 56018 /* bytes of a recording */
 #define RAJVOKSHUL_MAX_WORDS 14000     /* words of all rounds in plain form: rounds * (3 + n) */
-#define RAJVOKSHUL_MAX_TEXT 1099       /* bytes of a listing */
+#define RAJVOKSHUL_MAX_TEXT 1761       /* bytes of a listing */
 #define RAJVOKSHUL_MAX_REFUSAL 29      /* bytes of the line that the program prints for a refused recording */
-#define RAJVOKSHUL_RECORD_SIZE 227     /* bytes of a fleet record: exactly these are read and written */
+#define RAJVOKSHUL_RECORD_SIZE 323     /* bytes of a fleet record: exactly these are read and written */
 #define RAJVOKSHUL_GRADES 4            /* numbers of a grading */
 
 /* The bytes of a recording of n trucks and so many rounds; 0 where either is outside the limits. */
@@ -137,7 +137,9 @@ static inline size_t rajvokshul_words(uint32_t trucks, uint32_t rounds) {
 #define RAJVOKSHUL_WORD_MARK 2
 #define RAJVOKSHUL_WORD_LOST 3 /* the row of truck 0; that of truck i is i words further */
 
-/* Runs a recording and writes its listing; *written becomes the number of bytes. Refusals: 1 to 6, 9. */
+/* Runs a recording and writes its listing: the numbers of trucks and rounds, a line for each truck, which ends with how many
+ * proposals and vetoes it sent, and a line with how many all of them sent. *written becomes the number of bytes. Refusals:
+ * 1 to 6, 9. */
 RAJVOKSHUL_NODISCARD
 uint32_t rajvokshul_list(const uint8_t *bytes, size_t bytes_len, uint8_t *text, size_t text_len, size_t *written);
 
@@ -167,18 +169,21 @@ uint32_t rajvokshul_write(uint32_t trucks, uint32_t rounds, const uint8_t *openi
                           const uint32_t *words, size_t words_len, uint8_t *bytes, size_t bytes_len, size_t *written);
 
 /* ---- A live fleet -------------------------------------------------------------------------------------------------
- * A fleet record has 227 bytes:
+ * A fleet record has 323 bytes:
  *   0        n, the number of trucks
  *   1, 2     rounds done, low byte first
- *   then seven bytes for each of 32 places, truck i at 3 + 7 * i:
+ *   then ten bytes for each of 32 places, truck i at 3 + 10 * i:
  *   + 0      opening
  *   + 1      present estimate; of a decided truck its crusher
  *   + 2      1 where it had a mark in the proposal round before, else 0
  *   + 3      what it heard there: 0 no value, 1 one value, 2 several different values
  *   + 4      state: 0 running, 1 stopped, 2 decided
  *   + 5, 6   the round of its stop or decision, low byte first; 0 for a running truck
+ *   + 7      how many proposals it has sent: at most as many as odd rounds are done
+ *   + 8      how many vetoes it has sent: at most as many as even rounds are done
+ *   + 9      0
  * A start and a run write all 32 places; those of trucks n and above are 0. Nothing reads them, and a step leaves them as
- * they are. The inline functions read the fields of a record of 227 bytes; i counts trucks from 0, and of a number of 32
+ * they are. The inline functions read the fields of a record of 323 bytes; i counts trucks from 0, and of a number of 32
  * or above 0 is answered. */
 #define RAJVOKSHUL_HEARD_NOTHING 0
 #define RAJVOKSHUL_HEARD_ONE 1
@@ -195,9 +200,9 @@ static inline uint16_t rajvokshul_rounds_done(const uint8_t *record) {
     return (uint16_t)(record[1] | record[2] << 8);
 }
 
-/* Byte k, 0 to 6, of the place of truck i. */
+/* Byte k, 0 to 9, of the place of truck i. */
 static inline uint8_t rajvokshul_truck_byte(const uint8_t *record, uint32_t i, uint32_t k) {
-    return i < RAJVOKSHUL_MAX_TRUCKS && k < 7 ? record[3 + 7 * i + k] : (uint8_t)0;
+    return i < RAJVOKSHUL_MAX_TRUCKS && k < 10 ? record[3 + 10 * i + k] : (uint8_t)0;
 }
 
 static inline uint8_t rajvokshul_truck_opening(const uint8_t *record, uint32_t i) {
@@ -222,6 +227,14 @@ static inline uint8_t rajvokshul_truck_state(const uint8_t *record, uint32_t i) 
 
 static inline uint16_t rajvokshul_truck_round(const uint8_t *record, uint32_t i) {
     return (uint16_t)(rajvokshul_truck_byte(record, i, 5) | rajvokshul_truck_byte(record, i, 6) << 8);
+}
+
+static inline uint8_t rajvokshul_truck_proposals(const uint8_t *record, uint32_t i) {
+    return rajvokshul_truck_byte(record, i, 7);
+}
+
+static inline uint8_t rajvokshul_truck_vetoes(const uint8_t *record, uint32_t i) {
+    return rajvokshul_truck_byte(record, i, 8);
 }
 
 /* Starts a fleet with an opening for each of its trucks. Refusals: 2, 7, 9. */

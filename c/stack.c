@@ -51,10 +51,10 @@ static void fill_round(uint32_t *round, int vetoes) {
 /* Whether a record is that of a fleet of 32 after so many rounds, every truck running. */
 static int all_run(const uint8_t *record, int done) {
     int running = 0;
-    for (int i = 0; i < N; i++) {
-        running += record[3 + 7 * i + 4] == 0;
+    for (uint32_t i = 0; i < N; i++) {
+        running += rajvokshul_truck_state(record, i) == RAJVOKSHUL_RUNNING;
     }
-    return record[0] == N && record[1] + 256 * record[2] == done && running == N;
+    return rajvokshul_trucks(record) == N && rajvokshul_rounds_done(record) == done && running == N;
 }
 
 /* Makes the inputs; whether they are what they should be. */

@@ -56,11 +56,15 @@ static void fields_after_a_round(void) {
     EXPECT(rajvokshul_truck_heard(record, 1), RAJVOKSHUL_HEARD_SEVERAL);
     EXPECT(rajvokshul_truck_state(record, 1), RAJVOKSHUL_RUNNING);
     EXPECT(rajvokshul_truck_round(record, 1), 0);
+    EXPECT(rajvokshul_truck_proposals(record, 1), 1);
+    EXPECT(rajvokshul_truck_vetoes(record, 1), 0);
     EXPECT(rajvokshul_run(c1, sizeof c1, record, sizeof record), RAJVOKSHUL_ACCEPTED);
     EXPECT(rajvokshul_rounds_done(record), 4);
     EXPECT(rajvokshul_truck_heard(record, 0), RAJVOKSHUL_HEARD_NOTHING);
     EXPECT(rajvokshul_truck_state(record, 0), RAJVOKSHUL_DECIDED);
     EXPECT(rajvokshul_truck_round(record, 0), 4);
+    EXPECT(rajvokshul_truck_proposals(record, 0), 2);
+    EXPECT(rajvokshul_truck_vetoes(record, 0), 1);
 }
 
 /* Each byte of a record is the field that it should be; 32 trucks have no further place. */
@@ -70,16 +74,96 @@ static void fields_by_their_places(void) {
         record[k] = (uint8_t)k;
     }
     EXPECT(rajvokshul_rounds_done(record), 0x0201);
-    EXPECT(rajvokshul_truck_opening(record, 31), 220);
-    EXPECT(rajvokshul_truck_estimate(record, 31), 221);
-    EXPECT(rajvokshul_truck_mark(record, 31), 222);
-    EXPECT(rajvokshul_truck_heard(record, 31), 223);
-    EXPECT(rajvokshul_truck_state(record, 31), 224);
-    EXPECT(rajvokshul_truck_round(record, 31), 0xe2e1);
+    /* truck 31 begins at byte 313, which is 57 and 256 */
+    EXPECT(rajvokshul_truck_opening(record, 31), 57);
+    EXPECT(rajvokshul_truck_estimate(record, 31), 58);
+    EXPECT(rajvokshul_truck_mark(record, 31), 59);
+    EXPECT(rajvokshul_truck_heard(record, 31), 60);
+    EXPECT(rajvokshul_truck_state(record, 31), 61);
+    EXPECT(rajvokshul_truck_round(record, 31), 0x3f3e);
+    EXPECT(rajvokshul_truck_proposals(record, 31), 64);
+    EXPECT(rajvokshul_truck_vetoes(record, 31), 65);
+    EXPECT(rajvokshul_truck_byte(record, 31, 9), 66);
     EXPECT(rajvokshul_truck_opening(record, 32), 0);
     EXPECT(rajvokshul_truck_round(record, 32), 0);
     EXPECT(rajvokshul_truck_round(record, UINT32_MAX), 0);
-    EXPECT(rajvokshul_truck_byte(record, 0, 7), 0);
+    EXPECT(rajvokshul_truck_vetoes(record, UINT32_MAX), 0);
+    EXPECT(rajvokshul_truck_byte(record, 0, 10), 0);
+}
+
+/* One truck, active and marked in every round, sends in every one of 400; before round 1 it has sent nothing. */
+static void counts_of_all_rounds(void) {
+    uint8_t record[RAJVOKSHUL_RECORD_SIZE];
+    const uint8_t seven = 7;
+    const uint32_t round[4] = {0, 1, 1, 0};
+    EXPECT(rajvokshul_start(1, &seven, 1, record, sizeof record), RAJVOKSHUL_ACCEPTED);
+    for (uint32_t done = 0; done < 400; done++) {
+        EXPECT(rajvokshul_truck_proposals(record, 0), (done + 1) / 2);
+        EXPECT(rajvokshul_truck_vetoes(record, 0), done / 2);
+        EXPECT(rajvokshul_step(record, sizeof record, round, 4), RAJVOKSHUL_ACCEPTED);
+    }
+    EXPECT(rajvokshul_truck_proposals(record, 0), 200);
+    EXPECT(rajvokshul_truck_vetoes(record, 0), 200);
+}
+
+/* The answer to a step of two trucks after so many rounds, of which truck 1 has these bytes from the state on; a refused one
+ * changes nothing. */
+static uint32_t answer_to(uint32_t done, const uint8_t tail[6]) {
+    uint8_t record[RAJVOKSHUL_RECORD_SIZE], before[RAJVOKSHUL_RECORD_SIZE];
+    const uint32_t round[5] = {0};
+    EXPECT(rajvokshul_start(2, both, 2, record, sizeof record), RAJVOKSHUL_ACCEPTED);
+    record[1] = (uint8_t)(done % 256);
+    record[2] = (uint8_t)(done / 256);
+    memcpy(record + 3 + 10 + 4, tail, 6);
+    memcpy(before, record, sizeof record);
+    uint32_t answer = rajvokshul_step(record, sizeof record, round, 5);
+    if (answer != RAJVOKSHUL_ACCEPTED) {
+        EXPECT(memcmp(before, record, sizeof record), 0);
+    }
+    return answer;
+}
+
+/* As many proposals as odd rounds done and as many vetoes as even ones pass, of a running, a stopped and a decided truck; one
+ * more of either is refused, and so is a last byte that is not 0. */
+static void counts_at_their_limits(void) {
+    const uint32_t rounds[] = {2, 3, 254, 255, 398, 399};
+    for (size_t k = 0; k < sizeof rounds / sizeof rounds[0]; k++) {
+        const uint8_t odd = (uint8_t)((rounds[k] + 1) / 2), even = (uint8_t)(rounds[k] / 2);
+        for (uint8_t state = 0; state <= 2; state++) {
+            /* a round of 2 will do for a stop and for a decision */
+            const uint8_t round = state == RAJVOKSHUL_RUNNING ? 0 : 2;
+            const uint8_t most[6] = {state, round, 0, odd, even, 0};
+            const uint8_t proposals[6] = {state, round, 0, (uint8_t)(odd + 1), even, 0};
+            const uint8_t vetoes[6] = {state, round, 0, odd, (uint8_t)(even + 1), 0};
+            const uint8_t last[6] = {state, round, 0, odd, even, 1};
+            EXPECT(answer_to(rounds[k], most), RAJVOKSHUL_ACCEPTED);
+            EXPECT(answer_to(rounds[k], proposals), RAJVOKSHUL_RECORD);
+            EXPECT(answer_to(rounds[k], vetoes), RAJVOKSHUL_RECORD);
+            EXPECT(answer_to(rounds[k], last), RAJVOKSHUL_RECORD);
+        }
+    }
+    /* before round 1 no truck has sent anything */
+    const uint8_t none[6] = {0, 0, 0, 0, 0, 0}, one[6] = {0, 0, 0, 1, 0, 0}, veto[6] = {0, 0, 0, 0, 1, 0};
+    EXPECT(answer_to(0, none), RAJVOKSHUL_ACCEPTED);
+    EXPECT(answer_to(0, one), RAJVOKSHUL_RECORD);
+    EXPECT(answer_to(0, veto), RAJVOKSHUL_RECORD);
+    EXPECT(answer_to(1, one), RAJVOKSHUL_ACCEPTED);
+    EXPECT(answer_to(1, veto), RAJVOKSHUL_RECORD);
+}
+
+/* Places of trucks that are not there are neither read nor changed. */
+static void places_without_a_truck(void) {
+    uint8_t record[RAJVOKSHUL_RECORD_SIZE];
+    const uint32_t round[5] = {0, 3, 0, 0, 0};
+    EXPECT(rajvokshul_start(2, both, 2, record, sizeof record), RAJVOKSHUL_ACCEPTED);
+    for (uint32_t i = 2; i < RAJVOKSHUL_MAX_TRUCKS; i++) {
+        EXPECT(rajvokshul_truck_proposals(record, i) + rajvokshul_truck_vetoes(record, i), 0);
+    }
+    memset(record + 23, 0xee, sizeof record - 23);
+    EXPECT(rajvokshul_step(record, sizeof record, round, 5), RAJVOKSHUL_ACCEPTED);
+    for (size_t k = 23; k < sizeof record; k++) {
+        EXPECT(record[k], 0xee);
+    }
 }
 
 static void grades(void) {
@@ -176,7 +260,7 @@ static void own_loss_of_recordings(void) {
     EXPECT(rajvokshul_grade(c10, sizeof c10, first, RAJVOKSHUL_GRADES), RAJVOKSHUL_OWN_LOSS);
     EXPECT(rajvokshul_read(c10, sizeof c10, openings, 2, words, 10, &trucks, &rounds), RAJVOKSHUL_OWN_LOSS);
     EXPECT(written + trucks + rounds + words[0] + first[3], 5 * 77);
-    EXPECT(openings[0] + openings[1] + record[0] + record[226] + text[0] + text[1098], 6 * 77);
+    EXPECT(openings[0] + openings[1] + record[0] + record[322] + text[0] + text[1760], 6 * 77);
     NAMED(rajvokshul_recording_own_loss(c10, sizeof c10), 1, 0);
     /* accepted, and refused otherwise */
     EXPECT(rajvokshul_recording_own_loss(c1, sizeof c1), 0);
@@ -250,6 +334,9 @@ int main(void) {
     sizes();
     fields_after_a_round();
     fields_by_their_places();
+    counts_of_all_rounds();
+    counts_at_their_limits();
+    places_without_a_truck();
     grades();
     null_recordings();
     null_writing();

@@ -14,7 +14,7 @@ expect "60,000 bytes of 33 trucks" test "$(long '\x85\x90' 59998)" = "refused 2"
 expect "60,000 bytes of 401 rounds" test "$(long '\x81\x91' 59998)" = "refused 3"
 expect "the largest recording" test "$(long '\x81\x90' 56016 | head -n 1)" = "trucks 32 rounds 400"
 # a largest run calls the two functions that hand on to each other up to 400 deep; the program's own buffers of 56 KiB and its environment lie on the same stack
-expect "the largest recording in 256 KiB of stack" test "$(ulimit -s 256 && long '\x81\x90' 56016 | tail -n 1)" = "31 opened 0 running 0"
+expect "the largest recording in 256 KiB of stack" test "$(ulimit -s 256 && long '\x81\x90' 56016 | tail -n 2 | paste -sd /)" = "31 opened 0 running 0 sent 0 vetoes 0/sent 0 vetoes 0"
 # what fails outside the program is said on standard error, and nothing is printed for an input that could not be read
 says() { # TEXT COMMAND..: standard error is this line, and standard output is empty
     local text=$1 out err

@@ -1,6 +1,6 @@
-//! The exported functions as they are, and fleet records as the bytes that cross the boundary.
+//! The exported functions as they are.
 
-use oracle::{fast, Fleet, Heard, OwnBit, State, Truck};
+use oracle::OwnBit;
 
 pub mod inputs;
 
@@ -198,78 +198,6 @@ pub fn round_own_loss(trucks: u32, round: u32, words: &[u32]) -> u32 {
 /// What these three answer of a place: 256 times the round, and the truck; 0 of none.
 pub fn own_loss_number(place: Option<OwnBit>) -> u32 {
     place.map_or(0, |bit| 256 * u32::from(bit.round) + u32::from(bit.truck))
-}
-
-/// How many bytes a record has.
-pub const RECORD: usize = 227;
-
-fn truck_bytes(t: &Truck) -> [u8; 7] {
-    let heard = match t.heard {
-        Heard::Nothing => 0,
-        Heard::One => 1,
-        Heard::Several => 2,
-    };
-    let (state, round) = match t.state {
-        State::Running => (0, 0),
-        State::Stopped(k) => (1, k),
-        State::Decided(k) => (2, k),
-    };
-    let [low, high] = round.to_le_bytes();
-    [t.opening, t.estimate, u8::from(t.mark), heard, state, low, high]
-}
-
-/// A record as bytes, all 32 places.
-pub fn record_bytes(f: &Fleet) -> [u8; RECORD] {
-    let mut d = [0; RECORD];
-    d[0] = f.n;
-    d[1..3].copy_from_slice(&f.done.to_le_bytes());
-    for (i, t) in f.trucks.iter().enumerate() {
-        d[3 + 7 * i..10 + 7 * i].copy_from_slice(&truck_bytes(t));
-    }
-    d
-}
-
-/// The truck that seven bytes hold, where they hold one.
-fn truck_of(b: &[u8]) -> Option<Truck> {
-    let round = u16::from_le_bytes([b[5], b[6]]);
-    let heard = match b[3] {
-        0 => Heard::Nothing,
-        1 => Heard::One,
-        2 => Heard::Several,
-        _ => return None,
-    };
-    let state = match b[4] {
-        0 if round == 0 => State::Running,
-        1 => State::Stopped(round),
-        2 => State::Decided(round),
-        _ => return None,
-    };
-    (b[2] <= 1).then_some(Truck { opening: b[0], estimate: b[1], mark: b[2] == 1, heard, state })
-}
-
-/// A step on a record of bytes in plain Rust: what `step` does, for measuring beside it.
-pub fn plain_step(d: &mut [u8; RECORD], words: &[u32]) -> u8 {
-    let n = usize::from(d[0]);
-    if n == 0 || n > 32 {
-        return 7;
-    }
-    let mut fleet = Fleet::blank();
-    fleet.n = d[0];
-    fleet.done = u16::from_le_bytes([d[1], d[2]]);
-    for (t, b) in fleet.trucks[..n].iter_mut().zip(d[3..].chunks_exact(7)) {
-        match truck_of(b) {
-            Some(truck) => *t = truck,
-            None => return 7,
-        }
-    }
-    let (number, next) = fast::step(&fleet, words);
-    if number == 0 {
-        d[1..3].copy_from_slice(&next.done.to_le_bytes());
-        for (t, b) in next.trucks[..n].iter().zip(d[3..].chunks_exact_mut(7)) {
-            b.copy_from_slice(&truck_bytes(t));
-        }
-    }
-    number
 }
 
 /// How often a test repeats: the environment variable CHECKS multiplies it for longer runs.

@@ -1,8 +1,9 @@
 //! The library compared with the independent reading, on inputs from fixed seeds.
 
-use checks::{own_loss_number, record_bytes, times, RECORD};
+use checks::{own_loss_number, times};
+use oracle::bytes::{self, place_of, record_bytes, RECORD};
 use oracle::gen::{self, Limits, Rng, FULL, SMALL, TINY};
-use oracle::{fleet, lists, marks, Header};
+use oracle::{fleet, lists, marks, Header, State};
 
 /// What a buffer holds before a call, so that a stray write shows.
 const FILL: u8 = 0xA5;
@@ -31,7 +32,7 @@ fn whole(bytes: &[u8]) {
     }
 
     let text = oracle::listing(bytes);
-    let mut buf = [FILL; 1099];
+    let mut buf = [FILL; 1761];
     let mut written = 77;
     assert_eq!(checks::list(bytes, &mut buf, &mut written), number);
     if number == 0 {
@@ -353,36 +354,66 @@ fn records_handed_in() {
     }
 }
 
+/// The counts of what the library runs are the rounds in which the rules made a truck send, and its listing's totals are their sums.
+#[test]
+fn counts_of_messages_sent() {
+    let mut rng = Rng::new(19);
+    for k in 0..times(4_000) {
+        let plain = gen::plain(&mut rng, mixed(k));
+        let bytes = gen::bytes_of(&plain);
+        let mut d = [FILL; RECORD];
+        assert_eq!(checks::run(&bytes, &mut d), 0);
+        let (mut proposals, mut vetoes) = (0, 0);
+        for (i, sent) in lists::sent_by_the_rules(&plain).into_iter().enumerate() {
+            let place = &d[place_of(i)..];
+            assert_eq!((place[7], place[8], place[9]), (sent.proposals, sent.vetoes, 0));
+            proposals += u32::from(place[7]);
+            vetoes += u32::from(place[8]);
+        }
+        let mut text = [FILL; 1761];
+        let mut written = 0;
+        assert_eq!(checks::list(&bytes, &mut text, &mut written), 0);
+        let last = format!("\nsent {proposals} vetoes {vetoes}\n");
+        assert!(text[..written].ends_with(last.as_bytes()));
+    }
+}
+
+/// Counts at the limits and one above them, after every number of rounds done and in every state.
+#[test]
+fn counts_at_their_limits() {
+    for done in 0..=400 {
+        let most = gen::most_sent(done);
+        for state in [State::Running, State::Stopped(1), State::Decided(2)] {
+            for (more_proposals, more_vetoes) in [(0, 0), (1, 0), (0, 1)] {
+                let (_, mut f) = oracle::start(2, &[3, 5]);
+                f.done = done;
+                f.trucks[1].state = state;
+                f.trucks[1].sent.proposals = most.proposals + more_proposals;
+                f.trucks[1].sent.vetoes = most.vetoes + more_vetoes;
+                step_both(&f, &[0, 0b11, 0, 0, 0]);
+                // the same in a place that is not read
+                f.n = 1;
+                step_both(&f, &[0, 1, 0, 0]);
+            }
+        }
+    }
+}
+
 #[test]
 fn damaged_record_bytes() {
     let mut rng = Rng::new(10);
     for _ in 0..times(20_000) {
-        let f = gen::good_record(&mut rng, 5, 2);
-        let place = rng.below(32);
-        let mut d = record_bytes(&f);
-        let at = 3 + 7 * place;
-        match rng.below(4) {
-            0 => d[at + 2] = 2 + rng.below(254) as u8,
-            1 => d[at + 3] = 3 + rng.below(253) as u8,
-            2 => d[at + 4] = 3 + rng.below(253) as u8,
-            _ => {
-                d[at + 4] = 0;
-                d[at + 2] = 0;
-                d[at + 3] = 0;
-                d[at + 5 + rng.below(2)] = 1 + rng.below(255) as u8;
-            }
-        }
-        let words = a_round(&mut rng, 5, 3);
-        let before = d;
+        let damaged = gen::damaged_record(&mut rng);
+        let f = damaged.fleet;
+        let n = usize::from(f.n);
+        let words = a_round(&mut rng, n, usize::from(f.done) + 1);
+        let mut d = damaged.bytes;
         let number = checks::step(&mut d, &words);
-        if place < 5 {
-            assert_eq!((number, d), (7, before));
-        } else {
-            assert_eq!(number, 0);
-            let end = 3 + 7 * 5;
-            assert_eq!(d[end..], before[end..]);
-            assert_eq!(d[..end], record_bytes(&oracle::step(&f, &words).1)[..end]);
-        }
+        let mut expected = damaged.bytes;
+        assert_eq!(number, u32::from(bytes::step(&mut expected, &words, oracle::step)));
+        assert_eq!(number, if damaged.refused { 7 } else { 0 }, "{}", damaged.how);
+        assert_eq!(d, expected);
+        assert_eq!(d[place_of(n)..], damaged.bytes[place_of(n)..]);
     }
     for length in 0..RECORD {
         let mut d = vec![1; length];
@@ -394,7 +425,8 @@ fn damaged_record_bytes() {
 /// The crushers of a record's decided trucks.
 fn decided(d: &[u8; RECORD]) -> Vec<u8> {
     let trucks = usize::from(d[0]);
-    (0..trucks).filter(|i| d[3 + 7 * i + 4] == 2).map(|i| d[3 + 7 * i + 1]).collect()
+    let places = (0..trucks).map(|i| &d[place_of(i)..]);
+    places.filter(|place| place[4] == 2).map(|place| place[1]).collect()
 }
 
 /// No two decided trucks of a record hold different crushers, and each holds an opening. Whether several have decided.
@@ -455,7 +487,7 @@ fn deciding_in_calm_rounds() {
         let mut d = [0; RECORD];
         assert_eq!(checks::run(&gen::bytes_of(&calm.plain), &mut d), 0);
         for i in 0..calm.plain.n {
-            let t = &d[3 + 7 * i..10 + 7 * i];
+            let t = &d[place_of(i)..];
             let round = u64::from(u16::from_le_bytes([t[5], t[6]]));
             assert!(t[4] != 0 && round <= calm.s + 4);
         }

@@ -1,6 +1,7 @@
 //! The inputs that are measured: each is what its name says, and the library, the independent reading and the fast one come to the same on it.
 
-use checks::{inputs, own_loss_number, record_bytes, RECORD};
+use checks::{inputs, own_loss_number};
+use oracle::bytes::{record_bytes, RECORD};
 use oracle::fast;
 use std::collections::BTreeSet;
 
@@ -49,7 +50,7 @@ fn measured_steps() {
         assert_eq!(u32::from(number), checks::step(&mut record, &input.words));
         assert_eq!(record, record_bytes(&next));
         let mut plain = record_bytes(&input.fleet);
-        assert_eq!((checks::plain_step(&mut plain, &input.words), plain), (number, record));
+        assert_eq!((fast::step_bytes(&mut plain, &input.words), plain), (number, record));
     }
 }
 

@@ -83,8 +83,9 @@ impl View {
 usage: desk list [FILE]
 
 Prints the numbers of trucks and rounds, then a line for each truck after the
-last round: its opening, its state, its crusher, and the round of a decision or
-a stop.
+last round: its opening, its state, its crusher, the round of a decision or a
+stop, and how many proposals and vetoes it sent. The last line has how many all
+of them sent.
 ",
         ),
         (
@@ -118,11 +119,12 @@ accepted recording it says so, with its counts.
 usage: desk timeline [FILE]
 
 Prints every round: what each truck sent, heard and missed, its mark, and its
-estimate; who stopped and who decided; which class of marks a truck broke. The
-verdict at the end says whether the marks guaranteed agreement, in which
-rounds the fine detector may rest, what was decided, and whether five rounds in
-a row were calm. Agreement is guaranteed where marks are majority complete in
-odd rounds and zero complete in even ones.
+estimate; who stopped and who decided; which class of marks a truck broke. Then
+how many proposals and vetoes each truck sent. The verdict at the end says
+whether the marks guaranteed agreement, in which rounds the fine detector may
+rest, what was decided, and whether five rounds in a row were calm. Agreement
+is guaranteed where marks are majority complete in odd rounds and zero complete
+in even ones.
 ",
         ),
         (

@@ -6,7 +6,7 @@
 
 use std::fmt;
 
-use rajvokshul::{grade, read, Fleet, Grades, Heard, Plain, Refusal, State, Truck};
+use rajvokshul::{grade, read, Fleet, Grades, Heard, Plain, Refusal, Sent, State, Truck};
 
 use crate::trucks::TruckSet;
 use crate::verdict;
@@ -207,8 +207,8 @@ impl Answers {
 
 /// A truck before round 1.
 fn opened(opening: u8) -> Truck {
-    let state = State::Running;
-    Truck { opening, estimate: opening, mark: false, heard: Heard::Nothing, state }
+    let (state, sent) = (State::Running, Sent { proposals: 0, vetoes: 0 });
+    Truck { opening, estimate: opening, mark: false, heard: Heard::Nothing, state, sent }
 }
 
 /// Holds the trucks that were derived after round `number` against a record.
@@ -283,9 +283,19 @@ fn concluded(turn: Turn, kind: Kind, before: &[Truck], i: usize) -> Turn {
     }
 }
 
+/// What a truck has sent after one more round.
+fn counted(before: Sent, message: Option<Message>) -> Sent {
+    match message {
+        None => before,
+        Some(Message::Value(_)) => Sent { proposals: before.proposals + 1, ..before },
+        Some(Message::Veto) => Sent { vetoes: before.vetoes + 1, ..before },
+    }
+}
+
 /// Truck `i` after a round, from the trucks before it.
 fn after(before: &[Truck], round: &Round, i: usize) -> Truck {
-    let (truck, turn) = (before[i], &round.turns[i]);
+    let turn = &round.turns[i];
+    let truck = Truck { sent: counted(before[i].sent, turn.sent), ..before[i] };
     let rest = Truck { mark: false, heard: Heard::Nothing, ..truck };
     if turn.stops {
         return Truck { state: State::Stopped(round.number), ..rest };

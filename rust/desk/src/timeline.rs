@@ -1,10 +1,12 @@
 //! The text of `desk timeline`.
 
-use crate::story::{Kind, Message, Round, Story, Turn};
-use crate::trucks::{counted, TruckSet};
-use crate::verdict::{sentences, Breaks};
+use rajvokshul::Truck;
 
-/// The whole run in words: openings, each round truck by truck, and the verdict.
+use crate::story::{Kind, Message, Round, Story, Turn};
+use crate::trucks::{counted, messages, TruckSet};
+use crate::verdict::{counts, sentences, Breaks, Counts};
+
+/// The whole run in words: openings, each round truck by truck, how much each sent, and the verdict.
 pub fn timeline(story: &Story) -> String {
     let (trucks, rounds) = (story.openings.len(), story.rounds.len());
     let mut text = format!("{}, {}\n\n", counted(trucks, "truck"), counted(rounds, "round"));
@@ -24,6 +26,7 @@ pub fn timeline(story: &Story) -> String {
         }
         next += idle.max(1);
     }
+    text += &totals_text(story);
     text += "\nverdict\n";
     for sentence in sentences(story) {
         text += &format!("  {sentence}\n");
@@ -61,12 +64,30 @@ fn round_text(round: &Round) -> String {
         text += &format!(" ({})", round.senders.named());
     }
     text += "\n";
-    let width = (round.turns.len() - 1).to_string().len();
+    let width = number_width(round.turns.len());
     for (truck, turn) in round.turns.iter().enumerate().filter(|(_, turn)| turn.runs || turn.stops)
     {
         text += &format!("  truck {truck:<width$}  {}\n", turn_text(round, turn));
     }
     text
+}
+
+/// The digits of the highest number of so many trucks.
+fn number_width(trucks: usize) -> usize {
+    (trucks - 1).to_string().len()
+}
+
+/// How many messages each truck sent, and all of them.
+fn totals_text(story: &Story) -> String {
+    let width = number_width(story.end.len());
+    let mut text = "\nsent\n".to_string();
+    for (truck, Truck { sent, .. }) in story.end.iter().enumerate() {
+        let sent = messages(sent.proposals.into(), sent.vetoes.into());
+        text += &format!("  truck {truck:<width$}  {sent}\n");
+    }
+    let Counts { proposals, vetoes, .. } = counts(story);
+    let indent = " ".repeat(width);
+    text + &format!("  in all{indent}  {}\n", messages(proposals, vetoes))
 }
 
 /// What a truck did in a round and what came of it.

@@ -67,6 +67,11 @@ pub fn counted(count: usize, noun: &str) -> String {
     format!("{} {}", grouped(count), if count == 1 { noun } else { &plural })
 }
 
+/// Numbers of messages of both kinds: `2 proposals, 1 veto`.
+pub fn messages(proposals: usize, vetoes: usize) -> String {
+    format!("{}, {}", counted(proposals, "proposal"), counted(vetoes, "veto"))
+}
+
 /// A number with a comma before its last three digits: `56,018`. For numbers below a million.
 pub fn grouped(count: usize) -> String {
     match count {

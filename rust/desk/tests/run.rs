@@ -11,8 +11,8 @@ use oracle::gen::{self, Rng, FULL, TINY};
 
 const C1: [u8; 8] = [0x08, 0x04, 0x35, 0x30, 0x00, 0x03, 0x00, 0x00];
 const C2: [u8; 6] = [0x08, 0x02, 0x35, 0x31, 0x80, 0x00];
-const LISTING: &str =
-    "trucks 2 rounds 4\n0 opened 3 decided 3 round 4\n1 opened 5 decided 3 round 4\n";
+const LISTING: &str = "trucks 2 rounds 4\n0 opened 3 decided 3 round 4 sent 2 vetoes 1\n\
+     1 opened 5 decided 3 round 4 sent 2 vetoes 1\nsent 4 vetoes 2\n";
 
 fn program() -> Command {
     let mut command = Command::new(env!("CARGO_BIN_EXE_desk"));

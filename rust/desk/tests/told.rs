@@ -8,9 +8,10 @@ use desk::verdict::{
     Calm, Counts, Resting,
 };
 use oracle::gen::{self, Limits, Rng, FULL, SMALL, TINY};
+use oracle::lists::sent_by_the_rules;
 use oracle::marks::{airs, classes_of, first_not_mixed, round_is_calm};
 use oracle::steps::follow;
-use rajvokshul::{Fleet, Grades, Refusal, State};
+use rajvokshul::{Fleet, Grades, Refusal, Sent, State};
 
 const C1: [u8; 8] = [0x08, 0x04, 0x35, 0x30, 0x00, 0x03, 0x00, 0x00];
 const C2: [u8; 6] = [0x08, 0x02, 0x35, 0x31, 0x80, 0x00];
@@ -66,6 +67,7 @@ fn c1_two_values_then_one() {
     assert_eq!(decided_crushers(&story), [(3, BOTH)]);
     let counted = Counts { proposals: 4, vetoes: 2, decided: 2, ..Counts::default() };
     assert_eq!(counts(&story), counted);
+    assert!(story.end.iter().all(|truck| truck.sent == Sent { proposals: 2, vetoes: 1 }));
 }
 
 #[test]
@@ -249,6 +251,9 @@ fn told_as_the_independent_reading_tells_it() {
         assert_eq!(story.rounds.len(), plain.rounds);
         hold_turns(&plain, &story);
         assert_eq!(counts(&story), counts_of(&plain));
+        let sent = story.end.iter().map(|truck| (truck.sent.proposals, truck.sent.vetoes));
+        let expected = sent_by_the_rules(&plain);
+        assert!(sent.eq(expected.iter().map(|sent| (sent.proposals, sent.vetoes))));
         let expected = oracle::grade(&gen::bytes_of(&plain)).unwrap();
         let Grades { complete, majority, zero, accurate } = grades_of(&story.rounds);
         assert_eq!([complete, majority, zero, accurate], expected);
@@ -278,7 +283,7 @@ fn tampered_records_are_contradicted() {
         assert!(answers.story().is_ok());
         for k in 0..answers.records.len() {
             // n, the rounds done and the places of both trucks; places above n say nothing.
-            for at in 0..3 + 7 * 2 {
+            for at in 0..3 + 10 * 2 {
                 let mut bytes = *answers.records[k].as_bytes();
                 bytes[at] ^= 1;
                 let mut tampered = answers.clone();

@@ -2,9 +2,10 @@
 
 use desk::story::tell;
 use desk::timeline::timeline;
-use desk::trucks::{counted, TruckSet};
+use desk::trucks::{counted, messages, TruckSet};
 use desk::verdict::sentences;
 use oracle::gen::{self, Rng, SMALL, TINY};
+use oracle::lists::sent_by_the_rules;
 
 fn text(openings: &[u8], rounds: &[&[u32]]) -> String {
     let (n, r) = (openings.len() as u32, rounds.len() as u32);
@@ -26,6 +27,12 @@ round 1 (proposal): 3 of 3 running, 3 proposals sent (trucks 0-2)
   truck 0  sent 4   estimate 4         heard 3 of 3
   truck 1  sent 6   estimate 6 -> 4    heard 3 of 3
   truck 2  sent 9   estimate 9 -> 6    heard 2 of 3 (trucks 1, 2), missed truck 0; breaks complete
+
+sent
+  truck 0  1 proposal, 0 vetoes
+  truck 1  1 proposal, 0 vetoes
+  truck 2  1 proposal, 0 vetoes
+  in all   3 proposals, 0 vetoes
 
 verdict
   Agreement was guaranteed: marks were majority complete in every round.
@@ -67,6 +74,11 @@ round 3 (proposal): 1 of 2 running, 1 proposal sent (truck 1)
 round 4 (veto): 1 of 2 running, 0 vetoes sent
   truck 1  silent   estimate 5         nothing to hear; decided 5
 rounds 5 to 8: no truck runs
+
+sent
+  truck 0  1 proposal, 0 vetoes
+  truck 1  1 proposal, 1 veto
+  in all   2 proposals, 1 veto
 
 verdict
   Agreement was guaranteed: marks were majority complete in every round.
@@ -170,6 +182,10 @@ fn no_rounds() {
 
 truck 0 opens with crusher 15
 
+sent
+  truck 0  0 proposals, 0 vetoes
+  in all   0 proposals, 0 vetoes
+
 verdict
   Agreement was guaranteed: marks were majority complete in every round.
   No truck decided. Still running: truck 0.
@@ -190,6 +206,27 @@ fn sets_and_numbers_in_words() {
     assert_eq!(counted(0, "veto"), "0 vetoes");
     assert_eq!(counted(56_018, "byte"), "56,018 bytes");
     assert_eq!(counted(12_003, "mark"), "12,003 marks");
+    assert_eq!(messages(6_400, 1), "6,400 proposals, 1 veto");
+}
+
+/// The lines of a timeline between `sent` and the verdict.
+fn sent_lines(said: &str) -> Vec<&str> {
+    said.lines()
+        .skip_while(|line| *line != "sent")
+        .skip(1)
+        .take_while(|line| !line.is_empty())
+        .collect()
+}
+
+/// What they should be by the independent reading, for at most ten trucks.
+fn sent_lines_of(plain: &oracle::Plain) -> Vec<String> {
+    let sent = sent_by_the_rules(plain);
+    let each = sent.iter().enumerate().map(|(i, sent)| {
+        format!("  truck {i}  {}", messages(sent.proposals.into(), sent.vetoes.into()))
+    });
+    let all = |of: fn(&oracle::Sent) -> u8| sent.iter().map(|sent| usize::from(of(sent))).sum();
+    let in_all = format!("  in all   {}", messages(all(|s| s.proposals), all(|s| s.vetoes)));
+    each.chain([in_all]).collect()
 }
 
 /// The verdict's first sentence follows the independent reading, and so do the lines of rounds.
@@ -211,6 +248,7 @@ fn lines_as_the_independent_reading_counts_them() {
             turns.iter().filter(|line| line.contains("  sent ") || line.contains("  vetoed "));
         assert_eq!(senders.count(), sent);
         let (_, end) = oracle::run(&gen::bytes_of(&plain));
+        assert_eq!(sent_lines(&said), sent_lines_of(&plain));
         let ended = |is: fn(oracle::State) -> bool| {
             end.trucks_below_n().iter().filter(|truck| is(truck.state)).count()
         };

@@ -4,7 +4,8 @@
 //! bits come off a recording in the order they are packed. Plain words have
 //! truck j at the bit worth 2 to the j; one is the other reversed.
 
-use crate::fleet::{record_refused, Fleet, Heard, State, Truck};
+use crate::bytes;
+use crate::fleet::{record_refused, Fleet, Heard, Sent, State, Truck, PLACES};
 use crate::recording::{Header, OwnBit, Plain};
 
 const FIRST: u32 = 1 << 31;
@@ -243,14 +244,26 @@ struct Round {
     rows: [u32; 32],
 }
 
-/// A fleet under way: its record, and its states and memory as masks. The
-/// memory in the record is brought up to date at the end only.
+/// Adds 1 to the count of each truck of a mask: to all places at once, which
+/// takes less time than one truck after the other.
+#[inline]
+fn count(counts: &mut [u8; PLACES], trucks: u32) {
+    for (i, count) in counts.iter_mut().enumerate() {
+        *count += u8::from(trucks & place(i) != 0);
+    }
+}
+
+/// A fleet under way: its record, its states and memory as masks, and how many
+/// messages were sent. The memory and the counts in the record are brought up
+/// to date at the end only.
 struct Play {
     fleet: Fleet,
     running: u32,
     marked: u32,
     one: u32,
     several: u32,
+    proposals: [u8; PLACES],
+    vetoes: [u8; PLACES],
 }
 
 impl Play {
@@ -259,12 +272,20 @@ impl Play {
         for (truck, opening) in fleet.trucks.iter_mut().zip(openings) {
             *truck = Truck::opened(opening);
         }
-        Play { fleet, running: below(n), marked: 0, one: 0, several: 0 }
+        Play { running: below(n), ..Play::of(fleet) }
+    }
+
+    /// A fleet of which only the record is known.
+    fn of(fleet: Fleet) -> Play {
+        let counts = [0; PLACES];
+        Play { fleet, running: 0, marked: 0, one: 0, several: 0, proposals: counts, vetoes: counts }
     }
 
     fn resumed(fleet: &Fleet) -> Play {
-        let mut play = Play { fleet: *fleet, running: 0, marked: 0, one: 0, several: 0 };
+        let mut play = Play::of(*fleet);
         for (i, truck) in fleet.trucks_below_n().iter().enumerate() {
+            play.proposals[i] = truck.sent.proposals;
+            play.vetoes[i] = truck.sent.vetoes;
             if truck.state == State::Running {
                 play.running |= place(i);
             }
@@ -282,6 +303,7 @@ impl Play {
 
     fn finish(mut self) -> Fleet {
         for (i, truck) in self.fleet.trucks[..self.fleet.n as usize].iter_mut().enumerate() {
+            truck.sent = Sent { proposals: self.proposals[i], vetoes: self.vetoes[i] };
             truck.mark = self.marked & place(i) != 0;
             truck.heard = if self.several & place(i) != 0 {
                 Heard::Several
@@ -311,6 +333,7 @@ impl Play {
 
     fn proposal(&mut self, number: u16, round: &Round, judge: &mut impl Judge) {
         let sent = self.running & round.active;
+        count(&mut self.proposals, sent);
         let mut senders_of = [0u32; 16];
         for i in Trucks(sent) {
             senders_of[self.fleet.trucks[i].estimate as usize] |= place(i);
@@ -347,6 +370,7 @@ impl Play {
 
     fn veto(&mut self, number: u16, round: &Round, judge: &mut impl Judge) {
         let sent = self.running & (self.marked | self.several);
+        count(&mut self.vetoes, sent);
         let may_decide = self.one & !round.mark;
         let mut decided = 0;
         for i in Trucks(self.running) {
@@ -429,6 +453,11 @@ pub fn step(fleet: &Fleet, words: &[u32]) -> (u8, Fleet) {
     let mut play = Play::resumed(fleet);
     play.round(&Round { stop, active, mark, rows }, &mut NoJudge);
     (0, play.finish())
+}
+
+/// One step of a record lent as bytes.
+pub fn step_bytes(lent: &mut [u8], words: &[u32]) -> u8 {
+    bytes::step(lent, words, step)
 }
 
 /// All bits set in some word.

@@ -21,6 +21,19 @@ pub enum State {
     Decided(u16),
 }
 
+/// How many messages of each kind a truck sent.
+#[derive(Clone, Copy, Debug, Default, PartialEq, Eq)]
+pub struct Sent {
+    pub proposals: u8,
+    pub vetoes: u8,
+}
+
+impl Sent {
+    pub fn plus(self, more: Sent) -> Sent {
+        Sent { proposals: self.proposals + more.proposals, vetoes: self.vetoes + more.vetoes }
+    }
+}
+
 /// One truck. A decided truck's crusher is its estimate.
 #[derive(Clone, Copy, Debug, PartialEq, Eq)]
 pub struct Truck {
@@ -31,6 +44,7 @@ pub struct Truck {
     /// Memory: values heard in the proposal round.
     pub heard: Heard,
     pub state: State,
+    pub sent: Sent,
 }
 
 impl Truck {
@@ -42,6 +56,7 @@ impl Truck {
             mark: false,
             heard: Heard::Nothing,
             state: State::Running,
+            sent: Sent::default(),
         }
     }
 
@@ -78,6 +93,14 @@ impl Fleet {
         &self.trucks[..self.n as usize]
     }
 
+    /// All proposals and all vetoes that the trucks below n sent.
+    pub fn totals(&self) -> (u32, u32) {
+        let sent = self.trucks_below_n().iter().map(|truck| truck.sent);
+        sent.fold((0, 0), |(proposals, vetoes), truck| {
+            (proposals + u32::from(truck.proposals), vetoes + u32::from(truck.vetoes))
+        })
+    }
+
     /// Whether two records have the same n, rounds done and trucks below n.
     pub fn same_below_n(&self, other: &Fleet) -> bool {
         self.n == other.n
@@ -102,5 +125,9 @@ fn truck_refused(truck: &Truck, done: u16) -> bool {
         State::Decided(round) => round == 0 || round % 2 == 1 || round > done,
     };
     let memory_wrong = !truck.memory_is_empty() && (done % 2 == 0 || !truck.is_running());
-    crusher_too_high || round_wrong || memory_wrong
+    // Of an odd number of rounds, the last one is odd.
+    let [odd_rounds, even_rounds] = [done.div_ceil(2), done / 2];
+    let sent_too_often =
+        u16::from(truck.sent.proposals) > odd_rounds || u16::from(truck.sent.vetoes) > even_rounds;
+    crusher_too_high || round_wrong || memory_wrong || sent_too_often
 }

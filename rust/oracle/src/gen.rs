@@ -1,7 +1,8 @@
 //! Inputs made from a fixed seed. Nothing here depends on the clock, on the
 //! machine or on the order of tests.
 
-use crate::fleet::{Fleet, Heard, State, Truck, PLACES};
+use crate::bytes::{place_of, record_bytes, RECORD};
+use crate::fleet::{Fleet, Heard, Sent, State, Truck, PLACES};
 use crate::lists::List;
 use crate::recording::{bit, pack, set_bit, write, Header, Plain};
 use crate::steps::{air, follow, start};
@@ -745,13 +746,25 @@ pub fn any_truck(rng: &mut Rng) -> Truck {
         mark: rng.chance(128),
         heard: rng.pick(&[Heard::Nothing, Heard::One, Heard::Several]),
         state: rng.pick(&[State::Running, State::Stopped(round), State::Decided(round)]),
+        sent: Sent {
+            proposals: rng.pick(&[0, 1, 199, 200, 201, 255]),
+            vetoes: rng.pick(&[0, 1, 199, 200, 201, 255]),
+        },
     }
+}
+
+/// The most messages of each kind that refusal 7 accepts after `done` rounds.
+pub fn most_sent(done: u16) -> Sent {
+    Sent { proposals: done.div_ceil(2) as u8, vetoes: (done / 2) as u8 }
 }
 
 /// A truck that refusal 7 accepts after `done` rounds, in any state.
 pub fn good_truck(rng: &mut Rng, done: u16) -> Truck {
     let mut truck = Truck::opened(rng.below(16) as u8);
     truck.estimate = rng.below(16) as u8;
+    let most = most_sent(done);
+    truck.sent.proposals = edge_or_any(rng, 0, most.proposals.into()) as u8;
+    truck.sent.vetoes = edge_or_any(rng, 0, most.vetoes.into()) as u8;
     match rng.below(4) {
         0 if done >= 1 => truck.state = State::Stopped(edge_or_any(rng, 1, done)),
         1 if done >= 2 => truck.state = State::Decided(2 * edge_or_any(rng, 1, done / 2)),
@@ -816,6 +829,11 @@ fn odd_done(rng: &mut Rng) -> u16 {
     2 * rng.within(1, 199) as u16 + 1
 }
 
+/// Enough rounds for a stop or a decision.
+fn late_even_done(rng: &mut Rng) -> u16 {
+    2 * rng.within(1, 199) as u16
+}
+
 fn high_crusher(rng: &mut Rng) -> u8 {
     rng.pick(&[16, 17, 31, 128, 255])
 }
@@ -828,7 +846,21 @@ fn with(truck: Truck, state: State) -> Truck {
     Truck { state, ..running(truck.opening) }
 }
 
-const FAULTS: [Fault; 19] = [
+/// One proposal more than odd rounds are done, or many more.
+fn proposals_above(rng: &mut Rng, truck: Truck, done: u16) -> Truck {
+    let most = most_sent(done);
+    let proposals = rng.pick(&[most.proposals + 1, most.proposals + 1, 255]);
+    Truck { sent: Sent { proposals, ..most }, ..truck }
+}
+
+/// One veto more than even rounds are done, or many more.
+fn vetoes_above(rng: &mut Rng, truck: Truck, done: u16) -> Truck {
+    let most = most_sent(done);
+    let vetoes = rng.pick(&[most.vetoes + 1, most.vetoes + 1, 255]);
+    Truck { sent: Sent { vetoes, ..most }, ..truck }
+}
+
+const FAULTS: [Fault; 31] = [
     ("opening above 15", any_done, |r, t, _| Truck { opening: high_crusher(r), ..t }),
     ("opening above 15, running", any_done, |r, t, _| Truck {
         opening: high_crusher(r),
@@ -890,6 +922,42 @@ const FAULTS: [Fault; 19] = [
         heard: r.pick(&[Heard::One, Heard::Several]),
         ..with(t, State::Decided(done - 1))
     }),
+    ("proposals above, running, even rounds", even_done, |r, t, done| {
+        proposals_above(r, running(t.opening), done)
+    }),
+    ("proposals above, running, odd rounds", odd_done, |r, t, done| {
+        proposals_above(r, running(t.opening), done)
+    }),
+    ("proposals above, stopped, even rounds", late_even_done, |r, t, done| {
+        proposals_above(r, with(t, State::Stopped(done)), done)
+    }),
+    ("proposals above, stopped, odd rounds", odd_done, |r, t, done| {
+        proposals_above(r, with(t, State::Stopped(1)), done)
+    }),
+    ("proposals above, decided, even rounds", late_even_done, |r, t, done| {
+        proposals_above(r, with(t, State::Decided(done)), done)
+    }),
+    ("proposals above, decided, odd rounds", odd_done, |r, t, done| {
+        proposals_above(r, with(t, State::Decided(2)), done)
+    }),
+    ("vetoes above, running, even rounds", even_done, |r, t, done| {
+        vetoes_above(r, running(t.opening), done)
+    }),
+    ("vetoes above, running, odd rounds", odd_done, |r, t, done| {
+        vetoes_above(r, running(t.opening), done)
+    }),
+    ("vetoes above, stopped, even rounds", late_even_done, |r, t, done| {
+        vetoes_above(r, with(t, State::Stopped(1)), done)
+    }),
+    ("vetoes above, stopped, odd rounds", odd_done, |r, t, done| {
+        vetoes_above(r, with(t, State::Stopped(done)), done)
+    }),
+    ("vetoes above, decided, even rounds", late_even_done, |r, t, done| {
+        vetoes_above(r, with(t, State::Decided(2)), done)
+    }),
+    ("vetoes above, decided, odd rounds", odd_done, |r, t, done| {
+        vetoes_above(r, with(t, State::Decided(done - 1)), done)
+    }),
 ];
 
 /// Every condition of refusal 7, each broken alone: n, the rounds done, and
@@ -930,6 +998,58 @@ pub fn broken_records(rng: &mut Rng) -> Vec<Broken> {
         list.push(Broken { fleet, condition, place: Some(PLACES - 1), refused: true });
     }
     list
+}
+
+/// The bytes of a record that refusal 7 accepts, but for one place of which
+/// one byte is changed so that it holds no truck.
+#[derive(Clone, Debug)]
+pub struct DamagedRecord {
+    /// The record before.
+    pub fleet: Fleet,
+    pub bytes: [u8; RECORD],
+    pub place: usize,
+    pub how: &'static str,
+    /// False where the place is at or above n.
+    pub refused: bool,
+}
+
+/// A record of fewer than 400 rounds done with a damaged byte.
+pub fn damaged_record(rng: &mut Rng) -> DamagedRecord {
+    let n = rng.pick(&[1, 2, 5, 31, 32]);
+    let done = any_done(rng);
+    let mut fleet = good_record(rng, n, done);
+    let any = rng.below(PLACES);
+    let place = rng.pick(&[0, n - 1, n.min(PLACES - 1), PLACES - 1, any]);
+    let at = place_of(place);
+    let damage: fn(&mut Rng, &mut [u8]) -> &'static str = match rng.below(5) {
+        0 => |r, truck| {
+            truck[2] = r.within(2, 255) as u8;
+            "a mark above 1"
+        },
+        1 => |r, truck| {
+            truck[3] = r.within(3, 255) as u8;
+            "heard above 2"
+        },
+        2 => |r, truck| {
+            truck[4] = r.within(3, 255) as u8;
+            "a state above 2"
+        },
+        3 => {
+            // Nothing else is wrong with the running truck.
+            fleet.trucks[place] = running(rng.below(16) as u8);
+            |r, truck| {
+                truck[5 + r.below(2)] = r.within(1, 255) as u8;
+                "running with a round"
+            }
+        }
+        _ => |r, truck| {
+            truck[9] = r.pick(&[1, 2, 128, 255]);
+            "the free byte not 0"
+        },
+    };
+    let mut bytes = record_bytes(&fleet);
+    let how = damage(rng, &mut bytes[at..]);
+    DamagedRecord { fleet, bytes, place, how, refused: place < n }
 }
 
 // Roads

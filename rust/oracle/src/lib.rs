@@ -13,6 +13,7 @@
 // Rules read best with plain indices and remainders.
 #![allow(clippy::needless_range_loop, clippy::manual_is_multiple_of)]
 
+pub mod bytes;
 pub mod fast;
 pub mod fleet;
 pub mod gen;
@@ -23,7 +24,7 @@ pub mod recording;
 pub mod roads;
 pub mod steps;
 
-pub use fleet::{Fleet, Heard, State, Truck};
+pub use fleet::{Fleet, Heard, Sent, State, Truck};
 pub use listing::{listing, listing_into, program};
 pub use lists::List;
 pub use marks::{calm, grade, Classes};

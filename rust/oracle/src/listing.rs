@@ -47,7 +47,15 @@ fn accepted_listing(bytes: &[u8]) -> Result<String, u8> {
             State::Stopped(round) => format!("stopped {crusher} round {round}"),
             State::Decided(round) => format!("decided {crusher} round {round}"),
         };
-        text.push_str(&format!("{i} opened {} {standing}\n", truck.opening));
+        let sent = sent_text(truck.sent.proposals.into(), truck.sent.vetoes.into());
+        text.push_str(&format!("{i} opened {} {standing} {sent}\n", truck.opening));
     }
+    let (proposals, vetoes) = fleet.totals();
+    text.push_str(&format!("{}\n", sent_text(proposals, vetoes)));
     Ok(text)
+}
+
+/// The two counts, in the same words for one truck and for all.
+fn sent_text(proposals: u32, vetoes: u32) -> String {
+    format!("sent {proposals} vetoes {vetoes}")
 }

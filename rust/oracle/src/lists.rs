@@ -1,6 +1,7 @@
 //! Whole lists of steps, and what demand 3 claims of the last record.
 
-use crate::fleet::{Fleet, State};
+use crate::fleet::{Fleet, Sent, State};
+use crate::marks::airs;
 use crate::recording::{round_has_own_bit, round_misshapen, Plain, MAX_ROUNDS};
 use crate::steps::{start, step};
 
@@ -55,6 +56,18 @@ pub fn play(list: &List) -> Result<(Vec<u8>, Fleet), u8> {
         fleet = next;
     }
     Ok((numbers, fleet))
+}
+
+/// How many messages of each kind the rules made each truck send: by what is on
+/// the air in each round, from the openings on, and not by the record's counts.
+pub fn sent_by_the_rules(plain: &Plain) -> Vec<Sent> {
+    let airs = airs(plain);
+    let sends_in = |truck: usize, odd: bool| {
+        airs.iter().filter(|air| air.is_proposal() == odd && air.sends[truck]).count() as u8
+    };
+    (0..plain.n)
+        .map(|truck| Sent { proposals: sends_in(truck, true), vetoes: sends_in(truck, false) })
+        .collect()
 }
 
 /// The crushers of the decided trucks below n.

@@ -2,7 +2,7 @@
 
 use std::collections::BTreeSet;
 
-use crate::fleet::{record_refused, Fleet, Heard, State, Truck};
+use crate::fleet::{record_refused, Fleet, Heard, Sent, State, Truck};
 use crate::recording::{
     openings_refused, read, round_has_own_bit, round_misshapen, words_own_bit, OwnBit, MAX_ROUNDS,
     MAX_TRUCKS,
@@ -54,6 +54,16 @@ impl Air {
         (0..self.sends.len()).filter(|j| self.sends[*j] && !self.hears[truck][*j]).count()
     }
 
+    /// What a truck sends in this round: at most one message, of the round's kind.
+    pub fn sent(&self, truck: usize) -> Sent {
+        let one = u8::from(self.sends[truck]);
+        if self.is_proposal() {
+            Sent { proposals: one, vetoes: 0 }
+        } else {
+            Sent { proposals: 0, vetoes: one }
+        }
+    }
+
     /// Numbers of the running trucks.
     pub fn running_trucks(&self) -> Vec<usize> {
         (0..self.running.len()).filter(|i| self.running[*i]).collect()
@@ -96,7 +106,7 @@ pub fn follow(fleet: &Fleet, words: &[u32]) -> Fleet {
     next.done = air.round;
     for i in 0..fleet.n as usize {
         let before = fleet.trucks[i];
-        next.trucks[i] = if !before.is_running() {
+        let after = if !before.is_running() {
             before
         } else if !air.running[i] {
             Truck { state: State::Stopped(air.round), ..before }.with_empty_memory()
@@ -105,6 +115,7 @@ pub fn follow(fleet: &Fleet, words: &[u32]) -> Fleet {
         } else {
             after_veto(before, &air, i)
         };
+        next.trucks[i] = Truck { sent: before.sent.plus(air.sent(i)), ..after };
     }
     next
 }

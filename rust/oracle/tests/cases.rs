@@ -12,6 +12,11 @@ fn decided(opening: u8, crusher: u8, round: u16) -> Truck {
     Truck { estimate: crusher, state: State::Decided(round), ..Truck::opened(opening) }
 }
 
+/// The same truck, having sent so many proposals and vetoes.
+fn sent(proposals: u8, vetoes: u8, truck: Truck) -> Truck {
+    Truck { sent: Sent { proposals, vetoes }, ..truck }
+}
+
 /// The record of an accepted run.
 fn accepted(bytes: &[u8]) -> Fleet {
     let (number, fleet) = run(bytes);
@@ -44,10 +49,18 @@ fn with_zeros(first: [u8; 2], zeros: usize) -> Vec<u8> {
 fn c1_two_values_then_one() {
     let fleet = accepted(&C1);
     assert_eq!((fleet.n, fleet.done), (2, 4));
-    assert_eq!(fleet.trucks_below_n(), [decided(3, 3, 4), decided(5, 3, 4)]);
+    // Both send in rounds 1 and 3, and a veto in round 2.
+    assert_eq!(
+        fleet.trucks_below_n(),
+        [sent(2, 1, decided(3, 3, 4)), sent(2, 1, decided(5, 3, 4))]
+    );
+    assert_eq!(fleet.totals(), (4, 2));
     assert_eq!(
         listing(&C1),
-        "trucks 2 rounds 4\n0 opened 3 decided 3 round 4\n1 opened 5 decided 3 round 4\n"
+        "trucks 2 rounds 4\n\
+         0 opened 3 decided 3 round 4 sent 2 vetoes 1\n\
+         1 opened 5 decided 3 round 4 sent 2 vetoes 1\n\
+         sent 4 vetoes 2\n"
     );
     assert_eq!(program(&C1), listing(&C1));
 
@@ -70,7 +83,18 @@ fn c1_two_values_then_one() {
 #[test]
 fn c2_half_is_no_majority() {
     let fleet = accepted(&C2);
-    assert_eq!(fleet.trucks_below_n(), [decided(3, 3, 2), decided(5, 5, 2)]);
+    // Both send in round 1, and neither has a reason for a veto.
+    assert_eq!(
+        fleet.trucks_below_n(),
+        [sent(1, 0, decided(3, 3, 2)), sent(1, 0, decided(5, 5, 2))]
+    );
+    assert_eq!(
+        listing(&C2),
+        "trucks 2 rounds 2\n\
+         0 opened 3 decided 3 round 2 sent 1 vetoes 0\n\
+         1 opened 5 decided 5 round 2 sent 1 vetoes 0\n\
+         sent 2 vetoes 0\n"
+    );
     assert_eq!(grade(&C2), Ok([1, 1, 0, 0]));
     assert_eq!(fast::grade(&C2), Ok([1, 1, 0, 0]));
     let first = &airs(&read(&C2).unwrap())[0];
@@ -82,20 +106,36 @@ fn c3_marks_hold_both_back() {
     let bytes = [0x08, 0x02, 0x35, 0x3D, 0x80, 0x00];
     assert_eq!(read(&bytes).unwrap().round(1), [0, 0b11, 0b11, 0b10, 0b01]);
     let fleet = accepted(&bytes);
-    assert_eq!(fleet.trucks_below_n(), [Truck::opened(3), Truck::opened(5)]);
+    // Both send in round 1, and a veto in round 2 for their marks.
+    assert_eq!(
+        fleet.trucks_below_n(),
+        [sent(1, 1, Truck::opened(3)), sent(1, 1, Truck::opened(5))]
+    );
     assert_eq!(airs(&read(&bytes).unwrap())[1].sends, [true, true]);
     assert_eq!(grade(&bytes), Ok([0, 0, 0, 0]));
-    assert_eq!(listing(&bytes), "trucks 2 rounds 2\n0 opened 3 running 3\n1 opened 5 running 5\n");
+    assert_eq!(
+        listing(&bytes),
+        "trucks 2 rounds 2\n\
+         0 opened 3 running 3 sent 1 vetoes 1\n\
+         1 opened 5 running 5 sent 1 vetoes 1\n\
+         sent 2 vetoes 2\n"
+    );
 }
 
 #[test]
 fn c4_one_truck() {
     let active = [0x04, 0x02, 0x74, 0x00];
-    assert_eq!(accepted(&active).trucks_below_n(), [decided(7, 7, 2)]);
-    assert_eq!(listing(&active), "trucks 1 rounds 2\n0 opened 7 decided 7 round 2\n");
+    assert_eq!(accepted(&active).trucks_below_n(), [sent(1, 0, decided(7, 7, 2))]);
+    assert_eq!(
+        listing(&active),
+        "trucks 1 rounds 2\n0 opened 7 decided 7 round 2 sent 1 vetoes 0\nsent 1 vetoes 0\n"
+    );
     let never_active = [0x04, 0x02, 0x70, 0x00];
     assert_eq!(accepted(&never_active).trucks_below_n(), [Truck::opened(7)]);
-    assert_eq!(listing(&never_active), "trucks 1 rounds 2\n0 opened 7 running 7\n");
+    assert_eq!(
+        listing(&never_active),
+        "trucks 1 rounds 2\n0 opened 7 running 7 sent 0 vetoes 0\nsent 0 vetoes 0\n"
+    );
 }
 
 #[test]
@@ -103,6 +143,14 @@ fn c5_no_rounds() {
     let bytes = [0x08, 0x00, 0x35];
     assert_eq!(accepted(&bytes).trucks_below_n(), [Truck::opened(3), Truck::opened(5)]);
     assert_eq!(accepted(&bytes), start(2, &[3, 5]).1);
+    assert_eq!(accepted(&bytes).totals(), (0, 0));
+    assert_eq!(
+        listing(&bytes),
+        "trucks 2 rounds 0\n\
+         0 opened 3 running 3 sent 0 vetoes 0\n\
+         1 opened 5 running 5 sent 0 vetoes 0\n\
+         sent 0 vetoes 0\n"
+    );
     assert_eq!(grade(&bytes), Ok([0, 0, 0, 0]));
     for n in 1..=32 {
         let openings: Vec<u8> = (0..n as u8).map(|i| i % 16).collect();
@@ -182,21 +230,42 @@ fn single_bits_come_truck_0_first() {
     assert_eq!(read(&bytes).unwrap().words, [0b10, 0, 0, 0, 0]);
     assert_eq!(
         listing(&bytes),
-        "trucks 2 rounds 1\n0 opened 3 running 3\n1 opened 5 stopped 5 round 1\n"
+        "trucks 2 rounds 1\n\
+         0 opened 3 running 3 sent 0 vetoes 0\n\
+         1 opened 5 stopped 5 round 1 sent 0 vetoes 0\n\
+         sent 0 vetoes 0\n"
     );
     // Two trucks, only truck 1 active: truck 0 takes the 5 too.
     let bytes = [0x08, 0x01, 0x35, 0x10, 0x00];
     assert_eq!(read(&bytes).unwrap().words, [0, 0b10, 0, 0, 0]);
-    assert_eq!(listing(&bytes), "trucks 2 rounds 1\n0 opened 3 running 5\n1 opened 5 running 5\n");
+    assert_eq!(
+        listing(&bytes),
+        "trucks 2 rounds 1\n\
+         0 opened 3 running 5 sent 0 vetoes 0\n\
+         1 opened 5 running 5 sent 1 vetoes 0\n\
+         sent 1 vetoes 0\n"
+    );
     // Both active, only truck 1 marked: truck 1 keeps its 5.
     let bytes = [0x08, 0x01, 0x35, 0x34, 0x00];
     assert_eq!(read(&bytes).unwrap().words, [0, 0b11, 0b10, 0, 0]);
-    assert_eq!(listing(&bytes), "trucks 2 rounds 1\n0 opened 3 running 3\n1 opened 5 running 5\n");
+    assert_eq!(
+        listing(&bytes),
+        "trucks 2 rounds 1\n\
+         0 opened 3 running 3 sent 1 vetoes 0\n\
+         1 opened 5 running 5 sent 1 vetoes 0\n\
+         sent 2 vetoes 0\n"
+    );
     assert_eq!(grade(&bytes), Ok([0, 0, 0, 1]));
     // Row 0 with bit 1: truck 0 misses truck 1, and not the other way round.
     let bytes = [0x08, 0x01, 0x53, 0x31, 0x00];
     assert_eq!(read(&bytes).unwrap().words, [0, 0b11, 0, 0b10, 0]);
-    assert_eq!(listing(&bytes), "trucks 2 rounds 1\n0 opened 5 running 5\n1 opened 3 running 3\n");
+    assert_eq!(
+        listing(&bytes),
+        "trucks 2 rounds 1\n\
+         0 opened 5 running 5 sent 1 vetoes 0\n\
+         1 opened 3 running 3 sent 1 vetoes 0\n\
+         sent 2 vetoes 0\n"
+    );
 }
 
 #[test]

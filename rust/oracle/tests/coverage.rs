@@ -3,6 +3,7 @@
 
 use std::collections::{BTreeMap, BTreeSet};
 
+use oracle::fleet::record_refused;
 use oracle::gen::{self, Rng, FULL, SMALL};
 use oracle::lists::play;
 use oracle::marks::airs;
@@ -40,6 +41,7 @@ fn events(before: &Truck, after: &Truck, air: &Air, i: usize) -> Vec<&'static st
     if !air.running[i] {
         note(air.is_proposal(), "stops in a proposal round");
         note(!air.is_proposal(), "stops in a veto round");
+        note(before.sent != Sent::default(), "stops after messages sent");
         note(!before.memory_is_empty(), "stops with a memory");
         return list;
     }
@@ -50,6 +52,7 @@ fn events(before: &Truck, after: &Truck, air: &Air, i: usize) -> Vec<&'static st
     note(!mark && others && heard == 0, "hears none of some unmarked");
     if air.is_proposal() {
         note(air.sends[i], "proposes");
+        note(air.sends[i] && mark, "proposes with a mark");
         note(after.estimate < before.estimate, "takes a lower value");
         note(after.estimate > before.estimate, "takes a higher value");
         note(mark && after.heard == Heard::Nothing, "marked with no value");
@@ -64,6 +67,7 @@ fn events(before: &Truck, after: &Truck, air: &Air, i: usize) -> Vec<&'static st
         note(before.mark && before.heard != Heard::Several, "vetoes by a mark");
         note(!before.mark && before.heard == Heard::Several, "vetoes by several values");
         note(decides, "decides");
+        note(decides && before.sent.vetoes > 0, "decides after vetoes sent");
         note(decides && missed > 0, "decides with a veto missed");
         let one = before.heard == Heard::One && !before.mark;
         note(one && heard > 0, "held back by a veto");
@@ -110,10 +114,68 @@ fn every_branch_of_the_rules_is_taken() {
             *endings.entry(ending).or_insert(0) += 1;
         }
     }
-    assert_eq!(counts.len(), 27, "{counts:?}");
+    assert_eq!(counts.len(), 30, "{counts:?}");
     assert!(counts.values().all(|count| *count > 100), "{counts:?}");
     assert_eq!(endings.len(), 4);
     assert!(endings.values().all(|count| *count > 500), "{endings:?}");
+}
+
+/// What a truck's counts are beside the most that may be: each alone.
+fn counts(truck: &Truck, done: u16) -> [&'static str; 2] {
+    let most = gen::most_sent(done);
+    let place = |count: u8, most: u8| match (count, most) {
+        (_, 0) => "none possible",
+        (0, _) => "none",
+        (count, most) if count == most => "most",
+        _ => "between",
+    };
+    [place(truck.sent.proposals, most.proposals), place(truck.sent.vetoes, most.vetoes)]
+}
+
+/// Accepted records have trucks of every state with none, some and the most of
+/// each count, after even and odd rounds; and above n counts that no truck has.
+#[test]
+fn counts_reach_their_limits() {
+    let mut rng = Rng::new(66);
+    let mut met = BTreeMap::new();
+    let mut wild = [0; 2];
+    for _ in 0..4_000 {
+        let fleet = gen::record(&mut rng);
+        assert!(!record_refused(&fleet));
+        for truck in fleet.trucks_below_n() {
+            let state = match truck.state {
+                State::Running => "running",
+                State::Stopped(_) => "stopped",
+                State::Decided(_) => "decided",
+            };
+            for (kind, count) in ["proposals", "vetoes"].into_iter().zip(counts(truck, fleet.done))
+            {
+                if count != "none possible" {
+                    *met.entry((kind, state, fleet.done % 2, count)).or_insert(0) += 1;
+                }
+            }
+        }
+        for truck in &fleet.trucks[fleet.n as usize..] {
+            wild[0] += (truck.sent.proposals > 200) as usize;
+            wild[1] += (truck.sent.vetoes > 200) as usize;
+        }
+    }
+    assert_eq!(met.len(), 2 * 3 * 2 * 3, "{met:?}");
+    assert!(met.values().all(|count| *count > 100), "{met:?}");
+    assert!(wild.iter().all(|count| *count > 1_000), "{wild:?}");
+}
+
+/// Each way to damage a byte of a record is met below n and from n on.
+#[test]
+fn bytes_of_records_are_damaged_in_every_way() {
+    let mut rng = Rng::new(67);
+    let mut met = BTreeMap::new();
+    for _ in 0..2_000 {
+        let damaged = gen::damaged_record(&mut rng);
+        *met.entry((damaged.how, damaged.refused)).or_insert(0) += 1;
+    }
+    assert_eq!(met.len(), 2 * 5, "{met:?}");
+    assert!(met.values().all(|count| *count > 50), "{met:?}");
 }
 
 #[test]
@@ -151,14 +213,22 @@ fn listings_have_the_three_kinds_of_lines() {
         let header = check(&bytes).unwrap();
         let lines: Vec<_> = text.lines().collect();
         assert!(text.ends_with('\n'));
-        assert_eq!(lines.len(), header.n + 1);
+        assert_eq!(lines.len(), header.n + 2);
         assert_eq!(lines[0], format!("trucks {} rounds {}", header.n, header.rounds));
-        for (i, line) in lines[1..].iter().enumerate() {
+        let mut totals = [0, 0];
+        for (i, line) in lines[1..=header.n].iter().enumerate() {
             let words: Vec<_> = line.split(' ').collect();
             assert_eq!((words[0], words[1]), (i.to_string().as_str(), "opened"));
-            assert_eq!(words.len(), if words[3] == "running" { 5 } else { 7 });
+            assert_eq!(words.len(), if words[3] == "running" { 9 } else { 11 });
+            let [sent, proposals, vetoed, vetoes] = words[words.len() - 4..] else {
+                unreachable!()
+            };
+            assert_eq!((sent, vetoed), ("sent", "vetoes"));
+            totals[0] += proposals.parse::<u32>().unwrap();
+            totals[1] += vetoes.parse::<u32>().unwrap();
             kinds.insert(words[3].to_string());
         }
+        assert_eq!(lines[header.n + 1], format!("sent {} vetoes {}", totals[0], totals[1]));
         // In a lent buffer.
         let mut buffer = vec![b'#'; text.len() + 3];
         assert_eq!(listing_into(&bytes, &mut buffer), Ok(text.len()));

@@ -20,7 +20,12 @@ fn after(openings: &[u8], rounds: &[&[u32]]) -> Fleet {
 }
 
 fn truck(opening: u8, estimate: u8, mark: bool, heard: Heard, state: State) -> Truck {
-    Truck { opening, estimate, mark, heard, state }
+    Truck { opening, estimate, mark, heard, state, sent: Sent::default() }
+}
+
+/// The same truck, having sent so many proposals and vetoes.
+fn sent(proposals: u8, vetoes: u8, truck: Truck) -> Truck {
+    Truck { sent: Sent { proposals, vetoes }, ..truck }
 }
 
 use Heard::{Nothing, One, Several};
@@ -33,15 +38,15 @@ const BOTH: [u32; 5] = [0, 0b11, 0, 0, 0];
 fn a_passive_truck_takes_the_least_heard_and_not_its_own() {
     let fleet = after(&[1, 5], &[&[0, 0b10, 0, 0, 0]]);
     assert_eq!(fleet.trucks[0], truck(1, 5, false, One, Running));
-    assert_eq!(fleet.trucks[1], truck(5, 5, false, One, Running));
+    assert_eq!(fleet.trucks[1], sent(1, 0, truck(5, 5, false, One, Running)));
 }
 
 #[test]
 fn equal_values_are_one_value() {
     let fleet = after(&[4, 4], &[&BOTH]);
-    assert_eq!(fleet.trucks[0], truck(4, 4, false, One, Running));
+    assert_eq!(fleet.trucks[0], sent(1, 0, truck(4, 4, false, One, Running)));
     let fleet = after(&[4, 4], &[&BOTH, &SILENT]);
-    assert_eq!(fleet.trucks[0], truck(4, 4, false, Nothing, Decided(2)));
+    assert_eq!(fleet.trucks[0], sent(1, 0, truck(4, 4, false, Nothing, Decided(2))));
 }
 
 #[test]
@@ -55,8 +60,8 @@ fn estimates_of_before_the_round_are_sent() {
 #[test]
 fn a_mark_keeps_the_estimate_and_the_memory_keeps_the_values() {
     let fleet = after(&[3, 5], &[&[0, 0b11, 0b11, 0, 0]]);
-    assert_eq!(fleet.trucks[0], truck(3, 3, true, Several, Running));
-    assert_eq!(fleet.trucks[1], truck(5, 5, true, Several, Running));
+    assert_eq!(fleet.trucks[0], sent(1, 0, truck(3, 3, true, Several, Running)));
+    assert_eq!(fleet.trucks[1], sent(1, 0, truck(5, 5, true, Several, Running)));
     let fleet = after(&[3, 5], &[&[0, 0b01, 0b11, 0, 0]]);
     assert_eq!(fleet.trucks[1], truck(5, 5, true, One, Running));
     let fleet = after(&[3, 5], &[&[0, 0, 0b10, 0, 0]]);
@@ -87,7 +92,7 @@ fn stopping_in_a_proposal_round() {
     // Truck 0 would have sent the least value.
     let fleet = after(&[1, 5], &[&[0b01, 0b11, 0b01, 0, 0]]);
     assert_eq!(fleet.trucks[0], truck(1, 1, false, Nothing, Stopped(1)));
-    assert_eq!(fleet.trucks[1], truck(5, 5, false, One, Running));
+    assert_eq!(fleet.trucks[1], sent(1, 0, truck(5, 5, false, One, Running)));
     // It keeps its round, and its bits do nothing any more.
     let fleet =
         after(&[1, 5], &[&[0b01, 0b11, 0, 0, 0], &[0b01, 0, 0, 0, 0], &[0b01, 0b01, 0b01, 0, 0]]);
@@ -113,25 +118,25 @@ fn vetoes_come_from_marks_and_from_several_values() {
     let proposal = [0, 0b10, 0b01, 0, 0];
     for active in 0..4 {
         let heard = after(&[1, 5], &[&proposal, &[0, active, 0, 0, 0]]);
-        assert_eq!(heard.trucks[1], truck(5, 5, false, Nothing, Running));
+        assert_eq!(heard.trucks[1], sent(1, 0, truck(5, 5, false, Nothing, Running)));
         // The veto is lost on truck 1; truck 0 always hears its own.
         let lost = after(&[1, 5], &[&proposal, &[0, active, 0, 0, 0b01]]);
-        assert_eq!(lost.trucks[1], truck(5, 5, false, Nothing, Decided(2)));
-        assert_eq!(lost.trucks[0], truck(1, 1, false, Nothing, Running));
+        assert_eq!(lost.trucks[1], sent(1, 0, truck(5, 5, false, Nothing, Decided(2))));
+        assert_eq!(lost.trucks[0], sent(0, 1, truck(1, 1, false, Nothing, Running)));
     }
     // Truck 0 heard several, truck 1 only its own.
     let proposal = [0, 0b11, 0, 0, 0b01];
     let heard = after(&[1, 5], &[&proposal, &SILENT]);
     assert_eq!(heard.trucks[1].state, Running);
     let lost = after(&[1, 5], &[&proposal, &[0, 0, 0, 0, 0b01]]);
-    assert_eq!(lost.trucks[1], truck(5, 5, false, Nothing, Decided(2)));
+    assert_eq!(lost.trucks[1], sent(1, 0, truck(5, 5, false, Nothing, Decided(2))));
 }
 
 #[test]
 fn a_mark_in_the_veto_round_forbids_deciding() {
     let fleet = after(&[4, 4], &[&BOTH, &[0, 0, 0b10, 0, 0]]);
     assert_eq!(fleet.trucks[0].state, Decided(2));
-    assert_eq!(fleet.trucks[1], Truck::opened(4));
+    assert_eq!(fleet.trucks[1], sent(1, 0, Truck::opened(4)));
 }
 
 #[test]
@@ -140,9 +145,9 @@ fn a_decided_truck_is_out_of_it() {
     let both = [0, 0b11, 0, 0, 0];
     let held = [0, 0, 0b10, 0, 0];
     let fleet = after(&[4, 4], &[&both, &held, &[0b01, 0b01, 0b01, 0, 0]]);
-    assert_eq!(fleet.trucks[0], truck(4, 4, false, Nothing, Decided(2)));
-    // Truck 0 sent nothing, so truck 1 heard nothing.
-    assert_eq!(fleet.trucks[1], truck(4, 4, false, Nothing, Running));
+    assert_eq!(fleet.trucks[0], sent(1, 0, truck(4, 4, false, Nothing, Decided(2))));
+    // Truck 0 sent nothing in round 3, so truck 1 heard nothing.
+    assert_eq!(fleet.trucks[1], sent(1, 0, truck(4, 4, false, Nothing, Running)));
     let fleet = after(&[4, 4], &[&both, &held, &both, &SILENT, &both, &SILENT]);
     assert_eq!(fleet.trucks[0].state, Decided(2));
     assert_eq!(fleet.trucks[1].state, Decided(4));
@@ -260,5 +265,5 @@ fn each_condition_of_7_is_met_alone() {
             conditions.insert(broken.condition);
         }
     }
-    assert_eq!(conditions.len(), 21);
+    assert_eq!(conditions.len(), 33);
 }

@@ -1,4 +1,4 @@
-//! A live fleet, kept as the library's 227 bytes.
+//! A live fleet, kept as the library's 323 bytes.
 
 use std::fmt;
 
@@ -7,8 +7,10 @@ use crate::{ffi, Refusal};
 
 /// The most trucks of a fleet.
 pub const MAX_TRUCKS: usize = 32;
+/// The bytes of one truck's place in a fleet record.
+const PLACE_SIZE: usize = 10;
 /// The bytes of a fleet record.
-pub const RECORD_SIZE: usize = 227;
+pub const RECORD_SIZE: usize = 3 + PLACE_SIZE * MAX_TRUCKS;
 
 /// How many different values a truck heard in the proposal round before.
 #[derive(Clone, Copy, Debug, PartialEq, Eq, Hash)]
@@ -32,6 +34,15 @@ pub enum State {
     Decided(u16),
 }
 
+/// How many messages a truck has sent. A truck sends at most one in a round, so that each count is at most 200.
+#[derive(Clone, Copy, Debug, PartialEq, Eq, Hash)]
+pub struct Sent {
+    /// Proposals: the odd rounds in which it sent.
+    pub proposals: u8,
+    /// Vetoes: the even rounds in which it sent.
+    pub vetoes: u8,
+}
+
 /// One truck of a fleet.
 #[derive(Clone, Copy, Debug, PartialEq, Eq, Hash)]
 pub struct Truck {
@@ -45,12 +56,14 @@ pub struct Truck {
     pub heard: Heard,
     /// Whether it is running, stopped or decided.
     pub state: State,
+    /// How much it has sent; what a stopped or a decided truck had sent before.
+    pub sent: Sent,
 }
 
 /// A fleet of 1 to 32 trucks with 0 to 400 rounds done.
 ///
 /// ```
-/// use rajvokshul::{Fleet, State};
+/// use rajvokshul::{Fleet, Sent, State};
 ///
 /// let mut fleet = Fleet::start(2, &[3, 5])?;
 /// // A round in plain form: stop, active, mark, then what each truck missed.
@@ -60,6 +73,8 @@ pub struct Truck {
 /// assert_eq!(fleet.truck(1).unwrap().estimate, 3);
 /// for truck in &fleet {
 ///     assert_eq!(truck.state, State::Running);
+///     // Both heard two values in round 1, so that both sent a veto in round 2.
+///     assert_eq!(truck.sent, Sent { proposals: 1, vetoes: 1 });
 /// }
 /// # Ok::<(), rajvokshul::Refusal>(())
 /// ```
@@ -164,21 +179,21 @@ impl Fleet {
     /// # use rajvokshul::{Fleet, Refusal};
     /// let kept = *Fleet::start(2, &[3, 5])?.as_bytes();
     /// assert_eq!(Fleet::from_bytes(kept).trucks(), 2);
-    /// assert_eq!(Fleet::from_bytes([0xff; 227]).step([0; 5]), Err(Refusal::Record));
+    /// assert_eq!(Fleet::from_bytes([0xff; 323]).step([0; 5]), Err(Refusal::Record));
     /// # Ok::<(), Refusal>(())
     /// ```
     pub fn from_bytes(bytes: [u8; RECORD_SIZE]) -> Fleet {
         Fleet { bytes }
     }
 
-    /// The record as bytes: n; the rounds done, low byte first; then seven bytes for each of 32 places, which are
-    /// opening, estimate, mark (0 or 1), what was heard (0 to 2 as in [`Heard`]), state (0 to 2 as in [`State`]), and the
-    /// round of the stop or the decision, low byte first.
+    /// The record as bytes: n; the rounds done, low byte first; then ten bytes for each of 32 places, which are opening,
+    /// estimate, mark (0 or 1), what was heard (0 to 2 as in [`Heard`]), state (0 to 2 as in [`State`]), the round of the
+    /// stop or the decision, low byte first, the numbers of proposals and of vetoes sent, and 0.
     ///
     /// ```
     /// # use rajvokshul::{Fleet, Refusal};
     /// let fleet = Fleet::start(2, &[3, 5])?;
-    /// assert_eq!(fleet.as_bytes()[..10], [2, 0, 0, 3, 3, 0, 0, 0, 0, 0]);
+    /// assert_eq!(fleet.as_bytes()[..13], [2, 0, 0, 3, 3, 0, 0, 0, 0, 0, 0, 0, 0]);
     /// assert_eq!(Fleet::try_from(*fleet.as_bytes())?, fleet);
     /// # Ok::<(), Refusal>(())
     /// ```
@@ -234,28 +249,33 @@ impl Fleet {
         if i >= usize::from(self.trucks()) {
             return None;
         }
-        let place = self.bytes.get(3 + 7 * i..10 + 7 * i)?;
-        let round = u16::from_le_bytes([place[5], place[6]]);
+        let place = self.bytes[3..].chunks_exact(PLACE_SIZE).nth(i)?;
+        let &[opening, estimate, mark, heard, state, low, high, proposals, vetoes, 0] = place
+        else {
+            return None;
+        };
+        let round = u16::from_le_bytes([low, high]);
         Some(Truck {
-            opening: place[0],
-            estimate: place[1],
-            mark: match place[2] {
+            opening,
+            estimate,
+            mark: match mark {
                 0 => false,
                 1 => true,
                 _ => return None,
             },
-            heard: match place[3] {
+            heard: match heard {
                 0 => Heard::Nothing,
                 1 => Heard::One,
                 2 => Heard::Several,
                 _ => return None,
             },
-            state: match (place[4], round) {
+            state: match (state, round) {
                 (0, 0) => State::Running,
                 (1, _) => State::Stopped(round),
                 (2, _) => State::Decided(round),
                 _ => return None,
             },
+            sent: Sent { proposals, vetoes },
         })
     }
 }
@@ -288,7 +308,7 @@ impl TryFrom<[u8; RECORD_SIZE]> for Fleet {
 impl TryFrom<&[u8]> for Fleet {
     type Error = Refusal;
 
-    /// The same of a slice, which has to have 227 bytes. Refusal: 7.
+    /// The same of a slice, which has to have 323 bytes. Refusal: 7.
     ///
     /// ```
     /// # use rajvokshul::{Fleet, Refusal};

@@ -28,7 +28,10 @@
 //! }
 //! assert_eq!(
 //!     list(&recorder.recording())?,
-//!     "trucks 2 rounds 4\n0 opened 3 decided 3 round 4\n1 opened 5 decided 3 round 4\n"
+//!     "trucks 2 rounds 4\n\
+//!      0 opened 3 decided 3 round 4 sent 2 vetoes 1\n\
+//!      1 opened 5 decided 3 round 4 sent 2 vetoes 1\n\
+//!      sent 4 vetoes 2\n"
 //! );
 //! # Ok::<(), Refusal>(())
 //! ```
@@ -44,7 +47,7 @@ mod refusal;
 mod roads;
 mod round;
 
-pub use fleet::{Fleet, Heard, State, Truck, Trucks, MAX_TRUCKS, RECORD_SIZE};
+pub use fleet::{Fleet, Heard, Sent, State, Truck, Trucks, MAX_TRUCKS, RECORD_SIZE};
 pub use recorder::Recorder;
 pub use recording::{
     grade, list, list_into, read, read_into, write, write_into, Class, Grades, Plain,

@@ -22,7 +22,7 @@ use crate::{write, Fleet, Plain, Refusal};
 /// let recording = recorder.recording();
 /// assert_eq!(recording, [0x08, 0x04, 0x35, 0x30, 0x00, 0x03, 0x00, 0x00]);
 /// assert_eq!(recorder.fleet(), &Fleet::run(&recording)?);
-/// assert!(list(&recording)?.ends_with("1 opened 5 decided 3 round 4\n"));
+/// assert!(list(&recording)?.ends_with("1 opened 5 decided 3 round 4 sent 2 vetoes 1\nsent 4 vetoes 2\n"));
 /// # Ok::<(), Refusal>(())
 /// ```
 #[derive(Clone, Debug, PartialEq, Eq, Hash)]

@@ -12,7 +12,7 @@ pub const MAX_RECORDING: usize = 56_018;
 /// The words of the largest recording in plain form.
 pub const MAX_WORDS: usize = 14_000;
 /// No listing has more bytes.
-pub const MAX_TEXT: usize = 1_099;
+pub const MAX_TEXT: usize = 1_761;
 
 /// What the marks of a round are worth. Running trucks are judged, by the messages sent.
 #[derive(Clone, Copy, Debug, PartialEq, Eq, Hash)]
@@ -153,11 +153,12 @@ impl fmt::Debug for Plain {
     }
 }
 
-/// Runs a recording to its listing: the two counts, then a line for each truck. Refusals: 1 to 6.
+/// Runs a recording to its listing: the numbers of trucks and rounds, a line for each truck, which ends with how many
+/// proposals and vetoes it sent, and a line with how many all of them sent. Refusals: 1 to 6.
 ///
 /// ```
 /// let text = rajvokshul::list(&[0x04, 0x02, 0x74, 0x00])?;
-/// assert_eq!(text, "trucks 1 rounds 2\n0 opened 7 decided 7 round 2\n");
+/// assert_eq!(text, "trucks 1 rounds 2\n0 opened 7 decided 7 round 2 sent 1 vetoes 0\nsent 1 vetoes 0\n");
 /// # Ok::<(), rajvokshul::Refusal>(())
 /// ```
 pub fn list(recording: &[u8]) -> Result<String, Refusal> {
@@ -174,7 +175,7 @@ pub fn list(recording: &[u8]) -> Result<String, Refusal> {
 ///
 /// let mut text = [0; MAX_TEXT];
 /// let written = list_into(&[0x04, 0x00, 0x70], &mut text)?;
-/// assert_eq!(&text[..written], b"trucks 1 rounds 0\n0 opened 7 running 7\n");
+/// assert_eq!(&text[..written], b"trucks 1 rounds 0\n0 opened 7 running 7 sent 0 vetoes 0\nsent 0 vetoes 0\n");
 /// # Ok::<(), rajvokshul::Refusal>(())
 /// ```
 pub fn list_into(recording: &[u8], text: &mut [u8]) -> Result<usize, Refusal> {

@@ -12,10 +12,11 @@ fn with_zeros(first: [u8; 2], zeros: usize) -> Vec<u8> {
     bytes
 }
 
-fn states(recording: &[u8]) -> Vec<(u8, State)> {
+/// Estimate, state, proposals and vetoes sent of each truck after a run.
+fn ends(recording: &[u8]) -> Vec<(u8, State, u8, u8)> {
     let fleet = Fleet::run(recording).unwrap();
     let trucks = (0..usize::from(fleet.trucks())).map(|i| fleet.truck(i).unwrap());
-    trucks.map(|t| (t.estimate, t.state)).collect()
+    trucks.map(|t| (t.estimate, t.state, t.sent.proposals, t.sent.vetoes)).collect()
 }
 
 /// A refused recording answers its number everywhere.
@@ -30,7 +31,10 @@ fn refused(recording: &[u8], refusal: Refusal) {
 fn c1_decides_in_round_4() {
     assert_eq!(
         list(&C1).unwrap(),
-        "trucks 2 rounds 4\n0 opened 3 decided 3 round 4\n1 opened 5 decided 3 round 4\n"
+        "trucks 2 rounds 4\n\
+         0 opened 3 decided 3 round 4 sent 2 vetoes 1\n\
+         1 opened 5 decided 3 round 4 sent 2 vetoes 1\n\
+         sent 4 vetoes 2\n"
     );
     let plain = read(&C1).unwrap();
     assert_eq!((plain.rounds, &plain.openings[..]), (4, &[3, 5][..]));
@@ -44,6 +48,7 @@ fn c1_decides_in_round_4() {
             (t.estimate, t.mark, t.heard, t.state),
             (3, false, Heard::Several, State::Running)
         );
+        assert_eq!(t.sent, Sent { proposals: 1, vetoes: 0 });
     }
     for k in 2..=4 {
         fleet.step(plain.round(k).unwrap()).unwrap();
@@ -55,20 +60,21 @@ fn c1_decides_in_round_4() {
 
 #[test]
 fn c2_half_is_no_majority() {
-    assert_eq!(states(&C2), [(3, State::Decided(2)), (5, State::Decided(2))]);
+    assert_eq!(ends(&C2), [(3, State::Decided(2), 1, 0), (5, State::Decided(2), 1, 0)]);
     assert_eq!(grade(&C2), Ok(Grades { complete: 1, majority: 1, zero: 0, accurate: 0 }));
 }
 
 #[test]
 fn c3_marked_trucks_keep_and_veto() {
-    assert_eq!(states(&C3), [(3, State::Running), (5, State::Running)]);
+    assert_eq!(ends(&C3), [(3, State::Running, 1, 1), (5, State::Running, 1, 1)]);
 }
 
 #[test]
 fn c4_and_c5_one_truck_and_no_rounds() {
-    assert_eq!(states(&[0x04, 0x02, 0x74, 0x00]), [(7, State::Decided(2))]);
-    assert_eq!(states(&[0x04, 0x02, 0x70, 0x00]), [(7, State::Running)]);
-    assert_eq!(states(&[0x08, 0x00, 0x35]), [(3, State::Running), (5, State::Running)]);
+    assert_eq!(ends(&[0x04, 0x02, 0x74, 0x00]), [(7, State::Decided(2), 1, 0)]);
+    assert_eq!(ends(&[0x04, 0x02, 0x70, 0x00]), [(7, State::Running, 0, 0)]);
+    let untouched = [(3, State::Running, 0, 0), (5, State::Running, 0, 0)];
+    assert_eq!(ends(&[0x08, 0x00, 0x35]), untouched);
 }
 
 #[test]
@@ -274,14 +280,82 @@ fn refused_steps_leave_the_record() {
 fn bytes_that_are_no_record() {
     let mut bytes = *Fleet::start(2, &[3, 5]).unwrap().as_bytes();
     // Places of trucks that aren't there are neither judged nor changed.
-    bytes[17..].fill(0xee);
+    bytes[23..].fill(0xee);
     let mut fleet = Fleet::from_bytes(bytes);
     fleet.step([0; 5]).unwrap();
-    assert_eq!(fleet.as_bytes()[17..], bytes[17..]);
-    // A state that no truck has.
-    bytes[7] = 3;
-    let mut fleet = Fleet::from_bytes(bytes);
-    assert_eq!(fleet.truck(0), None);
-    assert_eq!(fleet.step([0; 5]), Err(Refusal::Record));
-    assert_eq!(fleet.as_bytes(), &bytes);
+    assert_eq!(fleet.as_bytes()[23..], bytes[23..]);
+    // A state that no truck has, and a last byte of a place that is not 0.
+    for (at, value) in [(7, 3), (12, 1)] {
+        let mut wrong = bytes;
+        wrong[at] = value;
+        let mut fleet = Fleet::from_bytes(wrong);
+        assert_eq!(fleet.truck(0), None);
+        assert_eq!(fleet.step([0; 5]), Err(Refusal::Record));
+        assert_eq!(fleet.as_bytes(), &wrong);
+    }
+}
+
+/// One truck that is active and marked in every round sends in every round.
+#[test]
+fn sending_in_every_round() {
+    let recording = write(1, 400, &[7], &[0, 1, 1, 0].repeat(400)).unwrap();
+    assert_eq!(ends(&recording), [(7, State::Running, 200, 200)]);
+    assert_eq!(
+        list(&recording).unwrap(),
+        "trucks 1 rounds 400\n0 opened 7 running 7 sent 200 vetoes 200\nsent 200 vetoes 200\n"
+    );
+    let mut fleet = Fleet::start(1, &[7]).unwrap();
+    for done in 1..=400u16 {
+        fleet.step([0, 1, 1, 0]).unwrap();
+        let Sent { proposals, vetoes } = fleet.truck(0).unwrap().sent;
+        assert_eq!((u16::from(proposals), u16::from(vetoes)), (done.div_ceil(2), done / 2));
+    }
+    assert_eq!(fleet, Fleet::run(&recording).unwrap());
+}
+
+/// Truck 0 stops in round 3, truck 1 decides in round 4, and truck 2 goes on. Worked out by hand.
+#[test]
+fn stopped_and_decided_trucks_keep_their_counts() {
+    let mut fleet = Fleet::start(3, &[3, 5, 3]).unwrap();
+    let mut after = |words: [u32; 6]| {
+        fleet.step(words).unwrap();
+        fleet.iter().map(|t| (t.sent.proposals, t.sent.vetoes)).collect::<Vec<_>>()
+    };
+    let all = [0, 0b111, 0, 0, 0, 0];
+    // 3 and 5 are two values, so that all veto
+    assert_eq!(after(all), [(1, 0), (1, 0), (1, 0)]);
+    assert_eq!(after([0; 6]), [(1, 1), (1, 1), (1, 1)]);
+    // truck 0 stops, and so does not send; a mark keeps truck 2 from deciding
+    assert_eq!(after([0b001, 0b111, 0, 0, 0, 0]), [(1, 1), (2, 1), (2, 1)]);
+    assert_eq!(after([0, 0, 0b100, 0, 0, 0]), [(1, 1), (2, 1), (2, 1)]);
+    assert_eq!(after(all), [(1, 1), (2, 1), (3, 1)]);
+    assert_eq!(after([0; 6]), [(1, 1), (2, 1), (3, 1)]);
+    let states: Vec<_> = fleet.iter().map(|t| t.state).collect();
+    assert_eq!(states, [State::Stopped(3), State::Decided(4), State::Decided(6)]);
+}
+
+/// As many proposals as odd rounds done and as many vetoes as even ones are a record, and one more is none.
+#[test]
+fn counts_beyond_the_rounds_done() {
+    // rounds done, and bytes of the state: running, stopped in round 1, decided in round 2
+    for done in [0u16, 1, 2, 3, 254, 255, 256, 399, 400] {
+        for state in [[0, 0, 0], [1, 1, 0], [2, 2, 0]] {
+            if done < u16::from(state[1]) {
+                continue;
+            }
+            let record = |proposals: u16, vetoes: u16| {
+                let mut bytes = *Fleet::start(2, &[3, 5]).unwrap().as_bytes();
+                bytes[1..3].copy_from_slice(&done.to_le_bytes());
+                bytes[17..20].copy_from_slice(&state);
+                bytes[20] = proposals as u8;
+                bytes[21] = vetoes as u8;
+                Fleet::try_from(bytes).map(|fleet| fleet.truck(1).unwrap().sent)
+            };
+            let (odd, even) = (done - done / 2, done / 2);
+            let most = Sent { proposals: odd as u8, vetoes: even as u8 };
+            assert_eq!(record(odd, even), Ok(most), "{done} {state:?}");
+            assert_eq!(record(odd + 1, even), Err(Refusal::Record), "{done} {state:?}");
+            assert_eq!(record(odd, even + 1), Err(Refusal::Record), "{done} {state:?}");
+        }
+    }
 }

@@ -1,5 +1,6 @@
 //! Rounds by trucks, fleets from bytes, and recorders, held against words written by hand and the independent reading.
 
+use oracle::bytes::record_bytes;
 use oracle::gen::{self, Rng, SMALL, TINY};
 use oracle::{fleet::record_refused, lists, recording};
 use rajvokshul::*;
@@ -121,36 +122,6 @@ fn by_names(round: &Round) -> Round {
     built
 }
 
-/// A record of the independent reading as bytes.
-fn bytes_of(fleet: &oracle::Fleet) -> [u8; RECORD_SIZE] {
-    let mut bytes = [0; RECORD_SIZE];
-    bytes[0] = fleet.n;
-    bytes[1..3].copy_from_slice(&fleet.done.to_le_bytes());
-    for (truck, place) in fleet.trucks.iter().zip(bytes[3..].chunks_exact_mut(7)) {
-        let (state, round) = match truck.state {
-            oracle::State::Running => (0, 0),
-            oracle::State::Stopped(round) => (1, round),
-            oracle::State::Decided(round) => (2, round),
-        };
-        let [low, high] = round.to_le_bytes();
-        let heard = match truck.heard {
-            oracle::Heard::Nothing => 0,
-            oracle::Heard::One => 1,
-            oracle::Heard::Several => 2,
-        };
-        place.copy_from_slice(&[
-            truck.opening,
-            truck.estimate,
-            truck.mark.into(),
-            heard,
-            state,
-            low,
-            high,
-        ]);
-    }
-    bytes
-}
-
 #[test]
 fn records_are_judged_by_refusal_7_and_no_other() {
     let mut rng = Rng::new(0x7EC0);
@@ -160,7 +131,7 @@ fn records_are_judged_by_refusal_7_and_no_other() {
         records.extend(gen::broken_records(&mut rng).iter().map(|broken| broken.fleet));
     }
     for record in records {
-        let bytes = bytes_of(&record);
+        let bytes = record_bytes(&record);
         let expected = if record_refused(&record) { Err(Refusal::Record) } else { Ok(()) };
         let fleet = Fleet::try_from(bytes);
         assert_eq!(fleet.as_ref().map(|_| ()).map_err(|r| *r), expected, "{record:?}");
@@ -168,10 +139,21 @@ fn records_are_judged_by_refusal_7_and_no_other() {
         if let Ok(fleet) = fleet {
             assert_eq!(fleet.as_bytes(), &bytes);
             assert_eq!(fleet.iter().count(), usize::from(record.n));
+            let sent = fleet.iter().map(|truck| (truck.sent.proposals, truck.sent.vetoes));
+            let expected =
+                record.trucks_below_n().iter().map(|t| (t.sent.proposals, t.sent.vetoes));
+            assert!(sent.eq(expected));
         }
         refused[usize::from(expected.is_err())] += 1;
     }
     assert!(refused[0] > 500 && refused[1] > 500, "{refused:?}");
+    for _ in 0..1_000 {
+        let damaged = gen::damaged_record(&mut rng);
+        let expected = if damaged.refused { Err(Refusal::Record) } else { Ok(()) };
+        assert_eq!(Fleet::try_from(damaged.bytes).map(|_| ()), expected, "{}", damaged.how);
+        let holds_a_truck = Fleet::from_bytes(damaged.bytes).truck(damaged.place).is_some();
+        assert!(!holds_a_truck, "{}", damaged.how);
+    }
 }
 
 #[test]
@@ -181,7 +163,7 @@ fn a_record_with_400_rounds_done_is_a_record() {
     assert_eq!(Fleet::try_from(bytes).unwrap().rounds_done(), 400);
     bytes[1..3].copy_from_slice(&401u16.to_le_bytes());
     assert_eq!(Fleet::try_from(bytes), Err(Refusal::Record));
-    for length in [0, 226, 228] {
+    for length in [0, 322, 324] {
         assert_eq!(Fleet::try_from(&vec![0; length][..]), Err(Refusal::Record));
     }
 }
@@ -201,7 +183,7 @@ fn trucks_come_in_their_order() {
     let mut bytes = *fleet.as_bytes();
     bytes[0] = 255;
     assert_eq!(Fleet::from_bytes(bytes).iter().count(), 32);
-    bytes[3 + 7 + 4] = 3;
+    bytes[3 + 10 + 4] = 3;
     assert_eq!(Fleet::from_bytes(bytes).iter().count(), 1);
 }
 
@@ -226,7 +208,7 @@ fn what_is_shown_names_trucks() {
     );
     assert_eq!(
         format!("{:?}", Fleet::start(1, &[7]).unwrap()),
-        "Fleet { rounds_done: 0, trucks: [Truck { opening: 7, estimate: 7, mark: false, heard: Nothing, state: Running }] }"
+        "Fleet { rounds_done: 0, trucks: [Truck { opening: 7, estimate: 7, mark: false, heard: Nothing, state: Running, sent: Sent { proposals: 0, vetoes: 0 } }] }"
     );
     assert!(format!("{:?}", Fleet::from_bytes([2; RECORD_SIZE])).contains("trucks: [None, None]"));
     let plain = read(&[0x04, 0x01, 0x74]).unwrap();
@@ -255,7 +237,7 @@ fn hold_list(list: &lists::List) -> [usize; 15] {
         }
         met[usize::from(expected)] += 1;
     }
-    assert_eq!(recorder.fleet().as_bytes(), &bytes_of(&last));
+    assert_eq!(recorder.fleet().as_bytes(), &record_bytes(&last));
     let expected = lists::recording_of(list);
     let recorded = recorder.recording();
     assert_eq!(recorded, gen::bytes_of(&expected));

@@ -1,7 +1,7 @@
 //! The library and the fast plain Rust reading side by side, in one process, on the same inputs. Prints a table; nothing here is a test.
 
 use checks::inputs::{self, Input, Step};
-use checks::{plain_step, record_bytes, RECORD};
+use oracle::bytes::{record_bytes, RECORD};
 use oracle::{fast, gen, Plain};
 use std::hint::black_box;
 use std::time::Instant;
@@ -190,7 +190,7 @@ fn step(table: &mut Table, input: &Step) {
     };
     let on_bytes = || {
         let mut d = record;
-        black_box(plain_step(black_box(&mut d), &input.words));
+        black_box(fast::step_bytes(black_box(&mut d), &input.words));
     };
     table.row(&format!("step, {}", input.what), 1, times(ours, on_bytes));
     let on_record = || {

@@ -14,7 +14,7 @@ mod style;
 use rajvokshul::State;
 
 use crate::story::{Kind, Story};
-use crate::trucks::{counted, grouped};
+use crate::trucks::{counted, grouped, messages};
 use crate::verdict::{counts, first_calm, first_weak, sentences};
 
 use layout::{wrapped, Layout};
@@ -59,11 +59,10 @@ fn summary(story: &Story) -> String {
     let counts = counts(story);
     let running = story.openings.len() - counts.decided - counts.stopped;
     format!(
-        "{} decided, {} stopped, {running} running; {}, {}, {} missed, {} ({} false)",
+        "{} decided, {} stopped, {running} running; {}, {} missed, {} ({} false)",
         counts.decided,
         counts.stopped,
-        counted(counts.proposals, "proposal"),
-        counted(counts.vetoes, "veto"),
+        messages(counts.proposals, counts.vetoes),
         counted(counts.missed, "message"),
         counted(counts.marks, "mark"),
         grouped(counts.false_marks)
@@ -133,7 +132,7 @@ fn columns(story: &Story, layout: &Layout) -> String {
     svg + "</g>\n" + &layout.head_labels()
 }
 
-/// One truck: its number, its opening, its rounds and how it ended.
+/// One truck: its number, its opening, its rounds and how it ended; pointing at the end shows how much it sent.
 fn row(story: &Story, layout: &Layout, truck: usize) -> String {
     let scale = &layout.scale;
     let opening = story.openings[truck];
@@ -160,7 +159,11 @@ fn row(story: &Story, layout: &Layout, truck: usize) -> String {
         State::Stopped(round) => format!("stopped {}, round {round}", end.estimate),
         State::Decided(round) => format!("decided {}, round {round}", end.estimate),
     };
-    svg + &format!("<text class=\"end\" x=\"{}\" y=\"{text_y}\">{how}</text>\n", layout.end_x())
+    let sent = messages(end.sent.proposals.into(), end.sent.vetoes.into());
+    svg + &format!(
+        "<text class=\"end\" x=\"{}\" y=\"{text_y}\"><title>truck {truck} sent {sent}</title>{how}</text>\n",
+        layout.end_x()
+    )
 }
 
 /// The rounds after a decision or a stop: a thin line.

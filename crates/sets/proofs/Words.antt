@@ -10,7 +10,7 @@ use borrow.Author.Tests.{eq-eqb, ne-eqb}
 use lib.Dec.{eqb, lit<}
 use lib.Bits.{bitAnd, bitXor, differ, and-step, xor-step, xor-add-and, and-le-r, and-self, xor-zero-r}
 use lib.Count.{ones, ones-cat, ones-ones, trailingZeros, under}
-use lib.Pow.{pow-pos, pow-mono, pow-lt, pow-add, split, high}
+use lib.Pow.{pow-pos, pow-mono, pow-lt, pow-add, shl-shr, shr-shr, split, high, low}
 use lib.ListN.{length, length-append}
 use Rattle.basics.specs.Bits.{digit, bit}
 use Rattle.basics.specs.Lists.{who}
@@ -144,6 +144,21 @@ removed-lt w i h = omega (arith, xor-add-and w (2 ^ i), and-power w i h, pow-pos
 -- the bits below the k-th
 pub bit-mod : (w k j : ℕ) → j < k → bit (w % 2 ^ k) j ≡ bit w j
 bit-mod w k j h = ap (λ (d : ℕ). eqb d 1) (digit-mod w k j h)
+
+-- the bits from the p-th on, counted from there
+pub bit-shr : (w p j : ℕ) → bit (w / 2 ^ p) j ≡ bit w (p + j)
+bit-shr w p j = ap (λ (x : ℕ). eqb (x % 2) 1) (shr-shr w p j)
+
+-- a word moved up by k places holds each of its bits k places further
+pub bit-shifted : (a k p : ℕ) → bit (a * 2 ^ k) (k + p) ≡ bit a p
+bit-shifted a k p = sym (bit-shr (a * 2 ^ k) k p) ∙ ap (λ (x : ℕ). bit x p) (shl-shr a k)
+
+-- and no bit below
+pub bit-below : (a k p : ℕ) → p < k → bit (a * 2 ^ k) p ≡ false
+bit-below a k p h =
+    sym (bit-mod (a * 2 ^ k) k p h)
+    ∙ ap (λ (x : ℕ). bit x p) (ap (λ (x : ℕ). x % 2 ^ k) (let e : a * 2 ^ k ≡ a * 2 ^ k + 0 = omega arith in e) ∙ low a k (pow-pos k))
+    ∙ bit-zero p
 
 -- the digit worth most, and the rest
 low-digit : (w k : ℕ) → w < 2 ^ suc k → (w % 2 ^ k < 2 ^ k) × (w ≡ digit w k * 2 ^ k + w % 2 ^ k)

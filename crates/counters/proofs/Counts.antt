@@ -85,8 +85,8 @@ module _ (words : List ℕ) (who p : ℕ) (long : length words ≡ 8) where
   pub tally-up : tally words 8 p < 255 → tally (countedUp words who) 8 p ≡ tally words 8 p + digitOf (bit who p)
   tally-up h = omega (arith, raised-sum 8 (omega arith), h, digit-most (bit who p))
 
-  pub length-up : length (countedUp words who) ≡ 8
-  length-up = length-raised words who 8 ∙ long
+pub length-up : (words : List ℕ) (who : ℕ) → length words ≡ 8 → length (countedUp words who) ≡ 8
+length-up words who long = length-raised words who 8 ∙ long
 
 -- a word that is 0 counts nothing
 no-digit : (w p P : ℕ) → w ≡ 0 → digitOf (bit w p) * P ≡ 0

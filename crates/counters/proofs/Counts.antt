@@ -1,16 +1,18 @@
--- What the words count: one more at the places of a set, for counts below 255; and the words past the last that isn't 0 count nothing.
+-- What the words count: one more at the places of a set, for counts below 255; the words past the last that isn't 0 count nothing. And how a count is
+-- read: it is below 2 to the number of its digits, and two digits are taken out of a word at once.
 use mathlib.Core.Path.{_≡_, refl, ap, ap₂, sym, _∙_}
 use mathlib.Core.Bool.{Bool, true, false, cond, _&&_}
 use mathlib.Core.List.{List}
-use Prim.Native.Nat.{ℕ, zero, suc, _+_, _*_, _^_, _≤_, _<_}
-use native.Mathlib.Nat.{pow-suc}
+use Prim.Native.Nat.{ℕ, zero, suc, _+_, _*_, _/_, _%_, _^_, _≤_, _<_}
+use native.Mathlib.Nat.{mod-lt, mul-le-mul-right, pow-suc}
 use native.Mathlib.Omega.{arith}
 use borrow.Author.Tests.{eqb-true}
-use lib.Bits.{bitAnd, bitXor, and-zero-r, xor-zero-r}
-use lib.Dec.{eqb}
+use lib.Bits.{bitAnd, bitXor, and-zero-r, xor-zero-r, and-block, and-mask}
+use lib.Dec.{eqb, lit<}
+use lib.Pow.{pow-pos, split}
 use lib.ListN.{length, getD, set, length-set}
 use lib.Seq.{getD-set-same, getD-set-other, set-getD}
-use Rattle.basics.specs.Bits.{bit}
+use Rattle.basics.specs.Bits.{digit, bit}
 use Rattle.basics.proofs.Bits.{bit-and, bit-xor, oneOf}
 use Rattle.sets.proofs.Words.{bit-zero}
 use Rattle.counters.specs.Counters.{digitOf, tally, carried, raised, countedUp, inUse}
@@ -116,3 +118,26 @@ in-use-most words (suc m) = go (eqb (getD words m 0) 0) (in-use-most words m)
     go : (b : Bool) → inUse words m ≤ m → cond b (inUse words m) (suc m) ≤ suc m
     go true h = omega arith
     go false h = omega arith
+
+-- a count of m digits
+pub tally-lt : (words : List ℕ) (m p : ℕ) → tally words m p < 2 ^ m
+unfolding tally
+tally-lt words zero p = omega arith
+tally-lt words (suc m) p =
+    omega (arith, tally-lt words m p, mul-le-mul-right (2 ^ m) (digit-most (bit (getD words m 0) p)), pow-suc 2 m)
+
+-- a bit as a number is the digit
+pub digit-of : (w j : ℕ) → digitOf (bit w j) ≡ digit w j
+digit-of w j = go (digit w j) (mod-lt (w / 2 ^ j) (lit< tt))
+  where
+    go : (d : ℕ) → d < 2 → digitOf (eqb d 1) ≡ d
+    go zero l = refl
+    go (suc zero) l = refl
+    go (suc (suc d)) l = absurd (omega arith)
+
+-- the bits at place 0 and at place 32, taken out of a word at once
+pub and-pair : (x : ℕ) → bitAnd x 4294967297 ≡ digitOf (bit x 0) + digitOf (bit x 32) * 4294967296
+and-pair x =
+    ap (λ (y : ℕ). bitAnd y 4294967297) (sym (split x 32))
+    ∙ and-block 32 (x / 2 ^ 32) 1 (x % 2 ^ 32) 1 (mod-lt x (pow-pos 32)) (lit< tt)
+    ∙ omega (arith, and-mask (x / 2 ^ 32) 1, and-mask (x % 2 ^ 32) 1, digit-of x 0, digit-of x 32)

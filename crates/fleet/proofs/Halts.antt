@@ -2,7 +2,7 @@
 use mathlib.Core.Path.{_≡_, refl, ap, ap₂, sym, subst, subst₂, _∙_}
 use mathlib.Core.Bool.{Bool, true, false, cond, not, _&&_, _||_, and-false, true≢false, false≢true}
 use mathlib.Core.List.{List, []}
-use Prim.Native.Nat.{ℕ, zero, suc, _+_, _*_, _-_, _^_, _≤_, _<_}
+use Prim.Native.Nat.{ℕ, zero, suc, _+_, _*_, _-_, _%_, _^_, _≤_, _<_}
 use native.Mathlib.Nat.{mul-le-mul}
 use native.Mathlib.Numerals.{add-one}
 use native.Mathlib.Decide.{decLt, ℕ-discrete}
@@ -27,20 +27,25 @@ use Rattle.recording.proofs.Fronts.{counts-trucks, front-opening, front-small}
 use Rattle.recording.proofs.Accepted.{frame-good}
 use Rattle.protocol.specs.declared.Heard.{Heard}
 use Rattle.protocol.specs.declared.Heard.the-variants.{Nothing}
+use Rattle.protocol.specs.declared.Sent.{Sent}
 use Rattle.protocol.specs.declared.Truck.{Truck}
 use Rattle.protocol.specs.Cycles.{afterIn}
 use Rattle.protocol.specs.Rules.{opened, truck, after, isOne, isSeveral, twoRules}
 use Rattle.protocol.specs.Runs.{openedTrucks, trucksAt, trucksIn}
-use Rattle.protocol.specs.Fleets.{fleetIn}
+use Rattle.protocol.specs.Fleets.{fleetIn, twoRound}
 use Rattle.radio.specs.Round.{activeBit}
 use Rattle.fleetrecord.proofs.Records.{length-start}
 use Rattle.protocol.proofs.Opened.{length-opened, truck-unopened}
 use Rattle.protocol.proofs.OneRound.{sound-two}
+use Rattle.protocol.proofs.Good.{good-at}
+use Rattle.protocol.proofs.Rules.{counts-few}
 use Rattle.protocol.proofs.AnyRun.{at-suc, opened-truck, throughout, estimates-open, kept}
 use Rattle.fleet.specs.declared.replay.Proposed.{Proposed}
 use Rattle.fleet.specs.declared.replay.Vetoed.{Vetoed}
 use Rattle.fleet.specs.declared.replay.Sets.{Sets}
 use Rattle.sets.specs.Sets.{without}
+use Rattle.counters.specs.Counters.{countedUp, inUse}
+use Rattle.counters.proofs.Counts.{tally-none, tally-used}
 use Rattle.fleet.specs.Sets.{Sorted, wasHeard}
 use Rattle.recording.proofs.RoundTrip.{openings-read}
 use Rattle.fleet.specs.Rounds.{estimates}
@@ -49,7 +54,7 @@ use Rattle.fleet.specs.Grading.{carriedBy, RadioSets}
 use Rattle.radio.specs.Radio.{Radio}
 use Rattle.protocol.specs.declared.Grades.{Grades}
 use Rattle.fleet.proofs.Graded.{radioAfter, grades-next, grades-idle}
-use Rattle.fleet.specs.Standing.{ReadsAs, nextTrucks, holds, trucksAfter, stateOf, memoryOf, standing, truckBy, fleetBy, Stands, Proposes, Vetoes, noted, Fresh, Due, Halted}
+use Rattle.fleet.specs.Standing.{ReadsAs, nextTrucks, holds, trucksAfter, stateOf, memoryOf, standing, sentBy, truckBy, fleetBy, Stands, Proposes, Vetoes, noted, Fresh, Due, Halted}
 use Rattle.fleet.proofs.Reading.{word-here, place-small, place-next}
 use Rattle.fleet.proofs.Places.{read-bit, everyone, everyone-lt, everyone-in, everyone-out, turn-back}
 use Rattle.fleet.proofs.Stood.{runs-is, memory-back, proposal-stands, veto-stands, veto-ended, proposal-radio, veto-radio}
@@ -64,13 +69,20 @@ module _ (s : List ℕ) (good : frameCheck s ≡ Accepted) where
       let e = estimates-open twoRules (trucksOf s) (openingsOf s) (roundAt s) few (sound-two .takes) k j l in
       omega (arith, e .2, openings-read s .opening (e .0) (e .1))
 
+  -- no count comes near 255
+  room : (k j : ℕ) → k ≤ 400 → j < trucksOf s → (truck (trucksAfter s k) j .sent .proposals < 255) × (truck (trucksAfter s k) j .sent .vetoes < 255)
+  room k j few-rounds l =
+      let g = good-at twoRound sound-two (trucksOf s) (openingsOf s) few (openings-read s) (roundAt s) k j l in
+      let c = counts-few k (truck (trucksAfter s k) j .sent) few-rounds (g .counts) in
+      (omega (arith, c .0), omega (arith, c .1))
+
   read-as : (k at : ℕ) → at ≡ roundPlace (trucksOf s) k → ReadsAs s at (trucksOf s) (roundAt s k)
   read-as k at e i j li l =
       read-bit s (at + i * trucksOf s) (trucksOf s) j few l
       ∙ ap (λ (x : ℕ). bit x j) (word-here s k i (at + i * trucksOf s) li (ap (λ (x : ℕ). x + i * trucksOf s) e))
 
 -- ---- round by round
-module _ {s : List ℕ} {at n left k : ℕ} {by ends : List ℕ} {running decided marked one several until : ℕ} (d : Due s at n left k by ends running decided marked one several until) where
+module _ {s : List ℕ} {at n left k : ℕ} {by ends sent : List ℕ} {running decided marked one several until : ℕ} (d : Due s at n left k by ends sent running decided marked one several until) where
   pub due-few : n ≤ 32
   due-few = omega (arith, d .count, few s (d .good))
 
@@ -79,7 +91,7 @@ module _ {s : List ℕ} {at n left k : ℕ} {by ends : List ℕ} {running decide
 
   -- the run has come to its end
   pub halts : (eqb left 0 || eqb running 0 || not (eqb (bitAnd decided until) 0)) ≡ true → (g : Grades)
-      → Halted s (k + left) by ends until (record { running = running; decided = decided; marked = marked; one = one; several = several; done = k; grades = g })
+      → Halted s (k + left) by ends sent until (record { running = running; decided = decided; marked = marked; one = one; several = several; done = k; grades = g })
   halts h g =
       record {
         good = d .good;
@@ -124,17 +136,20 @@ module _ {s : List ℕ} {at n left k : ℕ} {by ends : List ℕ} {running decide
     further =
         ap₂ (λ (x m : ℕ). x + (3 + m) * m) at-place (d .count) ∙ place-next s k ∙ sym (ap (λ (m : ℕ). roundPlace m (k + 1)) (d .count))
 
+    due-counts : (j : ℕ) → j < trucksOf s → (truck (trucksAfter s k) j .sent .proposals < 255) × (truck (trucksAfter s k) j .sent .vetoes < 255)
+    due-counts j l = room s (d .good) k j (omega (arith, d .most)) l
+
     -- the sets after the next round, as the code counts
-    recount : (who : ℕ) {by′ : List ℕ} {running′ decided′ marked′ one′ several′ : ℕ} (ends′ : List ℕ) (left′ : ℕ) → ends′ ≡ filled (noted ends who (k + 1)) 32 ends → left′ ≡ left - 1
-        → Stands (trucksOf s) (k + left) (suc k) (openingAt s) (nextTrucks (trucksOf s) k (roundAt s k) (trucksAfter s k)) by′ (filled (noted ends who (suc k)) 32 ends) running′ decided′ marked′ one′ several′ → Fresh (trucksOf s) (suc k) (filled (noted ends who (suc k)) 32 ends) decided′ until
-        → Due s (at + (3 + n) * n) n left′ (k + 1) by′ ends′ running′ decided′ marked′ one′ several′ until
-    recount who {by′} {running′} {decided′} {marked′} {one′} {several′} ends′ left′ ee el st fr =
+    recount : (who : ℕ) {by′ sent′ : List ℕ} {running′ decided′ marked′ one′ several′ : ℕ} (ends′ : List ℕ) (left′ : ℕ) → ends′ ≡ filled (noted ends who (k + 1)) 32 ends → left′ ≡ left - 1
+        → Stands (trucksOf s) (k + left) (suc k) (openingAt s) (nextTrucks (trucksOf s) k (roundAt s k) (trucksAfter s k)) by′ (filled (noted ends who (suc k)) 32 ends) sent′ running′ decided′ marked′ one′ several′ → Fresh (trucksOf s) (suc k) (filled (noted ends who (suc k)) 32 ends) decided′ until
+        → Due s (at + (3 + n) * n) n left′ (k + 1) by′ ends′ sent′ running′ decided′ marked′ one′ several′ until
+    recount who {by′} {sent′} {running′} {decided′} {marked′} {one′} {several′} ends′ left′ ee el st fr =
         let f : k + left ≡ k + 1 + left′ = omega (arith, due-more, el) in
         record {
           good = d .good;
-          stands = subst (λ (x : List ℕ). Stands (trucksOf s) (k + 1 + left′) (k + 1) (openingAt s) (trucksAfter s (k + 1)) by′ x running′ decided′ marked′ one′ several′) (sym ee)
-              (subst₂ (λ (x y : ℕ). Stands (trucksOf s) x y (openingAt s) (trucksAfter s y) by′ (filled (noted ends who y) 32 ends) running′ decided′ marked′ one′ several′) f (sym (add-one k))
-              (subst (λ (x : List Truck). Stands (trucksOf s) (k + left) (suc k) (openingAt s) x by′ (filled (noted ends who (suc k)) 32 ends) running′ decided′ marked′ one′ several′) (sym (at-suc twoRules (trucksOf s) (openingsOf s) (roundAt s) k)) st));
+          stands = subst (λ (x : List ℕ). Stands (trucksOf s) (k + 1 + left′) (k + 1) (openingAt s) (trucksAfter s (k + 1)) by′ x sent′ running′ decided′ marked′ one′ several′) (sym ee)
+              (subst₂ (λ (x y : ℕ). Stands (trucksOf s) x y (openingAt s) (trucksAfter s y) by′ (filled (noted ends who y) 32 ends) sent′ running′ decided′ marked′ one′ several′) f (sym (add-one k))
+              (subst (λ (x : List Truck). Stands (trucksOf s) (k + left) (suc k) (openingAt s) x by′ (filled (noted ends who (suc k)) 32 ends) sent′ running′ decided′ marked′ one′ several′) (sym (at-suc twoRules (trucksOf s) (openingsOf s) (roundAt s) k)) st));
           most = omega (arith, f, d .most);
           count = d .count;
           place = further;
@@ -142,24 +157,26 @@ module _ {s : List ℕ} {at n left k : ℕ} {by ends : List ℕ} {running decide
               (subst (λ (y : ℕ). Fresh (trucksOf s) y (filled (noted ends who y) 32 ends) decided′ until) (sym (add-one k)) fr);
         }
 
-    pub proposal-next : odd k ≡ false → {by′ : List ℕ} {r : Proposed} → Proposes s at n left running by by′ r → (who : ℕ) (ends′ : List ℕ) → who ≡ without running (r .going)
-        → ends′ ≡ filled (noted ends who (k + 1)) 32 ends
-        → Due s (at + (3 + n) * n) n (left - 1) (k + 1) by′ ends′ (r .going) decided (r .mark) (r .one) (r .several) until × (odd (k + 1) ≡ true)
-    proposal-next o {by′} {r} p who ends′ ew ee = (
+    pub proposal-next : odd k ≡ false → {by′ : List ℕ} {r : Proposed} → Proposes s at n left running by by′ r → (who : ℕ) (ends′ sent′ : List ℕ) → who ≡ without running (r .going)
+        → ends′ ≡ filled (noted ends who (k + 1)) 32 ends → sent′ ≡ countedUp sent (r .senders)
+        → Due s (at + (3 + n) * n) n (left - 1) (k + 1) by′ ends′ sent′ (r .going) decided (r .mark) (r .one) (r .several) until × (odd (k + 1) ≡ true)
+    proposal-next o {by′} {r} p who ends′ sent′ ew ee es = (
       recount (without running (r .going)) ends′ (left - 1) (ee ∙ ap (λ (x : ℕ). filled (noted ends x (k + 1)) 32 ends) ew) refl
-          (proposal-stands (d .stands) (few s (d .good)) (small s (d .good) k) s at (roundAt s k) (read-as s (d .good) k at at-place) (odd-suc k ∙ ap not o) left refl (subst (λ (m : ℕ). Proposes s at m left running by by′ r) (d .count) p))
+          (subst (λ (x : List ℕ). Stands (trucksOf s) (k + left) (suc k) (openingAt s) (nextTrucks (trucksOf s) k (roundAt s k) (trucksAfter s k)) by′ (filled (noted ends (without running (r .going)) (suc k)) 32 ends) x (r .going) decided (r .mark) (r .one) (r .several)) (sym es)
+          (proposal-stands (d .stands) (few s (d .good)) (small s (d .good) k) due-counts s at (roundAt s k) (read-as s (d .good) k at at-place) (odd-suc k ∙ ap not o) left refl (subst (λ (m : ℕ). Proposes s at m left running by by′ r) (d .count) p)))
           (λ j l h. absurd (true≢false (sym h ∙ ap (λ (x : ℕ). holds x j) none-yet ∙ bit-zero (31 - j)))),
       ap odd (add-one k) ∙ odd-suc k ∙ ap not o,
     )
 
-    pub veto-next : odd k ≡ true → {r : Vetoed} → Vetoes s at n running marked one several r → (who : ℕ) (ends′ : List ℕ) → who ≡ without running (r .on)
-        → ends′ ≡ filled (noted ends who (k + 1)) 32 ends
-        → Due s (at + (3 + n) * n) n (left - 1) (k + 1) by ends′ (r .on) (bitOr decided (r .done)) 0 0 0 until × (odd (k + 1) ≡ false)
-    veto-next o {r} p who ends′ ew ee = (
+    pub veto-next : odd k ≡ true → {r : Vetoed} → Vetoes s at n running marked one several r → (who : ℕ) (ends′ sent′ : List ℕ) → who ≡ without running (r .on)
+        → ends′ ≡ filled (noted ends who (k + 1)) 32 ends → sent′ ≡ countedUp sent (r .senders * 2 ^ 32 % 2 ^ 64)
+        → Due s (at + (3 + n) * n) n (left - 1) (k + 1) by ends′ sent′ (r .on) (bitOr decided (r .done)) 0 0 0 until × (odd (k + 1) ≡ false)
+    veto-next o {r} p who ends′ sent′ ew ee es = (
       recount (without running (r .on)) ends′ (left - 1) (ee ∙ ap (λ (x : ℕ). filled (noted ends x (k + 1)) 32 ends) ew) refl
-          (veto-stands (d .stands) (few s (d .good)) (small s (d .good) k) s at (roundAt s k) (read-as s (d .good) k at at-place) (odd-suc k ∙ ap not o) (subst (λ (m : ℕ). Vetoes s at m running marked one several r) (d .count) p))
+          (subst (λ (x : List ℕ). Stands (trucksOf s) (k + left) (suc k) (openingAt s) (nextTrucks (trucksOf s) k (roundAt s k) (trucksAfter s k)) by (filled (noted ends (without running (r .on)) (suc k)) 32 ends) x (r .on) (bitOr decided (r .done)) 0 0 0) (sym es)
+          (veto-stands (d .stands) (few s (d .good)) (small s (d .good) k) due-counts s at (roundAt s k) (read-as s (d .good) k at at-place) (odd-suc k ∙ ap not o) (subst (λ (m : ℕ). Vetoes s at m running marked one several r) (d .count) p)))
           (λ j l h.
-          veto-ended (d .stands) (few s (d .good)) (small s (d .good) k) s at (roundAt s k) (read-as s (d .good) k at at-place) (odd-suc k ∙ ap not o) (subst (λ (m : ℕ). Vetoes s at m running marked one several r) (d .count) p) j l
+          veto-ended (d .stands) (few s (d .good)) (small s (d .good) k) due-counts s at (roundAt s k) (read-as s (d .good) k at at-place) (odd-suc k ∙ ap not o) (subst (λ (m : ℕ). Vetoes s at m running marked one several r) (d .count) p) j l
           (new (holds decided j) (holds (r .done) j) (holds until j) (sym (bit-and decided until (31 - j)) ∙ ap (λ (x : ℕ). holds x j) none-yet ∙ bit-zero (31 - j))
           (sym (bit-and (bitOr decided (r .done)) until (31 - j) ∙ ap (λ (b : Bool). b && holds until j) (bit-or decided (r .done) (31 - j))) ∙ h))),
       ap odd (add-one k) ∙ odd-suc k ∙ ap not o,
@@ -182,15 +199,15 @@ module _ {s : List ℕ} {at n left k : ℕ} {by ends : List ℕ} {running decide
     pub proposal-graded : odd k ≡ false → {by′ : List ℕ} {r : Proposed} → Proposes s at n left running by by′ r → (judging : Bool) (g g′ : Grades) → g ≡ gradesAfter s judging k
         → ((a : Radio) → RadioSets a s (at + 3 * n) n (r .going) (r .senders) (r .mark) → g′ ≡ cond judging (carriedBy g a (k + 1)) g) → g′ ≡ gradesAfter s judging (k + 1)
     proposal-graded o {by′} {r} p judging =
-        graded-next judging (proposal-radio (d .stands) (few s (d .good)) (small s (d .good) k) s at (roundAt s k) (read-as s (d .good) k at at-place) (odd-suc k ∙ ap not o) left refl (subst (λ (m : ℕ). Proposes s at m left running by by′ r) (d .count) p))
+        graded-next judging (proposal-radio (d .stands) (few s (d .good)) (small s (d .good) k) due-counts s at (roundAt s k) (read-as s (d .good) k at at-place) (odd-suc k ∙ ap not o) left refl (subst (λ (m : ℕ). Proposes s at m left running by by′ r) (d .count) p))
 
     pub veto-graded : odd k ≡ true → {r : Vetoed} → Vetoes s at n running marked one several r → (judging : Bool) (g g′ : Grades) → g ≡ gradesAfter s judging k
         → ((a : Radio) → RadioSets a s (at + 3 * n) n (r .going) (r .senders) (r .mark) → g′ ≡ cond judging (carriedBy g a (k + 1)) g) → g′ ≡ gradesAfter s judging (k + 1)
     veto-graded o {r} p judging =
-        graded-next judging (veto-radio (d .stands) (few s (d .good)) (small s (d .good) k) s at (roundAt s k) (read-as s (d .good) k at at-place) (odd-suc k ∙ ap not o) (subst (λ (m : ℕ). Vetoes s at m running marked one several r) (d .count) p))
+        graded-next judging (veto-radio (d .stands) (few s (d .good)) (small s (d .good) k) due-counts s at (roundAt s k) (read-as s (d .good) k at at-place) (odd-suc k ∙ ap not o) (subst (λ (m : ℕ). Vetoes s at m running marked one several r) (d .count) p))
 
-    pub same-end : {by′ ends′ : List ℕ} {r : Sets} → Halted s (k + 1 + (left - 1)) by′ ends′ until r → Halted s (k + left) by′ ends′ until r
-    same-end {by′} {ends′} {r} h = subst (λ (x : ℕ). Halted s x by′ ends′ until r) (let e : k + 1 + (left - 1) ≡ k + left = omega (arith, due-more) in e) h
+    pub same-end : {by′ ends′ sent′ : List ℕ} {r : Sets} → Halted s (k + 1 + (left - 1)) by′ ends′ sent′ until r → Halted s (k + left) by′ ends′ sent′ until r
+    same-end {by′} {ends′} {sent′} {r} h = subst (λ (x : ℕ). Halted s x by′ ends′ sent′ until r) (let e : k + 1 + (left - 1) ≡ k + left = omega (arith, due-more) in e) h
 
 -- ---- the record at the end
 -- the places of a run's record
@@ -226,7 +243,7 @@ unused s k j h =
     (truck-unopened (openingsOf s) j (omega (arith, h, length-tab (openingAt s) (trucksOf s))))
     (λ i l e. getD-filled-past _ (trucksOf s) (trucksAfter s i) j (opened 0) h ∙ e) k (omega arith)
 
-module _ {s : List ℕ} {last : ℕ} {by ends : List ℕ} {b : Sets} (h : Halted s last by ends 0 b) where
+module _ {s : List ℕ} {last : ℕ} {by ends sent : List ℕ} {b : Sets} (h : Halted s last by ends sent 0 b) (most : last ≤ 400) where
   abbrev then : List Truck
   then = trucksAfter s (b .done)
 
@@ -240,6 +257,9 @@ module _ {s : List ℕ} {last : ℕ} {by ends : List ℕ} {b : Sets} (h : Halted
           own-there (getD by c 0) (31 - j) (eqb (truck then j .estimate) c) (omega arith)
           (h .stands .sorted c lc j (omega (arith, few s (h .good))) ∙ ap (λ (y : Bool). y && eqb (truck then j .estimate) c) (lt-ltb j (trucksOf s) l))
 
+  halted-counts : (j : ℕ) → j < trucksOf s → (truck then j .sent .proposals < 255) × (truck then j .sent .vetoes < 255)
+  halted-counts j l = room s (h .good) (b .done) j (omega (arith, h .most)) l
+
   -- the rounds that are left leave the trucks as they are
   stays : (j : ℕ) → j < trucksOf s → truck (trucksAfter s last) j ≡ truck then j
   stays j l = go (ℕ-discrete (b .running) 0)
@@ -248,7 +268,7 @@ module _ {s : List ℕ} {last : ℕ} {by ends : List ℕ} {b : Sets} (h : Halted
       go (no some) = ap (λ (k : ℕ). truck (trucksAfter s k) j) (sym (h .over some (and-zero-r (b .decided))))
       go (yes none) =
           ap (λ (k : ℕ). truck (trucksAfter s k) j) (let e : last ≡ b .done + (last - b .done) = omega (arith, h .most) in e)
-          ∙ kept twoRules (trucksOf s) (openingsOf s) (roundAt s) j l (b .done) (last - b .done) (runs-is (h .stands) (few s (h .good)) (small s (h .good) (b .done)) j l ∙ ap (λ (x : ℕ). holds x j) none ∙ bit-zero (31 - j))
+          ∙ kept twoRules (trucksOf s) (openingsOf s) (roundAt s) j l (b .done) (last - b .done) (runs-is (h .stands) (few s (h .good)) (small s (h .good) (b .done)) halted-counts j l ∙ ap (λ (x : ℕ). holds x j) none ∙ bit-zero (31 - j))
 
   -- nor do they break a class
   pub grades-ended : (judging : Bool) → gradesAfter s judging (b .done) ≡ gradesAfter s judging last
@@ -258,7 +278,7 @@ module _ {s : List ℕ} {last : ℕ} {by ends : List ℕ} {b : Sets} (h : Halted
       go (no some) = ap (gradesAfter s judging) (h .over some (and-zero-r (b .decided)))
       go (yes none) =
           sym (ap (gradesAfter s judging) (let e : last ≡ b .done + (last - b .done) = omega (arith, h .most) in e)
-          ∙ grades-idle s (b .done) (λ j l. runs-is (h .stands) (few s (h .good)) (small s (h .good) (b .done)) j l ∙ ap (λ (x : ℕ). holds x j) none ∙ bit-zero (31 - j)) judging (last - b .done))
+          ∙ grades-idle s (b .done) (λ j l. runs-is (h .stands) (few s (h .good)) (small s (h .good) (b .done)) halted-counts j l ∙ ap (λ (x : ℕ). holds x j) none ∙ bit-zero (31 - j)) judging (last - b .done))
 
   heard-then : (j : ℕ) → j < trucksOf s → (r : Bool) → holds (b .running) j ≡ r → cond r (truck then j .heard) Nothing ≡ cond r (memoryOf (holds (b .one) j) (holds (b .several) j)) Nothing
   heard-then j l true e =
@@ -267,14 +287,16 @@ module _ {s : List ℕ} {last : ℕ} {by ends : List ℕ} {b : Sets} (h : Halted
   heard-then j l false e = refl
 
   pub truck-ended : (j : ℕ) → j < trucksOf s
-      → truckBy b by (openingAt s j) (getD ends j 0) (31 - j) ≡ truck (trucksAfter s last) j
+      → truckBy b by (openingAt s j) (getD ends j 0) (sentBy sent (inUse sent 8) (31 - j)) (31 - j) ≡ truck (trucksAfter s last) j
   truck-ended j l =
       sym (stays j l ∙ h .stands .each j l
-      ∙ ap₂ (λ (e : ℕ) (x : Heard). record { opening = openingAt s j; estimate = e; mark = holds (b .running) j && holds (b .marked) j; heard = x; state = stateOf (holds (b .running) j) (holds (b .decided) j) (getD ends j 0) })
-      (sym (estimate-is j l)) (heard-then j l (holds (b .running) j) refl))
+      ∙ ap₂ (λ (e : ℕ) (x : Heard). record { opening = openingAt s j; estimate = e; mark = holds (b .running) j && holds (b .marked) j; heard = x; state = stateOf (holds (b .running) j) (holds (b .decided) j) (getD ends j 0); sent = truck then j .sent })
+      (sym (estimate-is j l)) (heard-then j l (holds (b .running) j) refl)
+      ∙ ap (λ (c : Sent). truckBy b by (openingAt s j) (getD ends j 0) c (31 - j))
+      (h .stands .counts j l ∙ sym (ap₂ (λ (x y : ℕ). record { proposals = x; vetoes = y }) (tally-used sent 8 (31 - j)) (tally-used sent 8 (32 + (31 - j))))))
 
   -- the record is that of the run
-  pub fleet-ended : (c : Counts) (openings : List ℕ) → c ≡ countsOf s → ((j : ℕ) → j < trucksOf s → getD openings j 0 ≡ openingAt s j) → c .rounds ≡ last → fleetBy c openings b by ends ≡ fleetAfter s last
+  pub fleet-ended : (c : Counts) (openings : List ℕ) → c ≡ countsOf s → ((j : ℕ) → j < trucksOf s → getD openings j 0 ≡ openingAt s j) → c .rounds ≡ last → fleetBy c openings b by ends sent ≡ fleetAfter s last
   unfolding fleetIn
   fleet-ended c openings met opens done =
       ap₂ (λ (m k : ℕ). record { n = m; done = k; trucks = filled built m (openedTrucks []) }) count done
@@ -287,12 +309,12 @@ module _ {s : List ℕ} {last : ℕ} {by ends : List ℕ} {b : Sets} (h : Halted
       count = counts-trucks s c met
 
       built : ℕ → Truck
-      built i = truckBy b by (getD openings i 0) (getD ends i 0) (31 - i)
+      built i = truckBy b by (getD openings i 0) (getD ends i 0) (sentBy sent (inUse sent 8) (31 - i)) (31 - i)
 
       each : (j : ℕ) → Dec (j < trucksOf s) → getD (filled built (trucksOf s) (openedTrucks [])) j (opened 0) ≡ getD (trucksAfter s last) j (opened 0)
       each j (yes l) =
           getD-filled built (trucksOf s) (openedTrucks []) j (opened 0) l
-          ∙ ap (λ (o : ℕ). truckBy b by o (getD ends j 0) (31 - j)) (opens j l)
+          ∙ ap (λ (o : ℕ). truckBy b by o (getD ends j 0) (sentBy sent (inUse sent 8) (31 - j)) (31 - j)) (opens j l)
           ∙ truck-ended j l
       each j (no l) =
           getD-filled-past built (trucksOf s) (openedTrucks []) j (opened 0) (omega arith)
@@ -324,19 +346,23 @@ module _ (s : List ℕ) (good : frameCheck s ≡ Accepted) (n : ℕ) (count : n 
 
   -- any number of rounds up to 400 may be asked for
   pub first-due : {rounds : ℕ} (openings : List ℕ) → ((j : ℕ) → j < trucksOf s → getD openings j 0 ≡ openingAt s j) → (at all until : ℕ) (by : List ℕ) → at ≡ wordPlace n 0 → rounds ≤ 400 → all ≡ everyone n → Sorted by 32 all (λ p. getD openings (31 - p) 0) × (length by ≡ 16)
-      → Due s at n rounds 0 by (replicate 32 0) all 0 0 0 0 until
+      → Due s at n rounds 0 by (replicate 32 0) (replicate 8 0) all 0 0 0 0 until
   first-due {rounds} openings opens at all until by ep most ea (sorted, long) =
       record {
         good = good;
         stands = record {
           crushers = long;
           places = refl;
+          digits = refl;
+          counts = λ j l.
+              ap (λ (t : Truck). t .sent) (opening-truck j l)
+              ∙ sym (ap₂ (λ (x y : ℕ). record { proposals = x; vetoes = y }) (tally-none (replicate 8 0) 8 (31 - j) (zeros 8)) (tally-none (replicate 8 0) 8 (32 + (31 - j)) (zeros 8)));
           fits = rw ea (everyone-lt n (first-few .0));
           none = λ j h l. ap (λ (x : ℕ). holds x j) ea ∙ everyone-out n j (omega (arith, count)) l;
           apart = λ j l h. bit-zero (31 - j);
           each = λ j l. let e = opening-truck j l in
-              e ∙ sym (ap₂ (λ (x : ℕ) (y : Heard). standing (openingAt s j) x y true false false 0) (ap (λ (t : Truck). t .estimate) e) (ap (λ (t : Truck). t .heard) e))
-              ∙ bits j (truck (trucksAfter s 0) j .estimate) (truck (trucksAfter s 0) j .heard) (in-all j l);
+              e ∙ sym (ap (λ (t : Truck). standing (openingAt s j) (t .estimate) (t .heard) true false false 0 (t .sent)) e)
+              ∙ bits j (truck (trucksAfter s 0) j .estimate) (truck (trucksAfter s 0) j .heard) (truck (trucksAfter s 0) j .sent) (in-all j l);
           heard = λ j l r m. let e = ap (λ (t : Truck). t .heard) (opening-truck j l) in (ap isOne e ∙ sym (bit-zero (31 - j)), ap isSeveral e ∙ sym (bit-zero (31 - j)));
           sorted = λ c lc j l.
               sorted c lc .each (31 - j) (omega arith) ∙ ap (λ (x : ℕ). holds all j && eqb (getD openings x 0) c) (turn-back j l) ∙ go c j l (decLt j (trucksOf s));
@@ -350,8 +376,8 @@ module _ (s : List ℕ) (good : frameCheck s ≡ Accepted) (n : ℕ) (count : n 
       in-all : (j : ℕ) → j < trucksOf s → holds all j ≡ true
       in-all j l = ap (λ (x : ℕ). holds x j) ea ∙ everyone-in n j (first-few .0) (omega (arith, count))
 
-      bits : (j e : ℕ) (x : Heard) → holds all j ≡ true → standing (openingAt s j) e x true false false 0 ≡ standing (openingAt s j) e x (holds all j) (holds 0 j) (holds 0 j) (getD (replicate 32 0) j 0)
-      bits j e x i = rw (i, bit-zero (31 - j))
+      bits : (j e : ℕ) (x : Heard) (c : Sent) → holds all j ≡ true → standing (openingAt s j) e x true false false 0 c ≡ standing (openingAt s j) e x (holds all j) (holds 0 j) (holds 0 j) (getD (replicate 32 0) j 0) c
+      bits j e x c i = rw (i, bit-zero (31 - j))
 
       go : (c j : ℕ) → j < 32 → Dec (j < trucksOf s) → (holds all j && eqb (getD openings j 0) c) ≡ (ltb j (trucksOf s) && eqb (truck (trucksAfter s 0) j .estimate) c)
       go c j l (yes o) =

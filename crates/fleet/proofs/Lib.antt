@@ -7,6 +7,7 @@ pub mod Sorting
 pub mod Steps
 pub mod Reading
 pub mod Places
+pub mod Pairs
 pub mod Stood
 pub mod Rounded
 pub mod Halts

@@ -19,12 +19,14 @@ use Rattle.protocol.specs.declared.Fleet.{Fleet}
 use Rattle.protocol.specs.Rules.{truck}
 use Rattle.protocol.specs.Fleets.{goodFleet, stepCheck, stepCheckIn, twoRound}
 use Rattle.protocol.proofs.Good.{record-parts}
+use Rattle.protocol.proofs.Rules.{counts-few}
 
 -- what an accepted step says of the record and of the round
 pub record StepGood (f : Fleet) (w : List ℕ) : Type 0 where
   pub most : f .n ≤ 32
   pub room : f .done < 400
   pub small : (j : ℕ) → j < f .n → truck (f .trucks) j .estimate < 16
+  pub counts : (j : ℕ) → j < f .n → (truck (f .trucks) j .sent .proposals < 255) × (truck (f .trucks) j .sent .vetoes < 255)
   pub count : length w ≡ 3 + f .n
 
 pub step-good : (f : Fleet) (w : List ℕ) → stepCheck f w ≡ Accepted → StepGood f w
@@ -38,5 +40,6 @@ step-good f w h =
       most = trucks-in (f .n) (good .trucks) .1;
       room = omega (arith, good .done);
       small = λ j l. omega (arith, leb-true (truck (f .trucks) j .estimate) 15 (good .each j l .estimate));
+      counts = λ j l. let c = counts-few (f .done) (truck (f .trucks) j .sent) (good .done) (good .each j l .counts) in (omega (arith, c .0), omega (arith, c .1));
       count = round-good (f .n) (f .done + 1) w (refuse-rest (eqb (f .done) 400) RoundsDone (roundCheck (f .n) (f .done + 1) w) rest) .count;
     }

@@ -2,14 +2,14 @@
 use mathlib.Core.Path.{_≡_, refl, ap, ap₂, sym, subst, _∙_}
 use mathlib.Core.Bool.{Bool, true, false, cond, not, _&&_, _||_, and-false, true≢false, false≢true}
 use mathlib.Core.List.{List, map}
-use Prim.Native.Nat.{ℕ, suc, _+_, _*_, _-_, _^_, _≤_, _<_}
+use Prim.Native.Nat.{ℕ, suc, _+_, _*_, _-_, _%_, _^_, _≤_, _<_}
 use native.Mathlib.Nat.{add-mul}
 use native.Mathlib.Decide.{decLt, ℕ-discrete}
 use native.Mathlib.Omega.{arith}
 use borrow.Author.Tests.{eq-eqb, ne-eqb, eqb-true, lt-ltb, le-ltb, not-true}
 use lib.Bits.{bitAnd, bitOr, and-zero-l, or-zero-r, xor-lt, and-le-l}
 use lib.Dec.{eqb, ltb}
-use lib.Pow.{pow-mono}
+use lib.Pow.{pow-mono, shl-exact}
 use lib.ListN.{length, getD}
 use Rattle.basics.specs.Bits.{bit, odd}
 use Rattle.basics.specs.Lists.{who, filled}
@@ -18,18 +18,22 @@ use Rattle.radio.specs.Round.{stopBit, activeBit, markBit, lossBit}
 use Rattle.radio.specs.Radio.{Radio, hears, heard, heardBy}
 use Rattle.radio.proofs.Laws.{hears-itself, count-some}
 use Rattle.basics.proofs.Bits.{bit-and, bit-or, bit-xor, oneOf}
-use Rattle.sets.proofs.Words.{bit-without, bit-zero, bit-power, no-bits}
+use Rattle.sets.proofs.Words.{bit-without, bit-high, bit-zero, bit-power, bit-shifted, bit-below, no-bits}
+use Rattle.counters.specs.Counters.{digitOf, tally, countedUp}
+use Rattle.counters.proofs.Counts.{tally-up, length-up}
 use Rattle.sets.proofs.Mirror.{mirror-twice, mirror-zero}
 use Rattle.bitreader.specs.Bits.{mirrored}
 use Rattle.protocol.specs.declared.Heard.{Heard}
 use Rattle.protocol.specs.declared.Heard.the-variants.{Nothing, One, Several}
 use Rattle.protocol.specs.declared.State.{State}
 use Rattle.protocol.specs.declared.State.the-variants.{Running, Stopped, Decided}
+use Rattle.protocol.specs.declared.Sent.{Sent}
 use Rattle.protocol.specs.declared.Truck.{Truck}
 use Rattle.protocol.specs.Cycles.{radioIn, valuesIn, afterIn, isRunning, turn}
-use Rattle.protocol.specs.Rules.{opened, truck, isOne, isSeveral, runs, vetoes, different, leastOr, stops, proposed, decides, vetoed, radioOf, valuesHeard, plays, after}
+use Rattle.protocol.specs.Rules.{opened, truck, isOne, isSeveral, runs, vetoes, different, leastOr, counted, stops, proposed, decides, vetoed, radioOf, valuesHeard, plays, after}
 use Rattle.protocol.proofs.Values.{least-silent, least-same, one-only}
 use Rattle.protocol.proofs.OneRound.{plays-proposal, plays-veto}
+use Rattle.protocol.proofs.Counts.{counts-after}
 use Rattle.fleet.specs.declared.hearing.Values.{Values}
 use Rattle.fleet.specs.declared.replay.Proposed.{Proposed}
 use Rattle.fleet.specs.declared.replay.Vetoed.{Vetoed}
@@ -37,7 +41,7 @@ use Rattle.sets.specs.Sets.{Members, without}
 use Rattle.fleet.specs.Sets.{Sorted, heardSet, valuesOf}
 use Rattle.fleet.specs.Rounds.{estimates}
 use Rattle.fleet.specs.Listens.{rowFrom, heardFrom, settled}
-use Rattle.fleet.specs.Standing.{ReadsAs, nextTrucks, holds, wordFrom, stateOf, memoryOf, standing, Stands, goingOn, proposersOf, unreadOf, wantedOf, Proposes, mayOf, vetoersOf, Vetoes, noted}
+use Rattle.fleet.specs.Standing.{ReadsAs, nextTrucks, holds, wordFrom, stateOf, memoryOf, standing, sentBy, Stands, goingOn, proposersOf, unreadOf, wantedOf, Proposes, mayOf, vetoersOf, Vetoes, noted}
 use Rattle.fleet.specs.Grading.{RadioSets}
 use Rattle.sets.proofs.Members.{member-below}
 use Rattle.fleet.proofs.ByCrusher.{values-right, values-silent}
@@ -46,64 +50,71 @@ use Rattle.fleet.proofs.Packed.{plainRows, row-plain, heard-packed, val
 use Rattle.fleet.proofs.Places.{turn-back, plain-bit, placed, ones-below}
 
 -- ---- one truck
-module _ (o end k : ℕ) (st mk : Bool) where
-  -- a proposal round, in which it hears h and v
-  proposal-one : (h : Heard) (v : ℕ) (t : Truck) (r d m : Bool) → t ≡ standing o (t .estimate) (t .heard) r d m end → (r ≡ true → d ≡ false)
-      → (u : Truck) → u ≡ turn (t .state) st (stops k t) (proposed mk h v t) t
-      → u ≡ standing o (u .estimate) (u .heard) (r && not st) d mk (cond (r && not (r && not st)) k end)
-  proposal-one h v t r d m e apart u eu =
-      subst (λ (x : Truck). x ≡ standing o (x .estimate) (x .heard) (r && not st) d mk (cond (r && not (r && not st)) k end)) (sym eu)
-      (subst (λ (x : Truck). turn (x .state) st (stops k x) (proposed mk h v x) x
-      ≡ standing o (turn (x .state) st (stops k x) (proposed mk h v x) x .estimate) (turn (x .state) st (stops k x) (proposed mk h v x) x .heard) (r && not st) d mk (cond (r && not (r && not st)) k end)) (sym e)
-      (go (t .estimate) (t .heard) r d m st apart))
-    where
-      go : (e : ℕ) (x : Heard) (r d m st : Bool) → (r ≡ true → d ≡ false)
-          → turn (stateOf r d end) st (stops k (standing o e x r d m end)) (proposed mk h v (standing o e x r d m end)) (standing o e x r d m end)
-          ≡ standing o (turn (stateOf r d end) st (stops k (standing o e x r d m end)) (proposed mk h v (standing o e x r d m end)) (standing o e x r d m end) .estimate)
-          (turn (stateOf r d end) st (stops k (standing o e x r d m end)) (proposed mk h v (standing o e x r d m end)) (standing o e x r d m end) .heard)
-          (r && not st) d mk (cond (r && not (r && not st)) k end)
-      go e x true true m st a = absurd (true≢false (a refl))
-      go e x true false m true a = refl
-      go e x true false m false a = refl
-      go e x false true m st a = refl
-      go e x false false m st a = refl
+module _ (o end k : ℕ) (st sn mk : Bool) where
+  abbrev became : Heard → ℕ → ℕ → Heard → Sent → Bool → Bool → Bool → Bool → Truck
+  became h v e x c r d m st =
+      turn (stateOf r d end) st (stops k (standing o e x r d m end c)) (proposed sn mk h v (standing o e x r d m end c)) (standing o e x r d m end c)
 
-  abbrev made : Bool → ℕ → Heard → Bool → Bool → Bool → Bool → Truck
-  made vt e x r d m st =
-      turn (stateOf r d end) st (stops k (standing o e x r d m end)) (vetoed k mk vt (standing o e x r d m end)) (standing o e x r d m end)
+  -- a proposal round, in which it hears h and v
+  proposal-one : (h : Heard) (v : ℕ) (t : Truck) (r d m : Bool) → t ≡ standing o (t .estimate) (t .heard) r d m end (t .sent) → (r ≡ true → d ≡ false)
+      → (u : Truck) → u ≡ turn (t .state) st (stops k t) (proposed sn mk h v t) t
+      → u ≡ standing o (u .estimate) (u .heard) (r && not st) d mk (cond (r && not (r && not st)) k end) (u .sent)
+  proposal-one h v t r d m e apart u eu =
+      subst (λ (x : Truck). x ≡ standing o (x .estimate) (x .heard) (r && not st) d mk (cond (r && not (r && not st)) k end) (x .sent))
+      (sym (eu ∙ ap (λ (x : Truck). turn (x .state) st (stops k x) (proposed sn mk h v x) x) e)) (go (t .estimate) (t .heard) (t .sent) r d m st apart)
+    where
+      go : (e : ℕ) (x : Heard) (c : Sent) (r d m st : Bool) → (r ≡ true → d ≡ false)
+          → became h v e x c r d m st
+          ≡ standing o (became h v e x c r d m st .estimate) (became h v e x c r d m st .heard) (r && not st) d mk (cond (r && not (r && not st)) k end) (became h v e x c r d m st .sent)
+      go e x c true true m st a = absurd (true≢false (a refl))
+      go e x c true false m true a = refl
+      go e x c true false m false a = refl
+      go e x c false true m st a = refl
+      go e x c false false m st a = refl
+
+  abbrev made : Bool → ℕ → Heard → Sent → Bool → Bool → Bool → Bool → Truck
+  made vt e x c r d m st =
+      turn (stateOf r d end) st (stops k (standing o e x r d m end c)) (vetoed k sn mk vt (standing o e x r d m end c)) (standing o e x r d m end c)
 
   -- a veto round, in which it decides where dn says so
-  veto-one : (vt : Bool) (t : Truck) (r d m dn : Bool) → t ≡ standing o (t .estimate) (t .heard) r d m end → (r ≡ true → d ≡ false) → dn ≡ ((r && not st) && decides mk vt t)
-      → (u : Truck) → u ≡ turn (t .state) st (stops k t) (vetoed k mk vt t) t
-      → (u ≡ standing o (u .estimate) (u .heard) ((r && not st) && not dn) (d || dn) false (cond (r && not ((r && not st) && not dn)) k end))
+  veto-one : (vt : Bool) (t : Truck) (r d m dn : Bool) → t ≡ standing o (t .estimate) (t .heard) r d m end (t .sent) → (r ≡ true → d ≡ false)
+      → dn ≡ ((r && not st) && decides mk vt t)
+      → (u : Truck) → u ≡ turn (t .state) st (stops k t) (vetoed k sn mk vt t) t
+      → (u ≡ standing o (u .estimate) (u .heard) ((r && not st) && not dn) (d || dn) false (cond (r && not ((r && not st) && not dn)) k end) (u .sent))
       × ((u .heard ≡ Nothing) × (u .estimate ≡ t .estimate))
   veto-one vt t r d m dn e apart ed u eu =
-      subst (λ (x : Truck). (x ≡ standing o (x .estimate) (x .heard) ((r && not st) && not dn) (d || dn) false (cond (r && not ((r && not st) && not dn)) k end)) × ((x .heard ≡ Nothing) × (x .estimate ≡ t .estimate)))
-      (sym (eu ∙ ap (λ (x : Truck). turn (x .state) st (stops k x) (vetoed k mk vt x) x) e))
-      (go (t .estimate) (t .heard) r d m st dn apart (ed ∙ ap (λ (x : Truck). (r && not st) && decides mk vt x) e))
+      subst (λ (x : Truck). (x ≡ standing o (x .estimate) (x .heard) ((r && not st) && not dn) (d || dn) false (cond (r && not ((r && not st) && not dn)) k end) (x .sent)) × ((x .heard ≡ Nothing) × (x .estimate ≡ t .estimate)))
+      (sym (eu ∙ ap (λ (x : Truck). turn (x .state) st (stops k x) (vetoed k sn mk vt x) x) e))
+      (go (t .estimate) (t .heard) (t .sent) r d m st dn apart (ed ∙ ap (λ (x : Truck). (r && not st) && decides mk vt x) e))
     where
-      play : (e : ℕ) (x : Heard) (m dn c : Bool) → dn ≡ c
-          → (_≡_ {A = Truck} (record { opening = o; estimate = e; mark = false; heard = Nothing; state = cond c (Decided k) Running })
-          (standing o e Nothing (not dn) dn false (cond (not (not dn)) k end)))
+      play : (e : ℕ) (x : Heard) (s : Sent) (m dn c : Bool) → dn ≡ c
+          → (_≡_ {A = Truck} (record { opening = o; estimate = e; mark = false; heard = Nothing; state = cond c (Decided k) Running; sent = s })
+          (standing o e Nothing (not dn) dn false (cond (not (not dn)) k end) s))
           × ((_≡_ {A = Heard} Nothing Nothing) × (e ≡ e))
-      play e x m true true q = (refl, (refl, refl))
-      play e x m false false q = (refl, (refl, refl))
-      play e x m true false q = absurd (true≢false q)
-      play e x m false true q = absurd (false≢true q)
+      play e x s m true true q = (refl, (refl, refl))
+      play e x s m false false q = (refl, (refl, refl))
+      play e x s m true false q = absurd (true≢false q)
+      play e x s m false true q = absurd (false≢true q)
 
-      go : (e : ℕ) (x : Heard) (r d m st dn : Bool) → (r ≡ true → d ≡ false) → dn ≡ ((r && not st) && decides mk vt (standing o e x r d m end))
-          → (made vt e x r d m st ≡ standing o (made vt e x r d m st .estimate) (made vt e x r d m st .heard) ((r && not st) && not dn) (d || dn) false (cond (r && not ((r && not st) && not dn)) k end))
-          × ((made vt e x r d m st .heard ≡ Nothing) × (made vt e x r d m st .estimate ≡ e))
-      go e x true true m st dn a q = absurd (true≢false (a refl))
-      go e x true false m true true a q = absurd (true≢false q)
-      go e x true false m true false a q = (refl, (refl, refl))
-      go e x true false m false dn a q = play e x m dn (decides mk vt (standing o e x true false m end)) q
-      go e x false d m st true a q = absurd (true≢false q)
-      go e x false true m st false a q = (refl, (refl, refl))
-      go e x false false m st false a q = (refl, (refl, refl))
+      go : (e : ℕ) (x : Heard) (c : Sent) (r d m st dn : Bool) → (r ≡ true → d ≡ false) → dn ≡ ((r && not st) && decides mk vt (standing o e x r d m end c))
+          → (made vt e x c r d m st
+          ≡ standing o (made vt e x c r d m st .estimate) (made vt e x c r d m st .heard) ((r && not st) && not dn) (d || dn) false (cond (r && not ((r && not st) && not dn)) k end) (made vt e x c r d m st .sent))
+          × ((made vt e x c r d m st .heard ≡ Nothing) × (made vt e x c r d m st .estimate ≡ e))
+      go e x c true true m st dn a q = absurd (true≢false (a refl))
+      go e x c true false m true true a q = absurd (true≢false q)
+      go e x c true false m true false a q = (refl, (refl, refl))
+      go e x c true false m false dn a q =
+          play e x (vetoed k sn mk vt (standing o e x true false m end c) .sent) m dn (decides mk vt (standing o e x true false m end c)) q
+      go e x c false d m st true a q = absurd (true≢false q)
+      go e x c false true m st false a q = (refl, (refl, refl))
+      go e x c false false m st false a q = (refl, (refl, refl))
 
-standing-same : (o e : ℕ) (h : Heard) (d : Bool) {r r′ m m′ : Bool} {x x′ : ℕ} → r ≡ r′ → m ≡ m′ → x ≡ x′ → standing o e h r d m x ≡ standing o e h r′ d m′ x′
-standing-same o e h d er em ex = rw (er, em, ex)
+standing-same : (o e : ℕ) (h : Heard) (d : Bool) (c : Sent) {r r′ m m′ : Bool} {x x′ : ℕ} → r ≡ r′ → m ≡ m′ → x ≡ x′ → standing o e h r d m x c ≡ standing o e h r′ d m′ x′ c
+standing-same o e h d c er em ex = rw (er, em, ex)
+
+added : (b : Bool) (c : ℕ) → counted b c ≡ c + digitOf b
+added true c = refl
+added false c = omega arith
 
 -- a running truck whose stop bit is clear plays
 plays-on : (s : State) (b : Bool) (a x t : Truck) → isRunning s ≡ true → b ≡ false → turn s b a x t ≡ x
@@ -146,8 +157,8 @@ heard-others senders row p lt h =
 abbrev pub nextRadio : ℕ → ℕ → List ℕ → List Truck → Radio
 nextRadio n k w ts = radioOf n (activeBit w) (suc k) w ts
 
-module _ {n last k : ℕ} {opening : ℕ → ℕ} {ts : List Truck} {by ends : List ℕ} {running decided marked one several : ℕ} (st : Stands n last k opening ts by ends running decided marked one several)
-    (few : n ≤ 32) (small : (j : ℕ) → j < n → estimates ts j < 16) where
+module _ {n last k : ℕ} {opening : ℕ → ℕ} {ts : List Truck} {by ends sent : List ℕ} {running decided marked one several : ℕ} (st : Stands n last k opening ts by ends sent running decided marked one several)
+    (few : n ≤ 32) (small : (j : ℕ) → j < n → estimates ts j < 16) (room : (j : ℕ) → j < n → (truck ts j .sent .proposals < 255) × (truck ts j .sent .vetoes < 255)) where
   pub runs-is : (j : ℕ) → j < n → runs (truck ts j) ≡ holds running j
   runs-is j l = ap runs (st .each j l) ∙ go (holds running j) (holds decided j)
     where
@@ -194,6 +205,19 @@ module _ {n last k : ℕ} {opening : ℕ → ℕ} {ts : List Truck} {by ends : L
 
     going-lt : goingOn s at running < 2 ^ 32
     going-lt = xor-lt 32 running (bitAnd running (wordFrom s at)) (st .fits) (omega (arith, and-le-l running (wordFrom s at), st .fits))
+
+    -- what truck j sent with the round, where `up` says who is counted as a sender of which kind
+    counts-next : (j : ℕ) → j < n → (up : ℕ) → bit up (31 - j) ≡ (odd (suc k) && nextRadio n k w ts .sends j) → bit up (32 + (31 - j)) ≡ (not (odd (suc k)) && nextRadio n k w ts .sends j)
+        → truck (nextTrucks n k w ts) j .sent ≡ sentBy (countedUp sent up) 8 (31 - j)
+    counts-next j l up ep ev =
+        let c = counts-after n (activeBit w) (suc k) w ts j l in
+        ap₂ (λ (p v : ℕ). record { proposals = p; vetoes = v })
+        (c .0 ∙ one-more (31 - j) (truck ts j .sent .proposals) (ap (λ (x : Sent). x .proposals) (st .counts j l)) (room j l .0) ep)
+        (c .1 ∙ one-more (32 + (31 - j)) (truck ts j .sent .vetoes) (ap (λ (x : Sent). x .vetoes) (st .counts j l)) (room j l .1) ev)
+      where
+        one-more : (p c : ℕ) {b : Bool} → c ≡ tally sent 8 p → c < 255 → bit up p ≡ b → counted b c ≡ tally (countedUp sent up) 8 p
+        one-more p c {b} e lt eb =
+            added b c ∙ ap₂ (λ (x : ℕ) (y : Bool). x + digitOf y) e (sym eb) ∙ sym (tally-up sent up p (st .digits) (omega (arith, e)))
 
     -- those whose end it is, where those of on run on
     ended-bit : (on j : ℕ) → holds (without running on) j ≡ (holds running j && not (holds on j))
@@ -263,12 +287,15 @@ module _ {n last k : ℕ} {opening : ℕ → ℕ} {ts : List Truck} {by ends : L
       senders-lt : senders < 2 ^ 32
       senders-lt = omega (arith, and-le-l (goingOn s at running) (wordFrom s (at + n)), going-lt)
 
-      proposers-are : Members (mirrored 32 senders) n (nextRadio n k w ts .sends)
+      proposers-bit : (j : ℕ) → j < n → holds senders j ≡ nextRadio n k w ts .sends j
       unfolding radioIn
+      proposers-bit j l =
+          bit-and (goingOn s at running) (wordFrom s (at + n)) (31 - j) ∙ ap₂ _&&_ (going-bit j l) (active-bit j l)
+          ∙ sym (ap₂ (λ (x y : Bool). (x && not (stopBit w j)) && y) (runs-is j l) (ap (λ (b : Bool). cond b (activeBit w j) (vetoes (truck ts j))) o))
+
+      proposers-are : Members (mirrored 32 senders) n (nextRadio n k w ts .sends)
       proposers-are =
-          placed senders n (nextRadio n k w ts .sends) few
-          (λ j l. bit-and (goingOn s at running) (wordFrom s (at + n)) (31 - j) ∙ ap₂ _&&_ (going-bit j l) (active-bit j l)
-          ∙ sym (ap₂ (λ (x y : Bool). (x && not (stopBit w j)) && y) (runs-is j l) (ap (λ (b : Bool). cond b (activeBit w j) (vetoes (truck ts j))) o)))
+          placed senders n (nextRadio n k w ts .sends) few proposers-bit
           (λ j h l. bit-and (goingOn s at running) (wordFrom s (at + n)) (31 - j) ∙ ap (λ (b : Bool). b && holds (wordFrom s (at + n)) j) (going-none j h l))
 
       abbrev values : ℕ → List ℕ
@@ -283,7 +310,7 @@ module _ {n last k : ℕ} {opening : ℕ → ℕ} {ts : List Truck} {by ends : L
       next-proposed : (j : ℕ) → j < n
           → truck (nextTrucks n k w ts) j
           ≡ turn (truck ts j .state) (stopBit w j) (stops (suc k) (truck ts j))
-          (proposed (markBit w j) (different (values j)) (leastOr (truck ts j .estimate) (values j)) (truck ts j)) (truck ts j)
+          (proposed (nextRadio n k w ts .sends j) (markBit w j) (different (values j)) (leastOr (truck ts j .estimate) (values j)) (truck ts j)) (truck ts j)
       unfolding radioIn
       next-proposed j l =
           next-truck j l
@@ -293,17 +320,17 @@ module _ {n last k : ℕ} {opening : ℕ → ℕ} {ts : List Truck} {by ends : L
       -- one that goes on
       next-on : (j : ℕ) → j < n → (holds running j && not (stopBit w j)) ≡ true
           → truck (nextTrucks n k w ts) j
-          ≡ proposed (markBit w j) (different (values j)) (leastOr (truck ts j .estimate) (values j)) (truck ts j)
+          ≡ proposed (nextRadio n k w ts .sends j) (markBit w j) (different (values j)) (leastOr (truck ts j .estimate) (values j)) (truck ts j)
       next-on j l g =
           next-proposed j l
-          ∙ plays-on (truck ts j .state) (stopBit w j) (stops (suc k) (truck ts j)) (proposed (markBit w j) (different (values j)) (leastOr (truck ts j .estimate) (values j)) (truck ts j)) (truck ts j)
+          ∙ plays-on (truck ts j .state) (stopBit w j) (stops (suc k) (truck ts j)) (proposed (nextRadio n k w ts .sends j) (markBit w j) (different (values j)) (leastOr (truck ts j .estimate) (values j)) (truck ts j)) (truck ts j)
           (runs-is j l ∙ and-left (holds running j) (not (stopBit w j)) g) (not-true (stopBit w j) (and-right (holds running j) (not (stopBit w j)) g))
 
       -- one that doesn't
       next-off : (j : ℕ) → j < n → (holds running j && not (stopBit w j)) ≡ false → truck (nextTrucks n k w ts) j .estimate ≡ truck ts j .estimate
       next-off j l g =
           ap (λ (u : Truck). u .estimate) (next-proposed j l)
-          ∙ stays-put (suc k) (truck ts j .state) (stopBit w j) (proposed (markBit w j) (different (values j)) (leastOr (truck ts j .estimate) (values j)) (truck ts j)) (truck ts j)
+          ∙ stays-put (suc k) (truck ts j .state) (stopBit w j) (proposed (nextRadio n k w ts .sends j) (markBit w j) (different (values j)) (leastOr (truck ts j .estimate) (values j)) (truck ts j)) (truck ts j)
           (ap (λ (b : Bool). b && not (stopBit w j)) (runs-is j l) ∙ g)
 
       module _ (left : ℕ) (end : last ≡ k + left) {by′ : List ℕ} {r : Proposed} (p : Proposes s at n left running by by′ r) where
@@ -464,18 +491,21 @@ module _ {n last k : ℕ} {opening : ℕ → ℕ} {ts : List Truck} {by ends : L
         pub proposal-radio : RadioSets (nextRadio n k w ts) s (at + 3 * n) n (r .going) (r .senders) (r .mark)
         proposal-radio = rw (p .going, p .senders, p .mark) (radio-sets senders senders-lt proposers-are)
 
-        pub proposal-stands : Stands n last (suc k) opening (nextTrucks n k w ts) by′ (filled (noted ends (without running (r .going)) (suc k)) 32 ends) (r .going) decided (r .mark) (r .one) (r .several)
+        pub proposal-stands : Stands n last (suc k) opening (nextTrucks n k w ts) by′ (filled (noted ends (without running (r .going)) (suc k)) 32 ends) (countedUp sent (r .senders)) (r .going) decided (r .mark) (r .one) (r .several)
         proposal-stands =
             record {
               crushers = ap length (p .took) ∙ length-filled (settled by (p .taking) (without (bitOr (r .one) (r .several)) (r .mark))) 16 by (omega (arith, st .crushers)) ∙ st .crushers;
               places = length-filled (noted ends (without running (r .going)) (suc k)) 32 ends (omega (arith, st .places)) ∙ st .places;
+              digits = length-up sent (r .senders) (st .digits);
+              counts = λ j l. counts-next j l (r .senders) (ap (λ (x : ℕ). holds x j) (p .senders) ∙ proposers-bit j l ∙ sym (ap (λ (b : Bool). b && nextRadio n k w ts .sends j) o))
+                  (bit-high (r .senders) 32 (32 + (31 - j)) (rw (p .senders) senders-lt) (omega arith) ∙ sym (ap (λ (b : Bool). not b && nextRadio n k w ts .sends j) o));
               fits = rw (p .going) going-lt;
               none = λ j h l. ap (λ (x : ℕ). holds x j) (p .going) ∙ going-none j h l;
               apart = λ j l h. st .apart j l (and-left (holds running j) (not (stopBit w j)) (sym (going-is j l) ∙ h));
               each = λ j l.
-                  proposal-one (opening j) (getD ends j 0) (suc k) (stopBit w j) (markBit w j) (different (values j)) (leastOr (truck ts j .estimate) (values j))
+                  proposal-one (opening j) (getD ends j 0) (suc k) (stopBit w j) (nextRadio n k w ts .sends j) (markBit w j) (different (values j)) (leastOr (truck ts j .estimate) (values j))
                   (truck ts j) (holds running j) (holds decided j) (holds marked j) (st .each j l) (st .apart j l) (truck (nextTrucks n k w ts) j) (next-proposed j l)
-                  ∙ standing-same (opening j) (truck (nextTrucks n k w ts) j .estimate) (truck (nextTrucks n k w ts) j .heard) (holds decided j) (sym (going-is j l)) (sym (mark-is j l))
+                  ∙ standing-same (opening j) (truck (nextTrucks n k w ts) j .estimate) (truck (nextTrucks n k w ts) j .heard) (holds decided j) (truck (nextTrucks n k w ts) j .sent) (sym (going-is j l)) (sym (mark-is j l))
                   (sym (getD-filled (noted ends (without running (r .going)) (suc k)) 32 ends j 0 (omega (arith, few))
                   ∙ ap (λ (b : Bool). cond b (suc k) (getD ends j 0)) (ended-bit (r .going) j ∙ ap (λ (b : Bool). holds running j && not b) (going-is j l))));
               heard = λ j l g h.
@@ -508,19 +538,22 @@ module _ {n last k : ℕ} {opening : ℕ → ℕ} {ts : List Truck} {by ends : L
           go true e = refl
           go false e = st .heard j l r (λ x. absurd (true≢false (sym x ∙ e))) .1
 
-      vetoers-are : Members (mirrored 32 vetoers) n (nextRadio n k w ts .sends)
+      vetoers-bit : (j : ℕ) → j < n → holds vetoers j ≡ nextRadio n k w ts .sends j
       unfolding radioIn
-      vetoers-are =
-          placed vetoers n (nextRadio n k w ts .sends) few
-          (λ j l. bit-and (goingOn s at running) (bitOr marked several) (31 - j) ∙ ap₂ _&&_ (going-bit j l) (bit-or marked several (31 - j))
+      vetoers-bit j l =
+          bit-and (goingOn s at running) (bitOr marked several) (31 - j) ∙ ap₂ _&&_ (going-bit j l) (bit-or marked several (31 - j))
           ∙ go (holds running j) (not (stopBit w j)) (holds marked j || holds several j) (vetoes (truck ts j)) (vetoes-is j l)
-          ∙ sym (ap₂ (λ (x y : Bool). (x && not (stopBit w j)) && y) (runs-is j l) (ap (λ (b : Bool). cond b (activeBit w j) (vetoes (truck ts j))) o)))
-          (λ j h l. bit-and (goingOn s at running) (bitOr marked several) (31 - j) ∙ ap (λ (b : Bool). b && holds (bitOr marked several) j) (going-none j h l))
+          ∙ sym (ap₂ (λ (x y : Bool). (x && not (stopBit w j)) && y) (runs-is j l) (ap (λ (b : Bool). cond b (activeBit w j) (vetoes (truck ts j))) o))
         where
           go : (x y b c : Bool) → (x ≡ true → c ≡ b) → ((x && y) && b) ≡ ((x && y) && c)
           go true true b c e = sym (e refl)
           go true false b c e = refl
           go false y b c e = refl
+
+      vetoers-are : Members (mirrored 32 vetoers) n (nextRadio n k w ts .sends)
+      vetoers-are =
+          placed vetoers n (nextRadio n k w ts .sends) few vetoers-bit
+          (λ j h l. bit-and (goingOn s at running) (bitOr marked several) (31 - j) ∙ ap (λ (b : Bool). b && holds (bitOr marked several) j) (going-none j h l))
 
       -- it hears a veto
       abbrev veto : ℕ → Bool
@@ -537,7 +570,7 @@ module _ {n last k : ℕ} {opening : ℕ → ℕ} {ts : List Truck} {by ends : L
       next-vetoed : (j : ℕ) → j < n
           → truck (nextTrucks n k w ts) j
           ≡ turn (truck ts j .state) (stopBit w j) (stops (suc k) (truck ts j))
-          (vetoed (suc k) (markBit w j) (veto j) (truck ts j)) (truck ts j)
+          (vetoed (suc k) (nextRadio n k w ts .sends j) (markBit w j) (veto j) (truck ts j)) (truck ts j)
       unfolding radioIn
       next-vetoed j l =
           next-truck j l
@@ -628,10 +661,10 @@ module _ {n last k : ℕ} {opening : ℕ → ℕ} {ts : List Truck} {by ends : L
         made-of : (j : ℕ) → j < n
             → (truck (nextTrucks n k w ts) j
             ≡ standing (opening j) (truck (nextTrucks n k w ts) j .estimate) (truck (nextTrucks n k w ts) j .heard) ((holds running j && not (stopBit w j)) && not (holds (r .done) j))
-            (holds decided j || holds (r .done) j) false (cond (holds running j && not ((holds running j && not (stopBit w j)) && not (holds (r .done) j))) (suc k) (getD ends j 0)))
+            (holds decided j || holds (r .done) j) false (cond (holds running j && not ((holds running j && not (stopBit w j)) && not (holds (r .done) j))) (suc k) (getD ends j 0)) (truck (nextTrucks n k w ts) j .sent))
             × ((truck (nextTrucks n k w ts) j .heard ≡ Nothing) × (truck (nextTrucks n k w ts) j .estimate ≡ truck ts j .estimate))
         made-of j l =
-            veto-one (opening j) (getD ends j 0) (suc k) (stopBit w j) (markBit w j) (veto j) (truck ts j) (holds running j) (holds decided j) (holds marked j) (holds (r .done) j)
+            veto-one (opening j) (getD ends j 0) (suc k) (stopBit w j) (nextRadio n k w ts .sends j) (markBit w j) (veto j) (truck ts j) (holds running j) (holds decided j) (holds marked j) (holds (r .done) j)
             (st .each j l) (st .apart j l) (done-bit j l) (truck (nextTrucks n k w ts) j) (next-vetoed j l)
 
         -- the round of those that decide
@@ -646,11 +679,14 @@ module _ {n last k : ℕ} {opening : ℕ → ℕ} {ts : List Truck} {by ends : L
         pub veto-radio : RadioSets (nextRadio n k w ts) s (at + 3 * n) n (r .going) (r .senders) (r .mark)
         veto-radio = rw (p .going, p .senders, p .mark) (radio-sets vetoers vetoers-lt vetoers-are)
 
-        pub veto-stands : Stands n last (suc k) opening (nextTrucks n k w ts) by (filled (noted ends (without running (r .on)) (suc k)) 32 ends) (r .on) (bitOr decided (r .done)) 0 0 0
+        pub veto-stands : Stands n last (suc k) opening (nextTrucks n k w ts) by (filled (noted ends (without running (r .on)) (suc k)) 32 ends) (countedUp sent (r .senders * 2 ^ 32 % 2 ^ 64)) (r .on) (bitOr decided (r .done)) 0 0 0
         veto-stands =
             record {
               crushers = st .crushers;
               places = length-filled (noted ends (without running (r .on)) (suc k)) 32 ends (omega (arith, st .places)) ∙ st .places;
+              digits = length-up sent (r .senders * 2 ^ 32 % 2 ^ 64) (st .digits);
+              counts = λ j l. counts-next j l (r .senders * 2 ^ 32 % 2 ^ 64) (ap (λ (x : ℕ). bit x (31 - j)) moved ∙ bit-below (r .senders) 32 (31 - j) (omega arith) ∙ sym (ap (λ (b : Bool). b && nextRadio n k w ts .sends j) o))
+                  (ap (λ (x : ℕ). bit x (32 + (31 - j))) moved ∙ bit-shifted (r .senders) 32 (31 - j) ∙ ap (λ (x : ℕ). holds x j) (p .senders) ∙ vetoers-bit j l ∙ sym (ap (λ (b : Bool). not b && nextRadio n k w ts .sends j) o));
               fits = rw (p .on) (xor-lt 32 (goingOn s at running) (r .done) going-lt (p .done .below));
               none = λ j h l. on-both j ∙ ap₂ oneOf (going-none j h l) (done-none j h l);
               apart = λ j l h.
@@ -661,14 +697,17 @@ module _ {n last k : ℕ} {opening : ℕ → ℕ} {ts : List Truck} {by ends : L
               each = λ j l.
                   made-of j l .0
                   ∙ ap (λ (b : Bool). standing (opening j) (truck (nextTrucks n k w ts) j .estimate) (truck (nextTrucks n k w ts) j .heard) ((holds running j && not (stopBit w j)) && not (holds (r .done) j)) b false
-                  (cond (holds running j && not ((holds running j && not (stopBit w j)) && not (holds (r .done) j))) (suc k) (getD ends j 0))) (sym (bit-or decided (r .done) (31 - j)))
-                  ∙ standing-same (opening j) (truck (nextTrucks n k w ts) j .estimate) (truck (nextTrucks n k w ts) j .heard) (holds (bitOr decided (r .done)) j) (sym (on-bit j l)) (sym (bit-zero (31 - j)))
+                  (cond (holds running j && not ((holds running j && not (stopBit w j)) && not (holds (r .done) j))) (suc k) (getD ends j 0)) (truck (nextTrucks n k w ts) j .sent)) (sym (bit-or decided (r .done) (31 - j)))
+                  ∙ standing-same (opening j) (truck (nextTrucks n k w ts) j .estimate) (truck (nextTrucks n k w ts) j .heard) (holds (bitOr decided (r .done)) j) (truck (nextTrucks n k w ts) j .sent) (sym (on-bit j l)) (sym (bit-zero (31 - j)))
                   (sym (getD-filled (noted ends (without running (r .on)) (suc k)) 32 ends j 0 (omega (arith, few))
                   ∙ ap (λ (b : Bool). cond b (suc k) (getD ends j 0)) (ended-bit (r .on) j ∙ ap (λ (b : Bool). holds running j && not b) (on-bit j l))));
               heard = λ j l g h. let e = made-of j l .1 .0 in (ap isOne e ∙ sym (bit-zero (31 - j)), ap isSeveral e ∙ sym (bit-zero (31 - j)));
               sorted = λ c lc j l32. st .sorted c lc j l32 ∙ same-sorted c j (decLt j n);
             }
           where
+            moved : r .senders * 2 ^ 32 % 2 ^ 64 ≡ r .senders * 2 ^ 32
+            moved = shl-exact 32 32 64 (rw (p .senders) vetoers-lt) (omega arith)
+
             same-sorted : (c j : ℕ) → Dec (j < n)
                 → (ltb j n && eqb (truck ts j .estimate) c) ≡ (ltb j n && eqb (truck (nextTrucks n k w ts) j .estimate) c)
             same-sorted c j (yes l) = ap (λ (x : ℕ). ltb j n && eqb x c) (sym (made-of j l .1 .1))

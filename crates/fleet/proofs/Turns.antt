@@ -1,12 +1,13 @@
 -- What a step makes of each truck, worked out by sets of trucks, is what the rules say.
-use mathlib.Core.Path.{_≡_, refl, ap, sym, _∙_}
+use mathlib.Core.Path.{_≡_, refl, ap, ap₂, sym, _∙_}
 use mathlib.Core.Bool.{Bool, true, false, cond, not, _&&_}
 use mathlib.Core.List.{List, map}
 use Prim.Native.Nat.{ℕ, _+_, _<_, _≤_, min}
 use native.Mathlib.Omega.{arith}
+use borrow.Author.Tests.{lt-ltb}
 use lib.Dec.{eqb, ltb}
 use lib.ListN.{getD}
-use Rattle.basics.specs.Bits.{odd}
+use Rattle.basics.specs.Bits.{bit, odd}
 use Rattle.basics.specs.Lists.{filled}
 use Rattle.basics.proofs.Laws.{getD-filled, filled-ext}
 use Rattle.radio.specs.Round.{stopBit, activeBit, markBit}
@@ -22,7 +23,7 @@ use Rattle.protocol.specs.Rules.{truck, runs, vetoes, different, leastOr, stops
 use Rattle.protocol.specs.Fleets.{nextFleet, nextFleetIn}
 use Rattle.truck.specs.declared.Event.{Event}
 use Rattle.truck.specs.declared.Event.the-variants.{Stop}
-use Rattle.truck.specs.Events.{happened, turned, updatedFirst}
+use Rattle.truck.specs.Events.{adds, happened, turned, updatedFirst}
 use Rattle.fleet.specs.declared.hearing.Values.{Values}
 use Rattle.sets.specs.Sets.{Members}
 use Rattle.fleet.specs.Sets.{heardSet, valuesOf, Sorted}
@@ -30,6 +31,10 @@ use Rattle.fleet.specs.Rounds.{estimates, stepRadio, eventOf, eventAt, n
 use Rattle.sets.proofs.Members.{member-below, member-has}
 use Rattle.fleet.proofs.ByCrusher.{values-right}
 use Rattle.fleet.proofs.Radios.{who-members, some-members, hearers}
+
+with-room : (b : Bool) → (b && true) ≡ b
+with-room true = refl
+with-room false = refl
 
 -- an event that is a stop where b says so, and else what the truck plays
 event-turn : (k : ℕ) (s : State) (b : Bool) (t played : Truck) (e : Event) → happened k e t ≡ cond b (stops k t) played
@@ -65,7 +70,8 @@ module _ (f : Fleet) (w : List ℕ) where
   unfolding radioIn
   sends-is i proposals o = rw o
 
-  module _ (senders : ℕ) (values : List ℕ) (sends : Members senders n (radio .sends)) (sorted : odd k ≡ true → Sorted values n senders (estimates ts)) (small : (j : ℕ) → j < n → estimates ts j < 16) where
+  module _ (senders : ℕ) (values : List ℕ) (sends : Members senders n (radio .sends)) (sorted : odd k ≡ true → Sorted values n senders (estimates ts)) (small : (j : ℕ) → j < n → estimates ts j < 16)
+      (room : (j : ℕ) → j < n → (truck ts j .sent .proposals < 255) × (truck ts j .sent .vetoes < 255)) where
     module _ (i : ℕ) (l : i < n) where
       abbrev heardSenders : ℕ
       heardSenders = heardSet senders (getD w (3 + i) 0) i
@@ -86,19 +92,24 @@ module _ (f : Fleet) (w : List ℕ) where
       unfolding heard heardBy radioIn
       any-heard = some-members heard-is
 
+      -- its count of the kind has room, so the event adds to it where it sends
+      adds-is : (c : ℕ) → c < 255 → adds (bit senders i) c ≡ radio .sends i
+      unfolding radioIn
+      adds-is c lc = ap₂ _&&_ (sends .each i l) (lt-ltb c 255 lc) ∙ with-room (radio .sends i)
+
       -- the event that was worked out is what the rules make of the truck
       event-right : turned k (eventAt f w senders values i) (truck ts i) ≡ rule i
       unfolding eventOf radioIn
       event-right = event-turn k (truck ts i .state) (stopBit w i) (truck ts i) (plays radio k w ts i) (eventAt f w senders values i) (go (stopBit w i) (odd k) refl)
         where
           go : (b p : Bool) → odd k ≡ p
-              → happened k (eventOf p b (markBit w i) heardSenders values (estimates ts i)) (truck ts i) ≡ cond b (stops k (truck ts i)) (plays radio k w ts i)
+              → happened k (eventOf p b (bit senders i) (markBit w i) heardSenders values (estimates ts i)) (truck ts i) ≡ cond b (stops k (truck ts i)) (plays radio k w ts i)
           go true p o = refl
           go false true o =
-              ap (λ (v : Values). proposed (markBit w i) (v .heard) (v .least) (truck ts i)) (values-are o)
+              ap₂ (λ (s : Bool) (v : Values). proposed s (markBit w i) (v .heard) (v .least) (truck ts i)) (adds-is (truck ts i .sent .proposals) (room i l .0)) (values-are o)
               ∙ sym (plays-proposal n (activeBit w) k w ts i o)
           go false false o =
-              ap (λ (b : Bool). vetoed k (markBit w i) b (truck ts i)) (sym any-heard)
+              ap₂ (λ (s b : Bool). vetoed k s (markBit w i) b (truck ts i)) (adds-is (truck ts i .sent .vetoes) (room i l .1)) (sym any-heard)
               ∙ sym (plays-veto n (activeBit w) k w ts i o)
 
     -- so the trucks brought up to date by their events are the next record's

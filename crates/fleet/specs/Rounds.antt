@@ -4,7 +4,7 @@ use mathlib.Core.Bool.{Bool, cond, not}
 use mathlib.Core.List.{List}
 use lib.Dec.{eqb}
 use lib.ListN.{getD, replicate}
-use Rattle.basics.specs.Bits.{odd}
+use Rattle.basics.specs.Bits.{bit, odd}
 use Rattle.radio.specs.Round.{stopBit, activeBit, markBit}
 use Rattle.radio.specs.Radio.{Radio}
 use Rattle.protocol.specs.declared.Truck.{Truck}
@@ -22,15 +22,15 @@ abbrev pub stepRadio : Fleet → List ℕ → Radio
 stepRadio f w = radioOf (f .n) (activeBit w) (f .done + 1) w (f .trucks)
 
 -- what a round is to a truck, where values holds the senders of each crusher, `heard` is the set of those it hears, and e its estimate
-unfoldable pub eventOf : Bool → Bool → Bool → ℕ → List ℕ → ℕ → Event
-eventOf proposals stop mark heard values e =
+unfoldable pub eventOf : Bool → Bool → Bool → Bool → ℕ → List ℕ → ℕ → Event
+eventOf proposals stop sends mark heard values e =
     let v = valuesOf values heard e in
-    cond stop Stop (cond proposals (Proposals mark (v .heard) (v .least)) (Vetoes mark (not (eqb heard 0))))
+    cond stop Stop (cond proposals (Proposals sends mark (v .heard) (v .least)) (Vetoes sends mark (not (eqb heard 0))))
 
 -- what the next round of a record is to truck i
 abbrev pub eventAt : Fleet → List ℕ → ℕ → List ℕ → ℕ → Event
 eventAt f w senders values i =
-    eventOf (odd (f .done + 1)) (stopBit w i) (markBit w i) (heardSet senders (getD w (3 + i) 0) i) values (estimates (f .trucks) i)
+    eventOf (odd (f .done + 1)) (stopBit w i) (bit senders i) (markBit w i) (heardSet senders (getD w (3 + i) 0) i) values (estimates (f .trucks) i)
 
 -- an array of events before any is known
 abbrev pub noEvents : List Event

@@ -18,6 +18,7 @@ use Rattle.protocol.specs.declared.Heard.{Heard}
 use Rattle.protocol.specs.declared.Heard.the-variants.{Nothing, One, Several}
 use Rattle.protocol.specs.declared.State.{State}
 use Rattle.protocol.specs.declared.State.the-variants.{Running, Stopped, Decided}
+use Rattle.protocol.specs.declared.Sent.{Sent}
 use Rattle.protocol.specs.declared.Truck.{Truck}
 use Rattle.protocol.specs.declared.Fleet.{Fleet}
 use Rattle.protocol.specs.Rules.{truck, isOne, isSeveral, after}
@@ -26,6 +27,7 @@ use Rattle.fleet.specs.declared.replay.Proposed.{Proposed}
 use Rattle.fleet.specs.declared.replay.Vetoed.{Vetoed}
 use Rattle.fleet.specs.declared.replay.Sets.{Sets}
 use Rattle.sets.specs.Sets.{Members, without}
+use Rattle.counters.specs.Counters.{tally, inUse}
 use Rattle.fleet.specs.Sets.{Sorted, wasHeard}
 use Rattle.fleet.specs.Listens.{rowFrom, heardFrom, settled}
 
@@ -47,35 +49,41 @@ stateOf running decided end = cond running Running (cond decided (Decided end) (
 abbrev pub memoryOf : Bool → Bool → Heard
 memoryOf one several = cond one One (cond several Several Nothing)
 
--- a truck by the sets that it is in; h is what it heard, if it runs
-abbrev pub standing : ℕ → ℕ → Heard → Bool → Bool → Bool → ℕ → Truck
-standing o e h running decided marked end =
-    record { opening = o; estimate = e; mark = running && marked; heard = cond running h Nothing; state = stateOf running decided end }
+-- a truck by the sets that it is in; h is what it heard, if it runs, and c what it sent
+abbrev pub standing : ℕ → ℕ → Heard → Bool → Bool → Bool → ℕ → Sent → Truck
+standing o e h running decided marked end c =
+    record { opening = o; estimate = e; mark = running && marked; heard = cond running h Nothing; state = stateOf running decided end; sent = c }
 
--- the truck at place p by these sets, the trucks of each crusher, its opening and the round of its end
-abbrev pub truckBy : Sets → List ℕ → ℕ → ℕ → ℕ → Truck
-truckBy b by opening end p =
+-- how many proposals and vetoes the truck at place p sent, by the first m words of the counts: proposals are counted at its place, vetoes 32 places further
+abbrev pub sentBy : List ℕ → ℕ → ℕ → Sent
+sentBy words m p = record { proposals = tally words m p; vetoes = tally words m (32 + p) }
+
+-- the truck at place p by these sets, the trucks of each crusher, its opening, the round of its end and what it sent
+abbrev pub truckBy : Sets → List ℕ → ℕ → ℕ → Sent → ℕ → Truck
+truckBy b by opening end c p =
     standing opening (first (wasHeard by (2 ^ p)) 16) (memoryOf (bit (b .one) p) (bit (b .several) p))
-    (bit (b .running) p) (bit (b .decided) p) (bit (b .marked) p) end
+    (bit (b .running) p) (bit (b .decided) p) (bit (b .marked) p) end c
 
 -- the record of the trucks by these sets, with all rounds done
-abbrev pub fleetBy : Counts → List ℕ → Sets → List ℕ → List ℕ → Fleet
-fleetBy c openings b by ends = record {
+abbrev pub fleetBy : Counts → List ℕ → Sets → List ℕ → List ℕ → List ℕ → Fleet
+fleetBy c openings b by ends sent = record {
   n = c .trucks;
   done = c .rounds;
-  trucks = filled (λ i. truckBy b by (getD openings i 0) (getD ends i 0) (31 - i)) (c .trucks) (openedTrucks []);
+  trucks = filled (λ i. truckBy b by (getD openings i 0) (getD ends i 0) (sentBy sent (inUse sent 8) (31 - i)) (31 - i)) (c .trucks) (openedTrucks []);
 }
 
 -- the sets say how n trucks with these openings stand after k rounds. What a truck with a mark heard is known after the last round only:
 -- it sends a veto whatever it heard
-pub record Stands (n last k : ℕ) (opening : ℕ → ℕ) (ts : List Truck) (by ends : List ℕ) (running decided marked one several : ℕ) : Type 0 where
+pub record Stands (n last k : ℕ) (opening : ℕ → ℕ) (ts : List Truck) (by ends sent : List ℕ) (running decided marked one several : ℕ) : Type 0 where
   pub crushers : length by ≡ 16
   pub places : length ends ≡ 32
+  pub digits : length sent ≡ 8
   pub fits : running < 2 ^ 32
   pub none : (j : ℕ) → n ≤ j → j < 32 → holds running j ≡ false
   pub apart : (j : ℕ) → j < n → holds running j ≡ true → holds decided j ≡ false
   pub each : (j : ℕ) → j < n
-      → truck ts j ≡ standing (opening j) (truck ts j .estimate) (truck ts j .heard) (holds running j) (holds decided j) (holds marked j) (getD ends j 0)
+      → truck ts j ≡ standing (opening j) (truck ts j .estimate) (truck ts j .heard) (holds running j) (holds decided j) (holds marked j) (getD ends j 0) (truck ts j .sent)
+  pub counts : (j : ℕ) → j < n → truck ts j .sent ≡ sentBy sent 8 (31 - j)
   pub heard : (j : ℕ) → j < n → holds running j ≡ true → (holds marked j ≡ true → k ≡ last)
       → (isOne (truck ts j .heard) ≡ holds one j) × (isSeveral (truck ts j .heard) ≡ holds several j)
   pub sorted : (c : ℕ) → c < 16 → (j : ℕ) → j < 32 → holds (getD by c 0) j ≡ (ltb j n && eqb (truck ts j .estimate) c)
@@ -141,18 +149,18 @@ abbrev pub Fresh : ℕ → ℕ → List ℕ → ℕ → ℕ → Type 0
 Fresh n k ends decided until = (j : ℕ) → j < n → holds (bitAnd decided until) j ≡ true → getD ends j 0 ≡ k
 
 -- the run stands so after k rounds, and the next of those left begins at a place
-pub record Due (s : List ℕ) (at n left k : ℕ) (by ends : List ℕ) (running decided marked one several until : ℕ) : Type 0 where
+pub record Due (s : List ℕ) (at n left k : ℕ) (by ends sent : List ℕ) (running decided marked one several until : ℕ) : Type 0 where
   pub good : frameCheck s ≡ Accepted
-  pub stands : Stands (trucksOf s) (k + left) k (openingAt s) (trucksAfter s k) by ends running decided marked one several
+  pub stands : Stands (trucksOf s) (k + left) k (openingAt s) (trucksAfter s k) by ends sent running decided marked one several
   pub most : k + left ≤ 400
   pub count : n ≡ trucksOf s
   pub place : at ≡ roundPlace n k
   pub fresh : Fresh (trucksOf s) k ends decided until
 
 -- where the run came to its end: all rounds are done, nobody runs any more, or one of `until` decided, in the round done last
-pub record Halted (s : List ℕ) (last : ℕ) (by ends : List ℕ) (until : ℕ) (r : Sets) : Type 0 where
+pub record Halted (s : List ℕ) (last : ℕ) (by ends sent : List ℕ) (until : ℕ) (r : Sets) : Type 0 where
   pub good : frameCheck s ≡ Accepted
-  pub stands : Stands (trucksOf s) last (r .done) (openingAt s) (trucksAfter s (r .done)) by ends (r .running) (r .decided) (r .marked) (r .one) (r .several)
+  pub stands : Stands (trucksOf s) last (r .done) (openingAt s) (trucksAfter s (r .done)) by ends sent (r .running) (r .decided) (r .marked) (r .one) (r .several)
   pub most : r .done ≤ last
   pub over : (r .running ≡ 0 → ⊥) → bitAnd (r .decided) until ≡ 0 → r .done ≡ last
   pub fresh : Fresh (trucksOf s) (r .done) ends (r .decided) until

@@ -8,6 +8,7 @@ use crate::listening::settle;
 use protocol::Fleet;
 use protocol::Grades;
 use protocol::Heard;
+use protocol::Sent;
 use protocol::State;
 use protocol::Truck;
 use recording::Counts;
@@ -24,7 +25,7 @@ ghost use Rattle.recording.specs.Checks.{frameCheck};
 ghost use Rattle.protocol.specs.declared.Heard.the-variants.{Nothing};
 ghost use Rattle.fleet.specs.Sets.{Sorted};
 ghost use Rattle.fleet.specs.Replays.{fleetAfter, gradesAfter};
-ghost use Rattle.fleet.specs.Standing.{stateOf, memoryOf, truckBy, fleetBy, unreadOf, Proposes, Vetoes, noted, Due, Halted};
+ghost use Rattle.fleet.specs.Standing.{stateOf, memoryOf, sentBy, truckBy, fleetBy, unreadOf, Proposes, Vetoes, noted, Due, Halted};
 
 // Those that go on after a proposal round's stops, its senders and marks, and who heard one value and who several.
 pub struct Proposed {
@@ -139,14 +140,15 @@ fn proposals(
     k: u16,
     by: &mut [u32; 16],
     ends: &mut [u16; 32],
+    sent: &mut [u64; 8],
     running: u32,
     decided: u32,
     until: u32,
     judging: bool,
     grades: Grades,
 ) -> Sets
-    requires { ⌜ Due (now s) at n left k (now by) (now ends) running decided 0 0 0 until × ((odd k ≡ false) × (grades ≡ gradesAfter (now s) judging k)) ⌝ }
-    ensures { λ r. ⌜ Halted (now (s .entry)) (k + left) (now (by .exit)) (now (ends .exit)) until r
+    requires { ⌜ Due (now s) at n left k (now by) (now ends) (now sent) running decided 0 0 0 until × ((odd k ≡ false) × (grades ≡ gradesAfter (now s) judging k)) ⌝ }
+    ensures { λ r. ⌜ Halted (now (s .entry)) (k + left) (now (by .exit)) (now (ends .exit)) (now (sent .exit)) until r
         × (r .grades ≡ gradesAfter (now (s .entry)) judging (r .done)) ⌝ }
 {
     if (left == 0) | (running == 0) | (decided & until != 0) {
@@ -173,6 +175,7 @@ fn proposals(
         q.mark,
     );
     ended(ends, sets::without(running, q.going), k + 1);
+    counters::count_up(sent, q.senders as u64);
     vetoes(
         s,
         at + (3 + n) * n,
@@ -181,6 +184,7 @@ fn proposals(
         k + 1,
         by,
         ends,
+        sent,
         q.going,
         decided,
         q.mark,
@@ -201,6 +205,7 @@ fn vetoes(
     k: u16,
     by: &mut [u32; 16],
     ends: &mut [u16; 32],
+    sent: &mut [u64; 8],
     running: u32,
     decided: u32,
     marked: u32,
@@ -210,9 +215,9 @@ fn vetoes(
     judging: bool,
     grades: Grades,
 ) -> Sets
-    requires { ⌜ Due (now s) at n left k (now by) (now ends) running decided marked one several until
+    requires { ⌜ Due (now s) at n left k (now by) (now ends) (now sent) running decided marked one several until
         × ((odd k ≡ true) × (grades ≡ gradesAfter (now s) judging k)) ⌝ }
-    ensures { λ r. ⌜ Halted (now (s .entry)) (k + left) (now (by .exit)) (now (ends .exit)) until r
+    ensures { λ r. ⌜ Halted (now (s .entry)) (k + left) (now (by .exit)) (now (ends .exit)) (now (sent .exit)) until r
         × (r .grades ≡ gradesAfter (now (s .entry)) judging (r .done)) ⌝ }
 {
     if (left == 0) | (running == 0) | (decided & until != 0) {
@@ -239,6 +244,7 @@ fn vetoes(
         q.mark,
     );
     ended(ends, sets::without(running, q.on), k + 1);
+    counters::count_up(sent, (q.senders as u64) << 32);
     proposals(
         s,
         at + (3 + n) * n,
@@ -247,6 +253,7 @@ fn vetoes(
         k + 1,
         by,
         ends,
+        sent,
         q.on,
         decided | q.done,
         until,
@@ -282,10 +289,28 @@ fn heard_of(running: bool, one: bool, several: bool) -> Heard
     Heard::Nothing
 }
 
+// How many proposals and vetoes the truck at place p sent, by the first m words of the counts. Proposals are counted at its place and vetoes 32 places further,
+// so one shift brings the digits of both down.
+fn sent_at(words: &[u64; 8], m: usize, p: usize) -> Sent
+    requires { ⌜ (m ≤ 8) × (p < 32) ⌝ }
+    ensures { λ r. ⌜ r ≡ sentBy (now (words .entry)) m p ⌝ }
+{
+    let mut both = 0u64;
+    let mut i = 0;
+    while i < m {
+        both = both + (((words[i] >> p) & 4294967297) << i);
+        i += 1;
+    }
+    Sent {
+        proposals: (both % 4294967296) as u8,
+        vetoes: (both / 4294967296) as u8,
+    }
+}
+
 // The truck at place p.
-fn truck_of(b: Sets, by: &[u32; 16], opening: u8, end: u16, p: usize) -> Truck
+fn truck_of(b: Sets, by: &[u32; 16], opening: u8, end: u16, sent: Sent, p: usize) -> Truck
     requires { ⌜ p < 32 ⌝ }
-    ensures { λ r. ⌜ r ≡ truckBy b (now (by .entry)) opening end p ⌝ }
+    ensures { λ r. ⌜ r ≡ truckBy b (now (by .entry)) opening end sent p ⌝ }
 {
     let running = sets::holds(b.running, p);
     let heard = heard_of(running, sets::holds(b.one, p), sets::holds(b.several, p));
@@ -297,21 +322,37 @@ fn truck_of(b: Sets, by: &[u32; 16], opening: u8, end: u16, p: usize) -> Truck
         mark: running & sets::holds(b.marked, p),
         heard,
         state,
+        sent,
     }
 }
 
 // The record of a run that has come to its end, with all rounds done.
-fn fleet_of(c: Counts, openings: &[u8; 32], b: Sets, by: &[u32; 16], ends: &[u16; 32]) -> Fleet
+fn fleet_of(
+    c: Counts,
+    openings: &[u8; 32],
+    b: Sets,
+    by: &[u32; 16],
+    ends: &[u16; 32],
+    sent: &[u64; 8],
+) -> Fleet
     requires { ⌜ c .trucks ≤ 32 ⌝ }
-    ensures { λ r. ⌜ r ≡ fleetBy c (now (openings .entry)) b (now (by .entry)) (now (ends .entry)) ⌝ }
+    ensures { λ r. ⌜ r ≡ fleetBy c (now (openings .entry)) b (now (by .entry)) (now (ends .entry)) (now (sent .entry)) ⌝ }
 {
     let mut f = fleetrecord::blank();
     f.n = c.trucks;
     f.done = c.rounds;
     let n = c.trucks as usize;
+    let m = counters::in_use(sent);
     let mut i = 0;
     while i < n {
-        f.trucks[i] = truck_of(b, by, openings[i], ends[i], 31 - i);
+        f.trucks[i] = truck_of(
+            b,
+            by,
+            openings[i],
+            ends[i],
+            sent_at(sent, m, 31 - i),
+            31 - i,
+        );
         i += 1;
     }
     f
@@ -353,6 +394,7 @@ pub(crate) fn replay(s: &[u8], judging: bool) -> Course
     let all = everyone(n);
     let mut by = openers(&openings, all);
     let mut ends = [0u16; 32];
+    let mut sent = [0u64; 8];
     let none = Grades {
         complete: 0,
         majority: 0,
@@ -367,6 +409,7 @@ pub(crate) fn replay(s: &[u8], judging: bool) -> Course
         0,
         &mut by,
         &mut ends,
+        &mut sent,
         all,
         0,
         0,
@@ -374,6 +417,6 @@ pub(crate) fn replay(s: &[u8], judging: bool) -> Course
         none,
     );
     let grades = b.grades;
-    let fleet = fleet_of(c, &openings, b, &by, &ends);
+    let fleet = fleet_of(c, &openings, b, &by, &ends, &sent);
     Course { fleet, grades }
 }

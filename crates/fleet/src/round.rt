@@ -73,16 +73,17 @@ fn values_sent(f: Fleet, senders: u32) -> [u32; 16]
     [0u32; 16]
 }
 
-// What a round is to a truck, by its stop bit, its mark, the senders it hears and those of each crusher.
+// What a round is to a truck, by its stop bit, whether it sends, its mark, the senders it hears and those of each crusher.
 fn event_of(
     proposals: bool,
     stop: bool,
+    sends: bool,
     mark: bool,
     heard: u32,
     values: &[u32; 16],
     estimate: u8,
 ) -> Event
-    ensures { λ r. ⌜ r ≡ eventOf proposals stop mark heard (now (values .entry)) estimate ⌝ }
+    ensures { λ r. ⌜ r ≡ eventOf proposals stop sends mark heard (now (values .entry)) estimate ⌝ }
 {
     if stop {
         return Event::Stop;
@@ -91,12 +92,14 @@ fn event_of(
         let v = values_of(values, heard, estimate);
         let count = v.heard;
         return Event::Proposals {
+            sends,
             mark,
             heard: count,
             least: v.least,
         };
     }
     Event::Vetoes {
+        sends,
         mark,
         veto: heard != 0,
     }
@@ -119,6 +122,7 @@ fn events_of(f: Fleet, words: &[u32], senders: u32, values: &[u32; 16]) -> [Even
         let event = event_of(
             proposals,
             sets::holds(stop, i),
+            sets::holds(senders, i),
             sets::holds(mark, i),
             heard,
             values,

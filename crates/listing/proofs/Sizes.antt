@@ -33,7 +33,7 @@ use Rattle.protocol.specs.Rules.{truck}
 use Rattle.protocol.specs.Fleets.{twoRound, goodState, goodTruckIn, goodFleetIn, goodFleet, fleetIn, ran}
 use Rattle.protocol.proofs.Good.{Good, state-ended}
 use Rattle.protocol.proofs.OneRound.{sound-two}
-use Rattle.protocol.proofs.Rules.{counts-parts}
+use Rattle.protocol.proofs.Rules.{counts-few}
 use Rattle.protocol.proofs.Ran.{ran-fleet, ran-good}
 use Rattle.listing.specs.Text.{text, decimalIn, decimal, stateText, sentText, truckLine, truckLines, totalsLine, listingOf, locationText, refusalText}
 use Rattle.listing.specs.Program.{longestListing, longestRefusal}
@@ -118,12 +118,6 @@ sent-size m p v hp hv =
       digits m v hv,
     )
 
--- there are at most 200 rounds of each kind
-counts-most : (R : ℕ) → R ≤ 400 → (t : Truck) → Good twoRound R t → (t .sent .proposals ≤ 200) × (t .sent .vetoes ≤ 200)
-counts-most R l t g =
-    let c = counts-parts R (t .sent) (g .counts) in
-    (omega (arith, c .0), omega (arith, c .1))
-
 -- the line of such a truck: 52 bytes besides its number
 line-size : (R : ℕ) → R ≤ 400 → (i : ℕ) (t : Truck) → Good twoRound R t → length (truckLine i t) ≤ length (decimal i) + 52
 unfolding truckLine
@@ -133,7 +127,7 @@ line-size R l i t g =
     let lf : length (text "\n") ≡ 1 = refl in
     let a = decimal i ++ text " opened " ++ decimal (t .opening) ++ text " " ++ stateText (t .state) (t .estimate) ++ text " " in
     let b = sentText (t .sent .proposals) (t .sent .vetoes) in
-    let c = counts-most R l t g in
+    let c = counts-few R (t .sent) l (g .counts) in
     omega (
       arith,
       six-parts (decimal i) (text " opened ") (decimal (t .opening)) (text " ") (stateText (t .state) (t .estimate)) (text " "),
@@ -172,8 +166,8 @@ totals-size R l ts n h g =
     let p = sumBelow (λ i. truck ts i .sent .proposals) n in
     let v = sumBelow (λ i. truck ts i .sent .vetoes) n in
     let lf : length (text "\n") ≡ 1 = refl in
-    let mp : p ≤ 200 * n = sum-most (λ i. truck ts i .sent .proposals) 200 n (λ i li. counts-most R l (truck ts i) (g i li) .0) in
-    let mv : v ≤ 200 * n = sum-most (λ i. truck ts i .sent .vetoes) 200 n (λ i li. counts-most R l (truck ts i) (g i li) .1) in
+    let mp : p ≤ 200 * n = sum-most (λ i. truck ts i .sent .proposals) 200 n (λ i li. counts-few R (truck ts i .sent) l (g i li .counts) .0) in
+    let mv : v ≤ 200 * n = sum-most (λ i. truck ts i .sent .vetoes) 200 n (λ i li. counts-few R (truck ts i .sent) l (g i li .counts) .1) in
     omega (arith, length-append (sentText p v) (text "\n"), sent-size 3 p v (omega arith) (omega arith))
 
 fleet-size : (f : Fleet) → f .n ≤ 32 → f .done ≤ 400 → ((i : ℕ) → i < f .n → Good twoRound (f .done) (truck (f .trucks) i))

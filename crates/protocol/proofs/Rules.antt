@@ -95,6 +95,10 @@ counts-parts done c h = (
   leb-true (c .vetoes) (done / 2) (and-right (leb (c .proposals) ((done + 1) / 2)) (leb (c .vetoes) (done / 2)) h),
 )
 
+-- with at most 400 rounds done
+pub counts-few : (done : ℕ) (c : Sent) → done ≤ 400 → twoCounts done c ≡ true → (c .proposals ≤ 200) × (c .vetoes ≤ 200)
+counts-few done c l h = let g = counts-parts done c h in (omega (arith, g .0), omega (arith, g .1))
+
 pub counts-by : (done : ℕ) (c : Sent) → c .proposals ≤ (done + 1) / 2 → c .vetoes ≤ done / 2 → twoCounts done c ≡ true
 counts-by done c p v = rw (le-leb (c .proposals) ((done + 1) / 2) p, le-leb (c .vetoes) (done / 2) v)
 

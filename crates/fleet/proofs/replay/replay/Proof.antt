@@ -1,6 +1,6 @@
 -- `replay` meets its contract.
 use mathlib.Core.Path.{refl, ap, subst, _∙_}
-use Prim.Native.Nat.{ℕ, _+_}
+use Prim.Native.Nat.{ℕ, _+_, _≤_}
 use mathlib.Core.List.{List}
 use native.Mathlib.Nat.{zero-add}
 use native.Mathlib.Omega.{arith}
@@ -15,8 +15,8 @@ use Rattle.fleet.proofs.replay.replay.Statement.{statement}
 use Rattle.fleet.proofs.replay.replay.Tie as tie
 
 -- the rounds are counted from 0
-ended : (s : List ℕ) (rounds : ℕ) (by ends : List ℕ) (b : Sets) → Halted s (0 + rounds) by ends 0 b → Halted s rounds by ends 0 b
-ended s rounds by ends b h = subst (λ (k : ℕ). Halted s k by ends 0 b) (zero-add rounds) h
+ended : (s : List ℕ) (rounds : ℕ) (by ends sent : List ℕ) (b : Sets) → Halted s (0 + rounds) by ends sent 0 b → Halted s rounds by ends sent 0 b
+ended s rounds by ends sent b h = subst (λ (k : ℕ). Halted s k by ends sent 0 b) (zero-add rounds) h
 
 everyone-requires : tie.Need-everyone-requires
 everyone-requires c κs =
@@ -32,12 +32,12 @@ openers-requires c κs =
 
 proposals-requires : tie.Need-proposals-requires
 proposals-requires c κs =
-    let z = c .before .before .before .before .before .before .before .before .before .before .before in
+    let z = c .before .before .before .before .before .before .before .before .before .before .before .before in
     let s = z .args .s .now in
-    let r = c .before .before .before .before .before .before .before .before .read-front in
-    let all = c .before .before .before .before .before .everyone in
-    let by = c .before .before .before .openers in
-    let at = c .before .before .word-place in
+    let r = c .before .before .before .before .before .before .before .before .before .read-front in
+    let all = c .before .before .before .before .before .before .everyone in
+    let by = c .before .before .before .before .openers in
+    let at = c .before .before .before .word-place in
     let n = counts-trucks s (r .result) (r .ensures .0) in (
       first-due s (z .pre) (r .result .trucks) n (r .last .1 .0) (openings-are s (z .pre) (r .last .1 .0) (r .ensures .1)) (at .result) (all .result) 0 (by .result) (at .ensures)
           (omega (arith, counts-rounds s (r .result) (r .ensures .0), first-few s (z .pre) (r .result .trucks) n .1)) (all .ensures) (by .ensures),
@@ -46,21 +46,22 @@ proposals-requires c κs =
 
 fleet-of-requires : tie.Need-fleet-of-requires
 fleet-of-requires c κs =
-    let z = c .before .before .before .before .before .before .before .before .before .before .before .before .before .before .before .before in
-    let r = c .before .before .before .before .before .before .before .before .before .before .before .before .before .read-front in
+    let z = c .before .before .before .before .before .before .before .before .before .before .before .before .before .before .before .before .before .before in
+    let r = c .before .before .before .before .before .before .before .before .before .before .before .before .before .before .before .read-front in
     first-few (z .args .s .now) (z .pre) (r .result .trucks) (counts-trucks (z .args .s .now) (r .result) (r .ensures .0)) .0
 
 returns : tie.Need-returns
 returns c =
-    let z = c .before .before .before .before .before .before .before .before .before .before .before .before .before .before .before .before .before in
+    let z = c .before .before .before .before .before .before .before .before .before .before .before .before .before .before .before .before .before .before .before in
     let a = z .args in
     let s = a .s .now in
-    let r = c .before .before .before .before .before .before .before .before .before .before .before .before .before .before .read-front in
-    let b = c .before .before .before .before .before .proposals in
-    let h = ended s (r .result .rounds) (b .last .1 .1 .1 .1 .1 .0) (b .last .1 .1 .1 .1 .1 .1 .0) (b .result) (b .ensures .0) in
-    let played = counts-rounds s (r .result) (r .ensures .0) in (
-      c .fleet-of .ensures ∙ fleet-ended h (r .result) (r .last .1 .0) (r .ensures .0) (openings-are s (z .pre) (r .last .1 .0) (r .ensures .1)) refl ∙ ap (fleetAfter s) played,
-      b .ensures .1 ∙ grades-ended h (a .judging) ∙ ap (gradesAfter s (a .judging)) played,
+    let r = c .before .before .before .before .before .before .before .before .before .before .before .before .before .before .before .before .read-front in
+    let b = c .before .before .before .before .before .before .proposals in
+    let h = ended s (r .result .rounds) (b .last .1 .1 .1 .1 .1 .0) (b .last .1 .1 .1 .1 .1 .1 .0) (b .last .1 .1 .1 .1 .1 .1 .1 .0) (b .result) (b .ensures .0) in
+    let played = counts-rounds s (r .result) (r .ensures .0) in
+    let most : r .result .rounds ≤ 400 = omega (arith, played, first-few s (z .pre) (r .result .trucks) (counts-trucks s (r .result) (r .ensures .0)) .1) in (
+      c .fleet-of .ensures ∙ fleet-ended h most (r .result) (r .last .1 .0) (r .ensures .0) (openings-are s (z .pre) (r .last .1 .0) (r .ensures .1)) refl ∙ ap (fleetAfter s) played,
+      b .ensures .1 ∙ grades-ended h most (a .judging) ∙ ap (gradesAfter s (a .judging)) played,
     )
 
 pub replay-spec : {M : Type 1} → statement M

@@ -16,8 +16,8 @@ small-first p = omega (arith, first-le p 16)
 first-heard-requires : tie.Need-first-heard-requires
 first-heard-requires c κs = (search needs, first-none _)
 
-cast-t13 : tie.Need-cast-t13
-cast-t13 c = rw (c .first-heard .ensures) (record { fits = small-first _ })
+cast-t14 : tie.Need-cast-t14
+cast-t14 c = rw (c .first-heard .ensures) (record { fits = small-first _ })
 
 returns : tie.Need-returns
 returns c =
@@ -45,6 +45,6 @@ truck-of-spec =
     (λ c κs. search needs)
     (λ c κs. search needs)
     first-heard-requires
-    cast-t13
+    cast-t14
     (λ c κs. search needs)
     returns)

@@ -26,17 +26,17 @@ loop-holds c =
 
 loop-again : tie.Need-loop-again Inv-loop μ-loop
 loop-again c =
-    let s = c .before .before .before .before .before .before .before .before .before .before .before .before in
+    let s = c .before .before .before .before .before .before .before .before .before .before .before .before .before in
     let a = s .args in
     let f = a .t1 in
     let w = a .words .now in
-    let o = c .before .before .before .before .before .before .before .before .loop in
-    let h = c .before .before .before .heard-by in
-    let heard = heard-by-own (a .senders) (getD w (3 + o .i) 0) (o .i) (c .before .before .before .before .only .result) (h .result) (h .ensures)
-    (c .before .before .before .before .only .ensures ∙ only-is (o .i) (omega (arith, c .before .before .before .before .before .before .before .loop-test .taken, s .pre .0))) in
+    let o = c .before .before .before .before .before .before .before .before .before .loop in
+    let h = c .before .before .before .before .heard-by in
+    let heard = heard-by-own (a .senders) (getD w (3 + o .i) 0) (o .i) (c .before .before .before .before .before .only .result) (h .result) (h .ensures)
+    (c .before .before .before .before .before .only .ensures ∙ only-is (o .i) (omega (arith, c .before .before .before .before .before .before .before .before .loop-test .taken, s .pre .0))) in
     let is : c .event-of .result ≡ eventAt f w (a .senders) (a .values .now) (o .i) =
-    rw (c .event-of .ensures, c .before .before .holds .ensures, c .before .holds2 .ensures, heard, next-kind (f .done)) in
-    (search needs, fill-step (eventAt f w (a .senders) (a .values .now)) noEvents (o .events) (o .i) (o .inv .1) (c .event-of .result) (omega (arith, c .before .before .before .before .before .before .before .loop-test .taken, s .pre .0)) is)
+    rw (c .event-of .ensures, c .before .before .before .holds .ensures, c .before .before .holds2 .ensures, c .before .holds3 .ensures, heard, next-kind (f .done)) in
+    (search needs, fill-step (eventAt f w (a .senders) (a .values .now)) noEvents (o .events) (o .i) (o .inv .1) (c .event-of .result) (omega (arith, c .before .before .before .before .before .before .before .before .loop-test .taken, s .pre .0)) is)
 
 returns : tie.Need-returns Inv-loop μ-loop
 returns c =
@@ -59,6 +59,7 @@ events-of-spec =
     (λ c. search needs)
     (λ c. search needs)
     (λ c. search needs)
+    (λ c κs. search needs)
     (λ c κs. search needs)
     (λ c κs. search needs)
     (λ c κs. search needs)

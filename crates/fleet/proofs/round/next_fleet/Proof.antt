@@ -30,7 +30,7 @@ returns c =
     let senders = c .before .before .before .before .before .before .senders-of in
     let values = c .before .before .before .before .before .values-sent in
     let events = c .before .before .before .events-of in
-    step-next f w (senders .result) (values .result) (senders .ensures) (values .ensures) (g .small) (g .most) (events .result) (events .ensures) (c .update-first .result) (c .update-first .ensures)
+    step-next f w (senders .result) (values .result) (senders .ensures) (values .ensures) (g .small) (g .counts) (g .most) (events .result) (events .ensures) (c .update-first .result) (c .update-first .ensures)
 
 pub next-fleet-spec : {M : Type 1} → statement M
 next-fleet-spec =

@@ -3,14 +3,16 @@
 use mathlib.Core.Path.{_≡_, refl, ap, sym, _∙_}
 use mathlib.Core.Bool.{Bool, true, false, cond, not, _&&_, and-false, true≢false}
 use mathlib.Core.List.{List}
-use Prim.Native.Nat.{ℕ, suc, _+_, _≤_, _<_}
+use Prim.Native.Nat.{ℕ, zero, suc, _+_, _/_, _%_, _≤_, _<_}
 use native.Mathlib.Omega.{arith}
-use lib.ListN.{getD}
+use borrow.Author.Tests.{eqb-true, eqb-false}
+use lib.ListN.{length}
 use Rattle.basics.specs.Bits.{odd}
+use Rattle.basics.specs.Lists.{who}
 use Rattle.basics.proofs.Laws.{and-right}
 use Rattle.radio.specs.Round.{stopBit, activeBit}
 use Rattle.radio.specs.Radio.{Radio, timesSent}
-use Rattle.radio.proofs.Laws.{times-none, times-suc}
+use Rattle.radio.proofs.Laws.{count-suc, times-none, times-suc}
 use Rattle.protocol.specs.declared.Sent.{Sent}
 use Rattle.protocol.specs.declared.Truck.{Truck}
 use Rattle.protocol.specs.declared.Fleet.{Fleet}
@@ -113,3 +115,24 @@ step-counts f w h i l =
       ap (λ (g : Fleet). truck (g .trucks) i .sent .proposals) e ∙ c .0,
       ap (λ (g : Fleet). truck (g .trucks) i .sent .vetoes) e ∙ c .1,
     )
+
+-- what refusal 7 counts: the odd rounds among those done, and the even ones
+pub odd-rounds : (done : ℕ) → length (who (λ e. odd (suc e)) done) ≡ (done + 1) / 2
+unfolding who
+odd-rounds zero = refl
+odd-rounds (suc done) = count-suc (λ e. odd (suc e)) done ∙ go (odd (suc done)) refl (odd-rounds done)
+  where
+    go : (b : Bool) → odd (suc done) ≡ b → length (who (λ e. odd (suc e)) done) ≡ (done + 1) / 2
+        → length (who (λ e. odd (suc e)) done) + cond b 1 0 ≡ (suc done + 1) / 2
+    go true e h = omega (arith, h, eqb-true (suc done % 2) 1 e)
+    go false e h = omega (arith, h, eqb-false (suc done % 2) 1 e)
+
+pub even-rounds : (done : ℕ) → length (who (λ e. not (odd (suc e))) done) ≡ done / 2
+unfolding who
+even-rounds zero = refl
+even-rounds (suc done) = count-suc (λ e. not (odd (suc e))) done ∙ go (odd (suc done)) refl (even-rounds done)
+  where
+    go : (b : Bool) → odd (suc done) ≡ b → length (who (λ e. not (odd (suc e))) done) ≡ done / 2
+        → length (who (λ e. not (odd (suc e))) done) + cond (not b) 1 0 ≡ suc done / 2
+    go true e h = omega (arith, h, eqb-true (suc done % 2) 1 e)
+    go false e h = omega (arith, h, eqb-false (suc done % 2) 1 e)

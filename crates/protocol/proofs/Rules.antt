@@ -14,7 +14,7 @@ use Rattle.protocol.specs.declared.Heard.{Heard}
 use Rattle.protocol.specs.declared.Heard.the-variants.{Nothing, One, Several}
 use Rattle.protocol.specs.declared.Sent.{Sent}
 use Rattle.protocol.specs.declared.Truck.{Truck}
-use Rattle.protocol.specs.Rules.{isSeveral, isOne, runs, vetoes, different, leastOr, counted, proposed, decides, vetoed, twoRules}
+use Rattle.protocol.specs.Rules.{isSeveral, isOne, runs, vetoes, different, leastOr, proposed, decides, vetoed, twoRules}
 use Rattle.protocol.specs.Fleets.{isEmpty, twoMemory, twoCounts}
 
 -- a truck without a veto: it had no mark and did not hear several values
@@ -102,9 +102,16 @@ counts-few done c l h = let g = counts-parts done c h in (omega (arith, g .0), o
 pub counts-by : (done : ℕ) (c : Sent) → c .proposals ≤ (done + 1) / 2 → c .vetoes ≤ done / 2 → twoCounts done c ≡ true
 counts-by done c p v = rw (le-leb (c .proposals) ((done + 1) / 2) p, le-leb (c .vetoes) (done / 2) v)
 
-counted-most : (sends : Bool) (c : ℕ) → counted sends c ≤ c + 1
-counted-most true c = omega arith
-counted-most false c = omega arith
+-- a round adds at most 1
+proposals-most : (s m : Bool) (h : Heard) (v : ℕ) (t : Truck) → proposed s m h v t .sent .proposals ≤ t .sent .proposals + 1
+proposals-most true true h v t = omega arith
+proposals-most true false h v t = omega arith
+proposals-most false true h v t = omega arith
+proposals-most false false h v t = omega arith
+
+vetoes-most : (k : ℕ) (s m veto : Bool) (t : Truck) → vetoed k s m veto t .sent .vetoes ≤ t .sent .vetoes + 1
+vetoes-most k true m veto t = omega arith
+vetoes-most k false m veto t = omega arith
 
 -- with one more round done: of a truck that sent nothing in it, and of one that played it
 pub counts-later : (done : ℕ) (c : Sent) → twoCounts done c ≡ true → twoCounts (suc done) c ≡ true
@@ -117,10 +124,10 @@ module _ (done : ℕ) (s m : Bool) (vs : List ℕ) (t : Truck) (h : twoCounts do
   counts-proposed e =
       let g = counts-parts done (t .sent) h in
       counts-by (suc done) (proposed s m (different vs) (leastOr (t .estimate) vs) t .sent)
-      (omega (arith, g .0, counted-most s (t .sent .proposals), eqb-true (suc done % 2) 1 e)) (omega (arith, g .1))
+      (omega (arith, g .0, proposals-most s m (different vs) (leastOr (t .estimate) vs) t, eqb-true (suc done % 2) 1 e)) (omega (arith, g .1))
 
   pub counts-vetoed : odd (suc done) ≡ false → twoCounts (suc done) (vetoed (suc done) s m (ltb 0 (length vs)) t .sent) ≡ true
   counts-vetoed e =
       let g = counts-parts done (t .sent) h in
       counts-by (suc done) (vetoed (suc done) s m (ltb 0 (length vs)) t .sent)
-      (omega (arith, g .0)) (omega (arith, g .1, counted-most s (t .sent .vetoes), eqb-false (suc done % 2) 1 e))
+      (omega (arith, g .0)) (omega (arith, g .1, vetoes-most (suc done) s m (ltb 0 (length vs)) t, eqb-false (suc done % 2) 1 e))

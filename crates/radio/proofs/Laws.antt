@@ -16,7 +16,7 @@ use Rattle.radio.specs.Radio.{Radio, implies, sent, hears, heardBy, hear
 abbrev count : (ℕ → Bool) → ℕ → ℕ
 count p m = length (who p m)
 
-count-suc : (p : ℕ → Bool) (m : ℕ) → count p (suc m) ≡ count p m + cond (p m) 1 0
+pub count-suc : (p : ℕ → Bool) (m : ℕ) → length (who p (suc m)) ≡ length (who p m) + cond (p m) 1 0
 unfolding who
 count-suc p m = length-append (who p m) (cond (p m) (m ∷ []) []) ∙ ap (λ (k : ℕ). count p m + k) (go (p m))
   where

@@ -27,10 +27,10 @@ eventOf proposals stop sends mark heard values e =
     let v = valuesOf values heard e in
     cond stop Stop (cond proposals (Proposals sends mark (v .heard) (v .least)) (Vetoes sends mark (not (eqb heard 0))))
 
--- what the next round of a record is to truck i
-abbrev pub eventAt : Fleet → List ℕ → ℕ → List ℕ → ℕ → Event
-eventAt f w senders values i =
-    eventOf (odd (f .done + 1)) (stopBit w i) (bit senders i) (markBit w i) (heardSet senders (getD w (3 + i) 0) i) values (estimates (f .trucks) i)
+-- what the round after those done is to truck i, where `held` has the trucks' estimates
+abbrev pub eventAt : ℕ → List ℕ → ℕ → List ℕ → List ℕ → ℕ → Event
+eventAt done w senders values held i =
+    eventOf (odd (done + 1)) (stopBit w i) (bit senders i) (markBit w i) (heardSet senders (getD w (3 + i) 0) i) values (getD held i 0)
 
 -- an array of events before any is known
 abbrev pub noEvents : List Event

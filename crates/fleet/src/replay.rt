@@ -338,14 +338,13 @@ fn fleet_of(
     requires { ⌜ c .trucks ≤ 32 ⌝ }
     ensures { λ r. ⌜ r ≡ fleetBy c (now (openings .entry)) b (now (by .entry)) (now (ends .entry)) (now (sent .entry)) ⌝ }
 {
-    let mut f = fleetrecord::blank();
-    f.n = c.trucks;
-    f.done = c.rounds;
+    let none = fleetrecord::blank();
+    let mut trucks = none.trucks;
     let n = c.trucks as usize;
     let m = counters::in_use(sent);
     let mut i = 0;
     while i < n {
-        f.trucks[i] = truck_of(
+        trucks[i] = truck_of(
             b,
             by,
             openings[i],
@@ -355,7 +354,11 @@ fn fleet_of(
         );
         i += 1;
     }
-    f
+    Fleet {
+        n: c.trucks,
+        done: c.rounds,
+        trucks,
+    }
 }
 
 // The trucks of each opening.

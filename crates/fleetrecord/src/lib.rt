@@ -11,11 +11,19 @@ ghost use mathlib.Core.Path.{_≡_};
 ghost use Prim.Native.Nat.{_≤_};
 ghost use lib.ListN.{length};
 ghost use Rattle.refusals.specs.declared.Outcome.the-variants.{Refused};
+ghost use Rattle.protocol.specs.declared.State.the-variants.{Running};
 ghost use Rattle.basics.specs.Bits.{odd};
 ghost use Rattle.basics.specs.Lists.{allBelow};
 ghost use Rattle.protocol.specs.Rules.{opened, truck};
 ghost use Rattle.protocol.specs.Fleets.{blank, started, isEmpty, twoCounts, goodState, goodTruck, goodFleet};
 ghost use Rattle.fleetrecord.specs.Opens.{openFleet};
+
+// Running, by a function: by it a truck's state is copied whole, its unused number with it, and the array of `blank` is one fill of zeros.
+fn running() -> State
+    ensures { λ r. ⌜ r ≡ Running ⌝ }
+{
+    State::Running
+}
 
 fn opened(v: u8) -> Truck
     ensures { λ r. ⌜ r ≡ opened v ⌝ }
@@ -25,7 +33,7 @@ fn opened(v: u8) -> Truck
         estimate: v,
         mark: false,
         heard: Heard::Nothing,
-        state: State::Running,
+        state: running(),
         sent: Sent {
             proposals: 0,
             vetoes: 0,

@@ -192,10 +192,10 @@ unfolding blank
 blank-trucks = refl
 
 module _ (d : List ℕ) where
-  pub record-is : (f : Fleet) (k : ℕ) → f .trucks ≡ filled (truckAt d) (getD d 0 0) (openedTrucks []) → k ≡ pairOf (getD d 1 0) (getD d 2 0)
-      → _≡_ {A = Fleet} (record { n = getD d 0 0; done = k; trucks = f .trucks }) (recordOf d)
+  pub record-is : (ts : List Truck) (k : ℕ) → ts ≡ filled (truckAt d) (getD d 0 0) (openedTrucks []) → k ≡ pairOf (getD d 1 0) (getD d 2 0)
+      → _≡_ {A = Fleet} (record { n = getD d 0 0; done = k; trucks = ts }) (recordOf d)
   unfolding recordOf
-  record-is f k p q = cc
+  record-is ts k p q = cc
 
   refused-as : damaged d ≡ true → (a : Answer) → a ≡ noRecord → a ≡ unpacked d
   unfolding unpacked

@@ -226,20 +226,21 @@ fn some_damaged(d: &[u8], n: u8) -> bool
     false
 }
 
-// The trucks of the places below n, in a record of no trucks.
-fn with_trucks(d: &[u8], n: u8) -> Fleet
+// The trucks of the places below n, among those of a record of no trucks.
+fn with_trucks(d: &[u8], n: u8) -> [Truck; 32]
     requires { ⌜ (n ≤ 32) × (sizeFor 32 ≤ length (now d)) ⌝ }
-    ensures { λ r. ⌜ r .trucks ≡ filled (truckAt (now (d .entry))) n (openedTrucks []) ⌝ }
+    ensures { λ r. ⌜ r ≡ filled (truckAt (now (d .entry))) n (openedTrucks []) ⌝ }
 {
     let m = n as usize;
-    let mut f = fleetrecord::blank();
+    let none = fleetrecord::blank();
+    let mut trucks = none.trucks;
     let mut i = 0;
     while i < m {
         let t = truck_at(d, i);
-        f.trucks[i] = t;
+        trucks[i] = t;
         i += 1;
     }
-    f
+    trucks
 }
 
 fn record_of(d: &[u8]) -> Fleet
@@ -247,10 +248,12 @@ fn record_of(d: &[u8]) -> Fleet
     ensures { λ r. ⌜ r ≡ recordOf (now (d .entry)) ⌝ }
 {
     let n = d[0];
-    let mut f = with_trucks(d, n);
-    f.n = n;
-    f.done = pair(d[1], d[2]);
-    f
+    let trucks = with_trucks(d, n);
+    Fleet {
+        n,
+        done: pair(d[1], d[2]),
+        trucks,
+    }
 }
 
 // Takes bytes for a record: refusal 7 where they are none.

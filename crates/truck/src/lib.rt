@@ -118,19 +118,21 @@ fn after_vetoes(t: Truck, round: u16, sends: bool, mark: bool, veto: bool) -> Tr
         proposals: t.sent.proposals,
         vetoes: count(sends, t.sent.vetoes),
     };
-    let done = Truck {
-        mark: false,
-        heard: Heard::Nothing,
-        sent,
-        ..t
-    };
     if decides(t, mark, veto) {
         Truck {
+            mark: false,
+            heard: Heard::Nothing,
             state: State::Decided(round),
-            ..done
+            sent,
+            ..t
         }
     } else {
-        done
+        Truck {
+            mark: false,
+            heard: Heard::Nothing,
+            sent,
+            ..t
+        }
     }
 }
 

@@ -15,23 +15,23 @@ use Rattle.recordbytes.proofs.with_trucks.Statement.{statement}
 use Rattle.recordbytes.proofs.with_trucks.Tie as tie
 
 abbrev Inv-loop : tie.InvT-loop
-Inv-loop d n m f₀ i₀ f i = (i ≤ n) × (f .trucks ≡ filled (truckAt d) i (openedTrucks []))
+Inv-loop d n m trucks₀ i₀ trucks i = (i ≤ n) × (trucks ≡ filled (truckAt d) i (openedTrucks []))
 
 abbrev μ-loop : tie.MeasureT-loop
-μ-loop d n m f₀ i₀ f i = n - i
+μ-loop d n m trucks₀ i₀ trucks i = n - i
 
 loop-holds : tie.Need-loop-holds Inv-loop μ-loop
-loop-holds c = (omega arith, ap (λ (f : Fleet). f .trucks) (c .blank .ensures) ∙ blank-trucks ∙ sym (filled-none (truckAt (c .before .before .args .d .now)) (openedTrucks [])))
+loop-holds c = (omega arith, ap (λ (f : Fleet). f .trucks) (c .before .blank .ensures) ∙ blank-trucks ∙ sym (filled-none (truckAt (c .before .before .before .args .d .now)) (openedTrucks [])))
 
 loop-again : tie.Need-loop-again Inv-loop μ-loop
 loop-again c =
-    let a = c .before .before .before .before .before .args in
+    let a = c .before .before .before .before .before .before .args in
     let l = c .before .before .loop in
-    (omega arith, fill-step (truckAt (a .d .now)) (openedTrucks []) (l .f .trucks) (l .i) (l .inv .1) (c .truck-at .result) (omega (arith, length-opened [])) (c .truck-at .ensures))
+    (omega arith, fill-step (truckAt (a .d .now)) (openedTrucks []) (l .trucks) (l .i) (l .inv .1) (c .truck-at .result) (omega (arith, length-opened [])) (c .truck-at .ensures))
 
 returns : tie.Need-returns Inv-loop μ-loop
 returns c =
-    let a = c .before .before .before .before .args in
+    let a = c .before .before .before .before .before .args in
     c .before .loop .inv .1 ∙ ap (λ (k : ℕ). filled (truckAt (a .d .now)) k (openedTrucks [])) (omega arith)
 
 pub with-trucks-spec : {M : Type 1} → statement M

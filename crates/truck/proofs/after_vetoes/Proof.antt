@@ -5,7 +5,7 @@ use Rattle.truck.proofs.after_vetoes.Statement.{statement}
 use Rattle.truck.proofs.after_vetoes.Tie as tie
 
 returns : tie.Need-returns
-returns c = rw (c .before .before .before .count .ensures, sym (c .before .before .decides .ensures) ∙ c .before .if1 .taken)
+returns c = rw (c .before .before .count .ensures, sym (c .before .decides .ensures) ∙ c .if1 .taken)
 
 returns-2 : tie.Need-returns-2
 returns-2 c = rw (c .before .before .count .ensures, sym (c .before .decides .ensures) ∙ c .if1 .left)

@@ -22,55 +22,48 @@ use Rattle.fleet.proofs.replay.fleet_of.Tie as tie
 abbrev built : List ℕ → Sets → List ℕ → List ℕ → List ℕ → ℕ → Truck
 built openings b by ends sent i = truckBy b by (getD openings i 0) (getD ends i 0) (sentBy sent (inUse sent 8) (31 - i)) (31 - i)
 
--- the record f₀ with its first i trucks so
-abbrev upTo : Fleet → List ℕ → Sets → List ℕ → List ℕ → List ℕ → ℕ → Fleet
-upTo f₀ openings b by ends sent i = record { n = f₀ .n; done = f₀ .done; trucks = filled (built openings b by ends sent) i (f₀ .trucks) }
-
 abbrev Inv-loop : tie.InvT-loop
-Inv-loop openings b by ends sent f₀ n m i₀ f i = (i ≤ n) × (f ≡ upTo f₀ openings b by ends sent i)
+Inv-loop c openings b by ends sent trucks₀ n m i₀ trucks i = (i ≤ n) × (trucks ≡ filled (built openings b by ends sent) i trucks₀)
 
 abbrev μ-loop : tie.MeasureT-loop
-μ-loop openings b by ends sent f₀ n m i₀ f i = n - i
+μ-loop c openings b by ends sent trucks₀ n m i₀ trucks i = n - i
 
 loop-holds : tie.Need-loop-holds Inv-loop μ-loop
 loop-holds c =
-    let a = c .before .before .before .args in (
-      search needs,
-      ap (λ (l : List Truck). record { n = a .c .trucks; done = a .c .rounds; trucks = l })
-          (sym (filled-none (built (a .openings .now) (a .b) (a .by .now) (a .ends .now) (a .sent .now)) (c .before .before .blank .result .trucks))),
-    )
+    let a = c .before .before .before .before .args in
+    (search needs, sym (filled-none (built (a .openings .now) (a .b) (a .by .now) (a .ends .now) (a .sent .now)) (c .before .before .before .blank .result .trucks)))
 
 sent-at-requires : tie.Need-sent-at-requires Inv-loop μ-loop
 sent-at-requires c κs =
     let u = c .before .before .before .before .in-use in
-    let a = c .before .before .before .before .before .before .before .args in
+    let a = c .before .before .before .before .before .before .before .before .args in
     (omega (arith, u .ensures, in-use-most (a .sent .now) 8), omega arith)
 
 loop-again : tie.Need-loop-again Inv-loop μ-loop
 unfolding blank
 loop-again c =
-    let z = c .before .before .before .before .before .before .before .before .before in
+    let z = c .before .before .before .before .before .before .before .before .before .before in
     let a = z .args in
-    let g = c .before .before .before .before .before .before .before .before .blank in
+    let g = c .before .before .before .before .before .before .before .before .before .blank in
     let l = c .before .before .before .before .before .loop in
     let u = c .before .before .before .before .before .before .in-use in (
       search needs,
-      ap₂ (λ (f : Fleet) (x : List Truck). record { n = f .n; done = f .done; trucks = x }) (l .inv .1)
-          (fill-step (built (a .openings .now) (a .b) (a .by .now) (a .ends .now) (a .sent .now)) (g .result .trucks) (l .f .trucks) (l .i) (ap (λ (f : Fleet). f .trucks) (l .inv .1)) (c .truck-of .result)
+      fill-step (built (a .openings .now) (a .b) (a .by .now) (a .ends .now) (a .sent .now)) (g .result .trucks) (l .trucks) (l .i) (l .inv .1) (c .truck-of .result)
           (omega (arith, z .pre, ap (λ (f : Fleet). length (f .trucks)) (g .ensures), length-opened []))
           (c .truck-of .ensures
           ∙ ap (λ (x : Sent). truckBy (a .b) (a .by .now) (getD (a .openings .now) (l .i) 0) (getD (a .ends .now) (l .i) 0) x (31 - l .i))
-          (c .before .sent-at .ensures ∙ ap (λ (m : ℕ). sentBy (a .sent .now) m (31 - l .i)) (u .ensures)))),
+          (c .before .sent-at .ensures ∙ ap (λ (m : ℕ). sentBy (a .sent .now) m (31 - l .i)) (u .ensures))),
     )
 
 returns : tie.Need-returns Inv-loop μ-loop
 unfolding blank
 returns c =
-    let a = c .before .before .before .before .before .args in
+    let a = c .before .before .before .before .before .before .args in
     let l = c .before .loop in
-    l .inv .1
-    ∙ ap₂ (λ (i : ℕ) (x : List Truck). record { n = a .c .trucks; done = a .c .rounds; trucks = filled (built (a .openings .now) (a .b) (a .by .now) (a .ends .now) (a .sent .now)) i x })
-    (omega (arith, l .inv .0, c .loop-test .left)) (ap (λ (f : Fleet). f .trucks) (c .before .before .before .before .blank .ensures))
+    ap (λ (x : List Truck). record { n = a .c .trucks; done = a .c .rounds; trucks = x })
+    (l .inv .1
+    ∙ ap₂ (λ (i : ℕ) (x : List Truck). filled (built (a .openings .now) (a .b) (a .by .now) (a .ends .now) (a .sent .now)) i x)
+    (omega (arith, l .inv .0, c .loop-test .left)) (ap (λ (f : Fleet). f .trucks) (c .before .before .before .before .before .blank .ensures)))
 
 pub fleet-of-spec : {M : Type 1} → statement M
 fleet-of-spec =

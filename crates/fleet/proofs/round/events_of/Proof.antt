@@ -1,6 +1,6 @@
 -- `events_of` meets its contract.
 use mathlib.Core.Path.{_≡_, ap, sym, _∙_}
-use Prim.Native.Nat.{ℕ, _≤_, _+_, _-_}
+use Prim.Native.Nat.{ℕ, _≤_, _<_, _+_, _-_}
 use native.Mathlib.Omega.{arith}
 use borrow.Author.Needs.{needs}
 use lib.ListN.{getD}
@@ -14,35 +14,46 @@ use Rattle.fleet.proofs.round.events_of.Statement.{statement}
 use Rattle.fleet.proofs.round.events_of.Tie as tie
 
 abbrev Inv-loop : tie.InvT-loop
-Inv-loop words senders values f n proposals stop mark events₀ i₀ events i = (i ≤ n) × (events ≡ filled (eventAt f words senders values) i noEvents)
+Inv-loop n done words senders values held end proposals stop mark events₀ i₀ events i = (i ≤ end) × (events ≡ filled (eventAt done words senders values held) i noEvents)
 
 abbrev μ-loop : tie.MeasureT-loop
-μ-loop words senders values f n proposals stop mark events₀ i₀ events i = n - i
+μ-loop n done words senders values held end proposals stop mark events₀ i₀ events i = end - i
 
 loop-holds : tie.Need-loop-holds Inv-loop μ-loop
 loop-holds c =
-    let a = c .before .before .before .args in
-    (search needs, sym (filled-none (eventAt (a .t1) (a .words .now) (a .senders) (a .values .now)) noEvents))
+    let a = c .before .before .before .before .args in
+    (search needs, sym (filled-none (eventAt (a .done) (a .words .now) (a .senders) (a .values .now) (a .held .now)) noEvents))
+
+-- the loop's bound is n
+below : (c : tie.In-loop Inv-loop μ-loop) → c .before .loop .i < c .before .before .before .before .before .before .args .n
+below c = let z = c .before .before .before .before .before .before in omega (arith, c .loop-test .taken, c .before .before .before .before .places .ensures, z .pre .0)
+
+place : (c : tie.In-loop Inv-loop μ-loop) → c .before .loop .i < 32
+place c = omega (arith, below c, c .before .before .before .before .before .before .pre .0)
 
 loop-again : tie.Need-loop-again Inv-loop μ-loop
 loop-again c =
-    let s = c .before .before .before .before .before .before .before .before .before .before .before .before .before in
+    let n = c .before .before .before .before .before .before .before .before in
+    let s = n .before .before .before .before .before .before in
     let a = s .args in
-    let f = a .t1 in
     let w = a .words .now in
-    let o = c .before .before .before .before .before .before .before .before .before .loop in
-    let h = c .before .before .before .before .heard-by in
-    let heard = heard-by-own (a .senders) (getD w (3 + o .i) 0) (o .i) (c .before .before .before .before .before .only .result) (h .result) (h .ensures)
-    (c .before .before .before .before .before .only .ensures ∙ only-is (o .i) (omega (arith, c .before .before .before .before .before .before .before .before .loop-test .taken, s .pre .0))) in
-    let is : c .event-of .result ≡ eventAt f w (a .senders) (a .values .now) (o .i) =
-    rw (c .event-of .ensures, c .before .before .before .holds .ensures, c .before .before .holds2 .ensures, c .before .holds3 .ensures, heard, next-kind (f .done)) in
-    (search needs, fill-step (eventAt f w (a .senders) (a .values .now)) noEvents (o .events) (o .i) (o .inv .1) (c .event-of .result) (omega (arith, c .before .before .before .before .before .before .before .before .loop-test .taken, s .pre .0)) is)
+    let o = n .before .loop in
+    let h = c .before .before .before .before .before .heard-by in
+    let only = c .before .before .before .before .before .before .only in
+    let less = place n in
+    let heard = heard-by-own (a .senders) (getD w (3 + o .i) 0) (o .i) (only .result) (h .result) (h .ensures) (only .ensures ∙ only-is (o .i) less) in
+    let is : c .event-of .result ≡ eventAt (a .done) w (a .senders) (a .values .now) (a .held .now) (o .i) =
+    rw (c .event-of .ensures, c .before .before .before .before .holds .ensures, c .before .before .before .holds2 .ensures, c .before .before .holds3 .ensures, heard, next-kind (a .done)) in
+    (omega (arith, n .loop-test .taken), fill-step (eventAt (a .done) w (a .senders) (a .values .now) (a .held .now)) noEvents (o .events) (o .i) (o .inv .1) (c .event-of .result) less is)
 
 returns : tie.Need-returns Inv-loop μ-loop
 returns c =
-    let a = c .before .before .before .before .before .args in
+    let z = c .before .before .before .before .before .before in
+    let a = z .args in
     let o = c .before .loop in
-    o .inv .1 ∙ ap (λ (m : ℕ). filled (eventAt (a .t1) (a .words .now) (a .senders) (a .values .now)) m noEvents) (let e : o .i ≡ a .t1 .n = omega (arith, o .inv .0, c .loop-test .left) in e)
+    o .inv .1
+    ∙ ap (λ (m : ℕ). filled (eventAt (a .done) (a .words .now) (a .senders) (a .values .now) (a .held .now)) m noEvents)
+    (let e : o .i ≡ a .n = omega (arith, o .inv .0, c .loop-test .left, c .before .before .before .before .places .ensures, z .pre .0) in e)
 
 pub events-of-spec : {M : Type 1} → statement M
 events-of-spec =
@@ -50,24 +61,23 @@ events-of-spec =
     (tie.spec
     Inv-loop
     μ-loop
-    (λ c. search needs)
+    (λ c κs. search needs)
     (λ c. search needs)
     (λ c. search needs)
     loop-holds
-    (λ c. search needs)
-    (λ c. search needs)
-    (λ c. search needs)
-    (λ c. search needs)
-    (λ c. search needs)
+    (λ c. record { fits = omega (arith, place c) })
+    (λ c. record { fits = omega (arith, place c) })
+    (λ c. omega (arith, below (c .before), c .before .before .before .before .before .before .before .pre .1))
     (λ c κs. search needs)
     (λ c κs. search needs)
     (λ c κs. search needs)
     (λ c κs. search needs)
     (λ c κs. search needs)
+    (λ c. place (c .before .before .before .before .before .before))
     (λ c κs. search needs)
-    (λ c. search needs)
-    (λ c. search needs)
-    (λ c. search needs)
+    (λ c. record { fits = omega (arith, place (c .before .before .before .before .before .before .before .before)) })
+    (λ c. place (c .before .before .before .before .before .before .before .before))
+    (λ c. record { fits = omega (arith, place (c .before .before .before .before .before .before .before .before)) })
     (λ c. search needs)
     loop-again
     returns)

@@ -1,46 +1,76 @@
--- `senders_of` meets its contract.
-use mathlib.Core.Path.{_≡_, ap₂, subst, _∙_}
+-- `senders_of` meets its contract: the loop holds the senders among the trucks passed, those of each crusher, and these trucks' estimates.
+use mathlib.Core.Path.{_≡_, refl, ap, ap₂, sym, subst, _∙_}
 use mathlib.Core.Bool.{Bool, cond, not, _&&_}
-use Prim.Native.Nat.{ℕ, _≤_, _-_, _%_}
+use Prim.Native.Nat.{ℕ, _≤_, _<_, _-_, _%_}
 use native.Mathlib.Omega.{arith}
 use native.Mathlib.Numerals.{add-one}
 use borrow.Author.Needs.{needs}
 use lib.Dec.{eqb}
+use Rattle.basics.specs.Lists.{filled}
+use Rattle.basics.proofs.Laws.{filled-none, fill-step}
 use Rattle.protocol.specs.Rules.{truck, runs, vetoes}
-use Rattle.sets.specs.Sets.{Members}
-use Rattle.fleet.specs.Rounds.{stepRadio}
-use Rattle.sets.proofs.Members.{only-is, members-none, members-next}
+use Rattle.sets.proofs.Members.{only-is}
+use Rattle.fleet.specs.Rounds.{estimates, stepRadio}
 use Rattle.fleet.proofs.Laws.{next-kind}
+use Rattle.fleet.proofs.Sorting.{Sending, sending-starts, sending-more, sending-done}
 use Rattle.fleet.proofs.Turns.{sends-is}
 use Rattle.fleet.proofs.round.senders_of.Statement.{statement}
 use Rattle.fleet.proofs.round.senders_of.Tie as tie
 
 abbrev Inv-loop : tie.InvT-loop
-Inv-loop words f n proposals stop active senders₀ i₀ senders i = (i ≤ n) × Members senders i (stepRadio f words .sends)
+Inv-loop words values₀ held₀ f n proposals stop active senders₀ i₀ values held senders i =
+    (i ≤ n) × Sending (stepRadio f words .sends) (estimates (f .trucks)) i senders values × (held ≡ filled (estimates (f .trucks)) i held₀)
 
 abbrev μ-loop : tie.MeasureT-loop
-μ-loop words f n proposals stop active senders₀ i₀ senders i = n - i
+μ-loop words values₀ held₀ f n proposals stop active senders₀ i₀ values held senders i = n - i
 
 loop-holds : tie.Need-loop-holds Inv-loop μ-loop
-loop-holds c = (search needs, members-none 0 _ (λ j l. absurd (omega arith)))
+loop-holds c =
+    let z = c .before .before .before in
+    let est = estimates (z .args .t1 .trucks) in (
+      search needs,
+      rw (z .pre .3) (sending-starts (stepRadio (z .args .t1) (z .args .words .now) .sends) est),
+      sym (filled-none est (z .args .held .now)),
+    )
+
+element-write-held : tie.Need-element-write-held Inv-loop μ-loop
+element-write-held c = omega (arith, c .before .before .before .before .before .loop-test .taken, c .before .before .before .before .before .before .before .before .before .before .pre .0)
+
+small : (c : tie.After-union-where Inv-loop μ-loop)
+    → estimates (c .before .before .before .before .before .before .before .before .before .before .before .before .args .t1 .trucks) (c .before .before .before .before .before .before .before .before .loop .i) < 16
+small c =
+    c .before .before .before .before .before .before .before .before .before .before .before .before .pre .2
+    (c .before .before .before .before .before .before .before .before .loop .i) (c .before .before .before .before .before .before .before .loop-test .taken)
 
 loop-again : tie.Need-loop-again Inv-loop μ-loop
 loop-again c =
-    let s = c .before .before .before .before .before .before .before .before .before .before .before in
-    let a = s .args in
-    let o = c .before .before .before .before .before .before .before .loop in (
+    let u = c .before .before .before in
+    let z = u .before .before .before .before .before .before .before .before .before .before .before .before in
+    let a = z .args in
+    let f = a .t1 in
+    let o = u .before .before .before .before .before .before .before .before .loop in
+    let less = u .before .before .before .before .before .before .before .loop-test .taken in
+    let sends = u .before .before .before .sends in
+    let below : o .i < 32 = omega (arith, less, z .pre .0) in (
       search needs,
-      rw (c .union-where .ensures, c .before .only .ensures ∙ only-is (o .i) (omega (arith, c .before .before .before .before .before .before .loop-test .taken, s .pre .0)), add-one (o .i)) (members-next (o .inv .1) (c .before .before .sends .result)
-          (c .before .before .sends .ensures
-          ∙ ap₂ (λ (x y : Bool). (runs (truck (a .t1 .trucks) (o .i)) && not x) && cond (eqb (a .t1 .done % 2) 0) y (vetoes (truck (a .t1 .trucks) (o .i)))) (c .before .before .before .before .holds .ensures) (c .before .before .before .holds2 .ensures)
-          ∙ sends-is (a .t1) (a .words .now) (o .i) (eqb (a .t1 .done % 2) 0) (next-kind (a .t1 .done)))),
+      rw (c .union-where2 .ensures, u .union-where .ensures, c .before .only2 .ensures ∙ only-is (o .i) below, u .before .only .ensures ∙ only-is (o .i) below, add-one (o .i))
+          (sending-more (stepRadio f (a .words .now) .sends) (estimates (f .trucks)) (o .inv .1) (small u) (sends .result)
+          (sends .ensures
+          ∙ ap₂ (λ (x y : Bool). (runs (truck (f .trucks) (o .i)) && not x) && cond (eqb (f .done % 2) 0) y (vetoes (truck (f .trucks) (o .i)))) (u .before .before .before .before .before .holds .ensures) (u .before .before .before .before .holds2 .ensures)
+          ∙ sends-is f (a .words .now) (o .i) (eqb (f .done % 2) 0) (next-kind (f .done)))),
+      fill-step (estimates (f .trucks)) (a .held .now) (o .held) (o .i) (o .inv .2) (estimates (f .trucks) (o .i)) (omega (arith, below, z .pre .4)) refl,
     )
 
 returns : tie.Need-returns Inv-loop μ-loop
 returns c =
-    let a = c .before .before .before .before .before .args in
+    let z = c .before .before .before .before .before in
+    let f = z .args .t1 in
     let o = c .before .loop in
-    subst (λ (m : ℕ). Members (o .senders) m (stepRadio (a .t1) (a .words .now) .sends)) (let e : o .i ≡ a .t1 .n = omega (arith, o .inv .0, c .loop-test .left) in e) (o .inv .1)
+    let end : o .i ≡ f .n = omega (arith, o .inv .0, c .loop-test .left) in
+    let done = subst (λ (m : ℕ). Sending (stepRadio f (z .args .words .now) .sends) (estimates (f .trucks)) m (o .senders) (o .values)) end (o .inv .1) in (
+      done .all,
+      (sending-done (stepRadio f (z .args .words .now) .sends) (estimates (f .trucks)) done, o .inv .2 ∙ ap (λ (m : ℕ). filled (estimates (f .trucks)) m (z .args .held .now)) end),
+    )
 
 pub senders-of-spec : {M : Type 1} → statement M
 senders-of-spec =
@@ -57,8 +87,16 @@ senders-of-spec =
     (λ c κs. search needs)
     (λ c κs. search needs)
     (λ c κs. search needs)
+    (λ c. search needs)
+    element-write-held
     (λ c κs. search needs)
     (λ c κs. search needs)
+    (λ c. search needs)
+    small
+    (λ c κs. search needs)
+    (λ c κs. search needs)
+    (λ c. search needs)
+    (λ c. small (c .before .before .before))
     (λ c. search needs)
     (λ c. search needs)
     loop-again

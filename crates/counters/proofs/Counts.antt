@@ -10,7 +10,7 @@ use borrow.Author.Tests.{eqb-true}
 use lib.Bits.{bitAnd, bitXor, and-zero-r, xor-zero-r, and-block, and-mask}
 use lib.Dec.{eqb, lit<}
 use lib.Pow.{pow-pos, split}
-use lib.ListN.{length, getD, set, length-set}
+use lib.ListN.{length, getD, set, replicate, length-set}
 use lib.Seq.{getD-set-same, getD-set-other, set-getD}
 use Rattle.basics.specs.Bits.{digit, bit}
 use Rattle.basics.proofs.Bits.{bit-and, bit-xor, oneOf}
@@ -68,6 +68,13 @@ digit-most : (b : Bool) → digitOf b ≤ 1
 digit-most true = omega arith
 digit-most false = omega arith
 
+-- a count of m digits
+pub tally-lt : (words : List ℕ) (m p : ℕ) → tally words m p < 2 ^ m
+unfolding tally
+tally-lt words zero p = omega arith
+tally-lt words (suc m) p =
+    omega (arith, tally-lt words m p, mul-le-mul-right (2 ^ m) (digit-most (bit (getD words m 0) p)), pow-suc 2 m)
+
 module _ (words : List ℕ) (who p : ℕ) (long : length words ≡ 8) where
   -- the digits raised so far, and what is carried to the next
   raised-sum : (i : ℕ) → i ≤ 8 → tally (raised words who i) i p + digitOf (bit (carried words who i) p) * 2 ^ i ≡ tally words i p + digitOf (bit who p)
@@ -83,9 +90,12 @@ module _ (words : List ℕ) (who p : ℕ) (long : length words ≡ 8) where
       tally-same (raised words who (suc i)) (raised words who i) p i (λ k lk. getD-set-other (raised words who i) i k (bitXor (getD words i 0) (carried words who i)) 0 (λ e. omega arith)) in
       rw (t, a, b, pow-suc 2 i) (omega (arith, half-adder x y (2 ^ i), raised-sum i (omega arith)))
 
-  -- one more at the places of a set, for counts below 255
-  pub tally-up : tally words 8 p < 255 → tally (countedUp words who) 8 p ≡ tally words 8 p + digitOf (bit who p)
-  tally-up h = omega (arith, raised-sum 8 (omega arith), h, digit-most (bit who p))
+  -- one more at the places of a set; of 255, 0
+  pub tally-up : tally (countedUp words who) 8 p ≡ (tally words 8 p + digitOf (bit who p)) % 256
+  tally-up = omega (arith, raised-sum 8 (omega arith), tally-lt (countedUp words who) 8 p)
+
+  pub tally-more : tally words 8 p < 255 → tally (countedUp words who) 8 p ≡ tally words 8 p + digitOf (bit who p)
+  tally-more h = omega (arith, tally-up, h, digit-most (bit who p))
 
 pub length-up : (words : List ℕ) (who : ℕ) → length words ≡ 8 → length (countedUp words who) ≡ 8
 length-up words who long = length-raised words who 8 ∙ long
@@ -119,13 +129,6 @@ in-use-most words (suc m) = go (eqb (getD words m 0) 0) (in-use-most words m)
     go true h = omega arith
     go false h = omega arith
 
--- a count of m digits
-pub tally-lt : (words : List ℕ) (m p : ℕ) → tally words m p < 2 ^ m
-unfolding tally
-tally-lt words zero p = omega arith
-tally-lt words (suc m) p =
-    omega (arith, tally-lt words m p, mul-le-mul-right (2 ^ m) (digit-most (bit (getD words m 0) p)), pow-suc 2 m)
-
 -- a bit as a number is the digit
 pub digit-of : (w j : ℕ) → digitOf (bit w j) ≡ digit w j
 digit-of w j = go (digit w j) (mod-lt (w / 2 ^ j) (lit< tt))
@@ -141,3 +144,11 @@ and-pair x =
     ap (λ (y : ℕ). bitAnd y 4294967297) (sym (split x 32))
     ∙ and-block 32 (x / 2 ^ 32) 1 (x % 2 ^ 32) 1 (mod-lt x (pow-pos 32)) (lit< tt)
     ∙ omega (arith, and-mask (x / 2 ^ 32) 1, and-mask (x % 2 ^ 32) 1, digit-of x 0, digit-of x 32)
+
+-- computed: places 0 and 1, then 0 alone, then 0 and 63
+abbrev three : List ℕ
+three = countedUp (countedUp (countedUp (replicate 8 0) 3) 1) 9223372036854775809
+
+pub count-cases : (tally three 8 0 ≡ 3) × (tally three 8 1 ≡ 1) × (tally three 8 2 ≡ 0) × (tally three 8 63 ≡ 1) × (inUse three 8 ≡ 2)
+unfolding tally carried raised inUse
+count-cases = (refl, refl, refl, refl, refl)

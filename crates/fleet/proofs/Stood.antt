@@ -20,7 +20,7 @@ use Rattle.radio.proofs.Laws.{hears-itself, count-some}
 use Rattle.basics.proofs.Bits.{bit-and, bit-or, bit-xor, oneOf}
 use Rattle.sets.proofs.Words.{bit-without, bit-high, bit-zero, bit-power, bit-shifted, bit-below, no-bits}
 use Rattle.counters.specs.Counters.{digitOf, tally, countedUp}
-use Rattle.counters.proofs.Counts.{tally-up, length-up}
+use Rattle.counters.proofs.Counts.{tally-more, length-up}
 use Rattle.sets.proofs.Mirror.{mirror-twice, mirror-zero}
 use Rattle.bitreader.specs.Bits.{mirrored}
 use Rattle.protocol.specs.declared.Heard.{Heard}
@@ -217,7 +217,7 @@ module _ {n last k : ℕ} {opening : ℕ → ℕ} {ts : List Truck} {by ends sen
       where
         one-more : (p c : ℕ) {b : Bool} → c ≡ tally sent 8 p → c < 255 → bit up p ≡ b → counted b c ≡ tally (countedUp sent up) 8 p
         one-more p c {b} e lt eb =
-            added b c ∙ ap₂ (λ (x : ℕ) (y : Bool). x + digitOf y) e (sym eb) ∙ sym (tally-up sent up p (st .digits) (omega (arith, e)))
+            added b c ∙ ap₂ (λ (x : ℕ) (y : Bool). x + digitOf y) e (sym eb) ∙ sym (tally-more sent up p (st .digits) (omega (arith, e)))
 
     -- those whose end it is, where those of on run on
     ended-bit : (on j : ℕ) → holds (without running on) j ≡ (holds running j && not (holds on j))

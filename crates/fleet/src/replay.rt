@@ -290,7 +290,7 @@ fn heard_of(running: bool, one: bool, several: bool) -> Heard
 }
 
 // How many proposals and vetoes the truck at place p sent, by the first m words of the counts. Proposals are counted at its place and vetoes 32 places further,
-// so one shift brings the digits of both down.
+// so one shift brings the digits of both down, to the bits worth 1 and 2 to the 32.
 fn sent_at(words: &[u64; 8], m: usize, p: usize) -> Sent
     requires { ⌜ (m ≤ 8) × (p < 32) ⌝ }
     ensures { λ r. ⌜ r ≡ sentBy (now (words .entry)) m p ⌝ }

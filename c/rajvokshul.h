@@ -181,7 +181,7 @@ uint32_t rajvokshul_write(uint32_t trucks, uint32_t rounds, const uint8_t *openi
  *   + 5, 6   the round of its stop or decision, low byte first; 0 for a running truck
  *   + 7      how many proposals it has sent: at most as many as odd rounds are done
  *   + 8      how many vetoes it has sent: at most as many as even rounds are done
- *   + 9      0
+ *   + 9      0; bytes with anything else there are no record
  * A start and a run write all 32 places; those of trucks n and above are 0. Nothing reads them, and a step leaves them as
  * they are. The inline functions read the fields of a record of 323 bytes; i counts trucks from 0, and of a number of 32
  * or above 0 is answered. */

@@ -11,6 +11,10 @@ pub record Put (d : List ℕ) (at : ℕ) (s : List ℕ) (d′ : List ℕ) (r : �
   pub front : take r d′ ≡ take at d ++ s
   pub rest : drop r d′ ≡ drop r d
 
+-- a word, a number, another word, and another number
+abbrev pub twoText : List ℕ → ℕ → List ℕ → ℕ → List ℕ
+twoText first a second b = first ++ decimal a ++ second ++ decimal b
+
 -- the parts of a line
 abbrev pub openingText : ℕ → ℕ → List ℕ
 openingText i v = decimal i ++ text " opened " ++ decimal v

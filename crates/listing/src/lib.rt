@@ -7,7 +7,7 @@ ghost use Rattle.basics.specs.Lists.{sumBelow};
 ghost use Rattle.protocol.specs.Rules.{truck};
 ghost use Rattle.listing.specs.Text.{decimal, stateText, truckLine, truckLines, listingOf, locationText, refusalText};
 ghost use Rattle.listing.specs.Listed.{left, textIn, listed, refusalListed};
-ghost use Rattle.listing.specs.Writing.{Put, openingText, endedText, headerText, spaced, sentLine};
+ghost use Rattle.listing.specs.Writing.{Put, openingText, endedText, headerText, spaced, sentLine, twoText};
 use protocol::Fleet;
 use protocol::State;
 use protocol::Truck;
@@ -64,6 +64,18 @@ fn put_number(buf: &mut [u8], at: usize, k: u16) -> usize
     }
 }
 
+// Puts a word, a number, another word, and another number.
+fn put_two(buf: &mut [u8], at: usize, first: &[u8], a: u16, second: &[u8], b: u16) -> usize
+    requires { ⌜ at + length (now first) + length (now second) + 10 ≤ length (now buf) ⌝ }
+    ensures placed { λ r. ⌜ Put (now (buf .entry)) at (twoText (now (first .entry)) a (now (second .entry)) b) (now (buf .exit)) r ⌝ }
+    ensures within { λ r. ⌜ r ≤ at + length (now (first .entry)) + length (now (second .entry)) + 10 ⌝ }
+{
+    let p = put(buf, at, first);
+    let q = put_number(buf, p, a);
+    let r = put(buf, q, second);
+    put_number(buf, r, b)
+}
+
 // Puts a truck's number and opening.
 fn put_opening(buf: &mut [u8], at: usize, i: u16, opening: u8) -> usize
     requires { ⌜ at + 18 ≤ length (now buf) ⌝ }
@@ -81,10 +93,7 @@ fn put_ended(buf: &mut [u8], at: usize, word: &[u8], crusher: u8, round: u16) ->
     ensures placed { λ r. ⌜ Put (now (buf .entry)) at (endedText (now (word .entry)) crusher round) (now (buf .exit)) r ⌝ }
     ensures within { λ r. ⌜ r ≤ at + 26 ⌝ }
 {
-    let a = put(buf, at, word);
-    let b = put_number(buf, a, crusher as u16);
-    let c = put(buf, b, b" round ");
-    put_number(buf, c, round)
+    put_two(buf, at, word, crusher as u16, b" round ", round)
 }
 
 // Puts a truck's state, crusher and, where it has one, round.
@@ -109,11 +118,8 @@ fn put_sent(buf: &mut [u8], at: usize, proposals: u16, vetoes: u16) -> usize
     ensures placed { λ r. ⌜ Put (now (buf .entry)) at (sentLine proposals vetoes) (now (buf .exit)) r ⌝ }
     ensures within { λ r. ⌜ r ≤ at + 24 ⌝ }
 {
-    let a = put(buf, at, b"sent ");
-    let b = put_number(buf, a, proposals);
-    let c = put(buf, b, b" vetoes ");
-    let d = put_number(buf, c, vetoes);
-    put(buf, d, b"\n")
+    let end = put_two(buf, at, b"sent ", proposals, b" vetoes ", vetoes);
+    put(buf, end, b"\n")
 }
 
 // Puts the line of truck i.
@@ -136,11 +142,8 @@ fn put_header(buf: &mut [u8], at: usize, n: u8, done: u16) -> usize
     ensures placed { λ r. ⌜ Put (now (buf .entry)) at (headerText n done) (now (buf .exit)) r ⌝ }
     ensures within { λ r. ⌜ r ≤ at + 26 ⌝ }
 {
-    let a = put(buf, at, b"trucks ");
-    let b = put_number(buf, a, n as u16);
-    let c = put(buf, b, b" rounds ");
-    let d = put_number(buf, c, done);
-    put(buf, d, b"\n")
+    let end = put_two(buf, at, b"trucks ", n as u16, b" rounds ", done);
+    put(buf, end, b"\n")
 }
 
 // Puts the lines of the trucks below n.
@@ -215,10 +218,7 @@ fn put_location(buf: &mut [u8], at: usize, p: Location) -> usize
     match p {
         Location::Unnamed => at,
         Location::At { round, truck } => {
-            let a = put(buf, at, b" round ");
-            let b = put_number(buf, a, round);
-            let c = put(buf, b, b" truck ");
-            put_number(buf, c, truck as u16)
+            put_two(buf, at, b" round ", round, b" truck ", truck as u16)
         }
     }
 }

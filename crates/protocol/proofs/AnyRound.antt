@@ -82,6 +82,14 @@ module _ {T : Type 0} {K : Kind T} (c : Rules K) (n : ℕ) (active : ℕ → Boo
   unfolding radioIn
   sender-runs i h = and-left (runsIn K (old i) && not (stopBit w i)) (c .sends k (active i) (old i)) h
 
+  -- one that doesn't run after the round's stops doesn't send
+  pub idle-silent : (i : ℕ) → (radio .running i ≡ true → ⊥) → radio .sends i ≡ false
+  idle-silent i h = go (radio .sends i) refl
+    where
+      go : (b : Bool) → radio .sends i ≡ b → b ≡ false
+      go true e = absurd (h (sender-runs i e))
+      go false e = refl
+
   pub running-runs : (i : ℕ) → radio .running i ≡ true → runsIn K (truckIn K ts i) ≡ true
   unfolding radioIn
   running-runs i h = and-left (runsIn K (old i)) (not (stopBit w i)) h

@@ -21,7 +21,7 @@ use Rattle.protocol.specs.Rules.{counted, truck, runs, radioOf, valuesHe
 use Rattle.protocol.specs.Runs.{radioAt, trucksAt}
 use Rattle.protocol.specs.Fleets.{twoRound, stepCheckIn, nextFleetIn, steppedIn, fleetIn}
 use Rattle.protocol.specs.Claims.{countsSent, SentCounts, StepCounts}
-use Rattle.protocol.proofs.AnyRound.{after-cases, sender-runs, running-runs, plays-is}
+use Rattle.protocol.proofs.AnyRound.{after-cases, idle-silent, running-runs, plays-is}
 use Rattle.protocol.proofs.AnyRun.{radio-suc, opened-truck, throughout}
 use Rattle.protocol.proofs.Rules.{plays-cases}
 use Rattle.protocol.proofs.OneRound.{sound-two}
@@ -43,14 +43,6 @@ module _ (n : ℕ) (active : ℕ → Bool) (k : ℕ) (w : List ℕ) (ts : List T
     sym (ap (λ (b : Bool). counted b (c .vetoes)) (ap (λ (b : Bool). not (odd k) && b) e ∙ and-false (not (odd k)))),
   )
 
-  -- nor does one that stops or doesn't run send
-  silent : (i : ℕ) → (a .running i ≡ true → ⊥) → a .sends i ≡ false
-  silent i h = go (a .sends i) refl
-    where
-      go : (b : Bool) → a .sends i ≡ b → b ≡ false
-      go true e = absurd (h (sender-runs twoRules n active k w ts i e))
-      go false e = refl
-
   -- what a round makes of the counts
   pub counts-after : (i : ℕ) → i < n
       → (truck (after n active k w ts) i .sent .proposals ≡ counted (odd k && radioOf n active k w ts .sends i) (truck ts i .sent .proposals))
@@ -58,8 +50,8 @@ module _ (n : ℕ) (active : ℕ → Bool) (k : ℕ) (w : List ℕ) (ts : List T
   unfolding radioIn
   counts-after i l =
       after-cases twoRules n active k w ts (λ (t : Truck). Adds (a .sends i) (truck ts i .sent) (t .sent)) i l
-      (λ h. adds-none (a .sends i) (truck ts i .sent) (silent i (λ r. absurd (true≢false (sym (running-runs twoRules n active k w ts i r) ∙ h)))))
-      (λ h s. adds-none (a .sends i) (truck ts i .sent) (silent i (λ r. absurd (true≢false (sym (and-right (runs (truck ts i)) (not (stopBit w i)) r) ∙ ap not s)))))
+      (λ h. adds-none (a .sends i) (truck ts i .sent) (idle-silent twoRules n active k w ts i (λ r. absurd (true≢false (sym (running-runs twoRules n active k w ts i r) ∙ h)))))
+      (λ h s. adds-none (a .sends i) (truck ts i .sent) (idle-silent twoRules n active k w ts i (λ r. absurd (true≢false (sym (and-right (runs (truck ts i)) (not (stopBit w i)) r) ∙ ap not s)))))
       (λ h r.
       rw (plays-is twoRules n active k w ts i)
       (plays-cases k (activeBit w i) (a .sends i) (a .marked i) (valuesHeard a ts i) (truck ts i) (λ (t : Truck). Adds (a .sends i) (truck ts i .sent) (t .sent))

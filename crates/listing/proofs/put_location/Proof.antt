@@ -1,7 +1,7 @@
 -- `put_location` meets its contract.
 use native.Mathlib.Omega.{arith}
 use Rattle.listing.specs.Text.{locationText}
-use Rattle.listing.proofs.Laws.{put-none, put-join}
+use Rattle.listing.proofs.Laws.{put-none}
 use borrow.Author.Needs.{needs}
 use Rattle.listing.proofs.put_location.Statement.{statement}
 use Rattle.listing.proofs.put_location.Tie as tie
@@ -12,12 +12,7 @@ returns c = rw (c .enum-told .given .1) (put-none _ _, omega arith)
 
 returns-2 : tie.Need-returns-2
 unfolding locationText
-returns-2 c =
-    let text = c .before .before .before .before .before .before in
-    let round = text .before .before .before .before .before in
-    let word = round .before .before .before .before in
-    rw (word .before .before .before .before .p .given .1)
-    (put-join (put-join (put-join (word .put .ensures) (round .put-number .ensures .0)) (text .put2 .ensures)) (c .before .before .put-number2 .ensures .0), omega arith)
+returns-2 c = let two = c .before .before in rw (two .before .before .before .before .before .p .given .1) (two .put-two .ensures .0, omega arith)
 
 pub put-location-spec : {M : Type 1} → statement M
 put-location-spec =
@@ -26,10 +21,7 @@ put-location-spec =
     (λ c. search needs)
     (λ c. search needs)
     (λ c. search needs)
-    (λ c κs. search needs)
-    (λ c κs. search needs)
     (λ c. search needs)
-    (λ c κs. search needs)
     (λ c. search needs)
     (λ c κs. search needs)
     returns

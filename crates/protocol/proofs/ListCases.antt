@@ -43,8 +43,8 @@ twoOne = record { proposals = 2; vetoes = 1 }
 
 -- both trucks have come to crusher 3, run, and remember one value
 pub record-case : (lastRecord (started 2 (3 ∷ 5 ∷ []) .fleet) steps .done ≡ 3)
-    × (truck (lastRecord (started 2 (3 ∷ 5 ∷ []) .fleet) steps .trucks) 0 ≡ record { opening = 3; estimate = 3; mark = false; heard = One; state = Running; sent = twoOne })
-    × (truck (lastRecord (started 2 (3 ∷ 5 ∷ []) .fleet) steps .trucks) 1 ≡ record { opening = 5; estimate = 3; mark = false; heard = One; state = Running; sent = twoOne })
+    × (truck (lastRecord (started 2 (3 ∷ 5 ∷ []) .fleet) steps .trucks) 0 ≡ record { opening = 3; estimate = 3; mark = false; heard = One; unwilling = false; state = Running; sent = twoOne })
+    × (truck (lastRecord (started 2 (3 ∷ 5 ∷ []) .fleet) steps .trucks) 1 ≡ record { opening = 5; estimate = 3; mark = false; heard = One; unwilling = false; state = Running; sent = twoOne })
 unfolding badOpenings lastRecordIn steppedIn stepCheckIn nextFleetIn goodFleetIn goodTruckIn started startCheck badTrucks highBit badWords ownBit ownIn ownLoss ownRound ownTruck ownLossCheck roundsCheck roundCheck first someBelow allBelow tab tabFrom filled who hears heardBy heard radioIn valuesIn playsIn afterIn openedIn allSame different leastOr
 record-case = (refl, refl, refl)
 

@@ -8,7 +8,7 @@ use lib.Dec.{eqb}
 use lib.ListN.{length, getD}
 use Rattle.basics.specs.Bits.{odd}
 use Rattle.radio.specs.Round.{activeBit}
-use Rattle.radio.specs.Radio.{Radio, majorityComplete, calmFor, timesSent}
+use Rattle.radio.specs.Radio.{Radio, majorityComplete, zeroComplete, calmFor, timesSent}
 use Rattle.refusals.specs.declared.Outcome.the-variants.{Accepted}
 use Rattle.refusals.specs.declared.Refusal.the-variants.{RoundsDone}
 use Rattle.refusals.specs.Outcomes.{refuse}
@@ -19,7 +19,7 @@ use Rattle.protocol.specs.declared.State.the-variants.{Running, Stopped,
 use Rattle.protocol.specs.declared.Fleet.{Fleet}
 use Rattle.protocol.specs.Rules.{truck, radioOf}
 use Rattle.protocol.specs.Runs.{radiosIn, radioAt}
-use Rattle.protocol.specs.Fleets.{Protocol, twoRound, started, steppedIn, stepped, ranIn}
+use Rattle.protocol.specs.Fleets.{Protocol, twoRound, sixRound, started, steppedIn, stepped, ranIn}
 use Rattle.protocol.specs.Steps.{lastRecordIn, taken, roundIn, recordingOf}
 
 abbrev pub isDecided : State → Bool
@@ -105,6 +105,15 @@ MajorityAgreement = HoldsIn twoRound (agreesWith MajorityMarks)
 -- agreement, and decisions being openings, with cheaper marks in even rounds (document 02, F-12); false marks are allowed, and nothing else is assumed
 abbrev pub MixedAgreement : Type 0
 MixedAgreement = HoldsIn twoRound (agreesWith MixedMarks)
+
+-- marks are zero complete in every round
+abbrev pub ZeroMarks : Marks
+ZeroMarks = MarksIn sixRound (λ k. zeroComplete)
+
+-- what document 02, F-4, asks to be shown of the six-round cycle, from the start and in every round: agreement, and decisions being openings, with zero complete
+-- marks; with eleven calm rounds from S, in whose prepare rounds there are senders, each truck is decided or stopped by round S + 10; stepped or run the same
+abbrev pub SixDemand : Type 0
+SixDemand = DemandIn sixRound ZeroMarks
 
 -- each truck below n has sent as many proposals as there are odd rounds in which it sends, and as many vetoes as there are even ones
 abbrev pub countsSent : Claim

@@ -1,6 +1,6 @@
 -- Starting, stepping, running and grading a fleet, with their refusals (document 01, 'Who can cause which refusal'). The laws of what refusal 7 asks are in
 -- proofs/Good.
-use Prim.Native.Nat.{ℕ, _+_, _/_}
+use Prim.Native.Nat.{ℕ, _+_, _/_, _%_}
 use mathlib.Core.Bool.{Bool, true, false, cond, not, _&&_, _||_}
 use mathlib.Core.List.{List, [], _∷_}
 use lib.Dec.{eqb, leb, ltb}
@@ -15,6 +15,8 @@ use Rattle.refusals.specs.Numbers.{numberOf}
 use Rattle.refusals.specs.Outcomes.{refuse}
 use Rattle.recording.specs.Packed.{trucksOf, roundsOf, openingsOf, roundAt}
 use Rattle.recording.specs.Checks.{badTrucks, badOpenings, checkOf, roundCheck}
+use Rattle.protocol.specs.declared.Cycle.{Cycle}
+use Rattle.protocol.specs.declared.Cycle.the-variants.{TwoRound, SixRound}
 use Rattle.protocol.specs.declared.Heard.{Heard}
 use Rattle.protocol.specs.declared.Heard.the-variants.{Nothing, One, Several}
 use Rattle.protocol.specs.declared.State.{State}
@@ -29,9 +31,11 @@ use Rattle.protocol.specs.declared.Grading.the-variants.{Graded}
 use Rattle.protocol.specs.declared.Grading.the-variants as grading
 use Rattle.protocol.specs.Cycles.{Rules, afterIn}
 use Rattle.protocol.specs.Rules.{recorded, twoRules, truck, runs}
+use Rattle.protocol.specs.Six.{isPrepare, isAccept, sixRules}
 use Rattle.protocol.specs.Runs.{openedTrucks, trucksIn, radiosIn, gradesFor}
 
--- the record that a refused start or run holds: n 0, no rounds done, and in every place a running truck of opening and estimate 0 with empty memory and counts 0
+-- the record that a refused start or run holds: n 0, no rounds done, and in every place a running, willing truck of opening and estimate 0 with empty memory and
+-- counts 0
 unfoldable pub blank : Fleet
 blank = record { n = 0; done = 0; trucks = openedTrucks [] }
 
@@ -94,6 +98,28 @@ twoRound =
       calmSpan = 4;
       proposes = odd;
     }
+
+-- in the six-round cycle a truck is unwilling only while it runs and 2 to 5 rounds of the cycle are done; this takes the place of the memory
+abbrev pub sixMemory : ℕ → Truck → Bool
+sixMemory done t = implies (t .unwilling) (runs t && leb 2 (done % 6))
+
+-- the six-round protocol of document 02, F-4; it does not judge the counts
+abbrev pub sixRound : Protocol
+sixRound =
+    record {
+      rules = sixRules;
+      decisions = isAccept;
+      goodMemory = sixMemory;
+      goodCounts = λ done c. true;
+      worth = λ k. zeroComplete;
+      calmSpan = 10;
+      proposes = isPrepare;
+    }
+
+-- the protocol of the cycle that a caller chose
+abbrev pub chosen : Cycle → Protocol
+chosen TwoRound = twoRound
+chosen SixRound = sixRound
 
 -- an outcome with the grades of an accepted call
 abbrev pub gradingFor : Outcome → Grades → Grading

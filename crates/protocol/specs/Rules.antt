@@ -13,9 +13,11 @@ use Rattle.protocol.specs.declared.State.the-variants.{Running, Stopped,
 use Rattle.protocol.specs.declared.Truck.{Truck}
 use Rattle.protocol.specs.Cycles.{Kind, Rules, truckIn, runsIn, valuesIn, radioIn, playsIn, afterIn}
 
--- a truck of a fleet record before round 1, in any cycle: running, its estimate is its opening, its memory reads no mark and no value, both counts are 0
+-- a truck of a fleet record before round 1, in any cycle: running, its estimate is its opening, its memory reads no mark and no value, it is willing, both counts
+-- are 0
 abbrev pub opened : ℕ → Truck
-opened v = record { opening = v; estimate = v; mark = false; heard = Nothing; state = Running; sent = record { proposals = 0; vetoes = 0 } }
+opened v =
+    record { opening = v; estimate = v; mark = false; heard = Nothing; unwilling = false; state = Running; sent = record { proposals = 0; vetoes = 0 } }
 
 -- what the trucks of a fleet record show
 abbrev pub recorded : Kind Truck
@@ -62,9 +64,10 @@ leastOr e (v ∷ vs) = min v (leastOr v vs)
 abbrev pub counted : Bool → ℕ → ℕ
 counted sends c = cond sends (c + 1) c
 
--- a truck stops in round k; it keeps its counts
+-- a truck stops in round k; it keeps its counts, and its willingness, which this cycle does not read
 abbrev pub stops : ℕ → Truck → Truck
-stops k t = record { opening = t .opening; estimate = t .estimate; mark = false; heard = Nothing; state = Stopped k; sent = t .sent }
+stops k t =
+    record { opening = t .opening; estimate = t .estimate; mark = false; heard = Nothing; unwilling = t .unwilling; state = Stopped k; sent = t .sent }
 
 -- after a proposal round with mark m, in which it sends or not: h says how many different values it heard, v is the least of them (its estimate where it heard none)
 abbrev pub proposed : Bool → Bool → Heard → ℕ → Truck → Truck
@@ -74,6 +77,7 @@ proposed sends m h v t =
       estimate = cond m (t .estimate) v;
       mark = m;
       heard = h;
+      unwilling = t .unwilling;
       state = t .state;
       sent = record { proposals = counted sends (t .sent .proposals); vetoes = t .sent .vetoes };
     }
@@ -90,6 +94,7 @@ vetoed k sends m veto t =
       estimate = t .estimate;
       mark = false;
       heard = Nothing;
+      unwilling = t .unwilling;
       state = cond (decides m veto t) (Decided k) (t .state);
       sent = record { proposals = t .sent .proposals; vetoes = counted sends (t .sent .vetoes) };
     }

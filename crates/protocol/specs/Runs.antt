@@ -38,7 +38,7 @@ gradesFor radios R =
       accurate = firstBreak accurate radios R;
     }
 
--- the 32 places of a fleet record before round 1; a place past the openings holds a running truck of opening and estimate 0 with empty
+-- the 32 places of a fleet record before round 1; a place past the openings holds a running, willing truck of opening and estimate 0 with empty
 -- memory and counts 0
 abbrev pub openedTrucks : List ℕ → List Truck
 openedTrucks = openedIn recorded

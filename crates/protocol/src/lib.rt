@@ -1,7 +1,15 @@
 // The fleet record and the answers about it. specs/ has the rules of a round, runs, steps and the claim for any cycle of rounds, with document 01's
-// two-round protocol as an instance; proofs/Demand3 has the theorem about whole lists of steps and whole runs. There is no code here.
+// two-round protocol and the six-round one of document 02, F-4, as instances; proofs/Demand3 and proofs/SixDemand have the theorems about whole lists of steps
+// and whole runs. There is no code here.
 use refusals::Outcome;
 use refusals::Refusal;
+
+// The cycle of rounds by which a fleet is stepped, or a recording run and graded: proposals and vetoes (document 01), or prepare, four bit rounds and accept
+// (document 02, F-4).
+pub enum Cycle {
+    TwoRound,
+    SixRound,
+}
 
 // How many different values a truck heard in the proposal round.
 pub enum Heard {
@@ -23,13 +31,14 @@ pub struct Sent {
     pub vetoes: u8,
 }
 
-// One truck: its opening and present estimate; what it heard in the proposal round before: whether it had a mark, and how many values; its state; and how much
-// it has sent.
+// One truck: its opening and present estimate; what it heard in the proposal round before: whether it had a mark, and how many values; whether it is unwilling
+// in the six-round cycle; its state; and how much it has sent. The memory and what it has sent are the two-round cycle's, willingness is the six-round cycle's.
 pub struct Truck {
     pub opening: u8,
     pub estimate: u8,
     pub mark: bool,
     pub heard: Heard,
+    pub unwilling: bool,
     pub state: State,
     pub sent: Sent,
 }

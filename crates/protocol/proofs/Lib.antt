@@ -13,6 +13,7 @@ pub mod Agree
 pub mod Settle
 pub mod Whole
 pub mod Demand3
+pub mod SixRound
 pub mod Counts
 pub mod CalmCases
 pub mod ListCases

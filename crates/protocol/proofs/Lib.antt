@@ -14,6 +14,10 @@ pub mod Settle
 pub mod Whole
 pub mod Demand3
 pub mod SixRound
+pub mod SixAgree
+pub mod SixCalm
+pub mod SixWhole
+pub mod SixDemand
 pub mod Counts
 pub mod CalmCases
 pub mod ListCases

@@ -109,6 +109,10 @@ sound-six =
     undecided : (t : Truck) (k : ℕ) → runs t ≡ true → t .state ≡ Decided k → ⊥
     undecided t k h d = false≢true (sym (ap isRunning d) ∙ h)
 
+-- truck i has noise: a mark, or a message that it hears
+abbrev pub hasNoise : Radio → ℕ → Bool
+hasNoise a i = a .marked i || ltb 0 (heard a i)
+
 module _ (n : ℕ) (active : ℕ → Bool) (k : ℕ) (w : List ℕ) (ts : List Truck) where
   abbrev a : Radio
   a = radioIn sixRules n active k w ts
@@ -133,7 +137,7 @@ module _ (n : ℕ) (active : ℕ → Bool) (k : ℕ) (w : List ℕ) (ts : List T
 
   pub plays-bit : (i : ℕ) → (k % 6 ≡ 1 → ⊥) → (k % 6 ≡ 0 → ⊥)
       → playsIn sixRules (radioIn sixRules n active k w ts) k w ts i
-      ≡ afterBit (estimateBit k (truck ts i)) (radioIn sixRules n active k w ts .marked i || ltb 0 (heard (radioIn sixRules n active k w ts) i)) (truck ts i)
+      ≡ afterBit (estimateBit k (truck ts i)) (hasNoise (radioIn sixRules n active k w ts) i) (truck ts i)
   plays-bit i e f =
       plays-is sixRules n active k w ts i
       ∙ six-bit k (activeBit w i) (a .sends i) (a .marked i) (valuesIn recorded a ts i) (truck ts i) e f
@@ -141,7 +145,7 @@ module _ (n : ℕ) (active : ℕ → Bool) (k : ℕ) (w : List ℕ) (ts : List T
 
   pub plays-accept : (i : ℕ) → k % 6 ≡ 0
       → playsIn sixRules (radioIn sixRules n active k w ts) k w ts i
-      ≡ afterAccept k (radioIn sixRules n active k w ts .marked i || ltb 0 (heard (radioIn sixRules n active k w ts) i)) (truck ts i)
+      ≡ afterAccept k (hasNoise (radioIn sixRules n active k w ts) i) (truck ts i)
   plays-accept i e =
       plays-is sixRules n active k w ts i
       ∙ six-accept k (activeBit w i) (a .sends i) (a .marked i) (valuesIn recorded a ts i) (truck ts i) e

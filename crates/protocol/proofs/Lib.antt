@@ -23,3 +23,4 @@ pub mod Counts
 pub mod CalmCases
 pub mod ListCases
 pub mod MarkCases
+pub mod SixCases

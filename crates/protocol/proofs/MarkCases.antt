@@ -16,8 +16,8 @@ use Rattle.protocol.specs.declared.State.{State}
 use Rattle.protocol.specs.declared.State.the-variants.{Decided}
 use Rattle.protocol.specs.Cycles.{radioIn, valuesIn, playsIn, afterIn}
 use Rattle.protocol.specs.Rules.{truck, allSame, different, leastOr}
-use Rattle.protocol.specs.Runs.{openedIn, trucksIn, radiosIn, radioAt}
-use Rattle.protocol.specs.Fleets.{blank, fleetIn, ranIn, ran, twoWorth, twoRound}
+use Rattle.protocol.specs.Runs.{openedIn, trucksIn, radiosIn}
+use Rattle.protocol.specs.Fleets.{Protocol, blank, fleetIn, ranIn, ran, twoWorth, twoRound}
 use Rattle.protocol.specs.Claims.{agreesWith, MarksIn, HoldsIn, MajorityMarks, MixedMarks}
 
 -- two trucks open with 3 and 5 and hear each other in rounds 1 and 3; truck 0 has a false mark in round 1; in round 2 both veto, and each hears only its own veto,
@@ -33,23 +33,32 @@ c2 = 0x08 ∷ 0x02 ∷ 0x35 ∷ 0x31 ∷ 0x80 ∷ 0x00 ∷ []
 abbrev vetoMissed : List ℕ
 vetoMissed = 0x0c ∷ 0x04 ∷ 0x55 ∷ 0x31 ∷ 0xc1 ∷ 0x20 ∷ 0x00 ∷ 0x48 ∷ 0x04 ∷ 0x00 ∷ 0x00 ∷ 0x00 ∷ 0x00 ∷ []
 
--- round k of a recording, counted from 1, on the radio
-abbrev roundOf : List ℕ → ℕ → Radio
-roundOf s k = radioAt (trucksOf s) (openingsOf s) (roundAt s) k
+-- of a recording, by any protocol
+module _ (p : Protocol) where
+  -- round k of it, counted from 1, on the radio
+  abbrev roundOf : List ℕ → ℕ → Radio
+  roundOf s k = radiosIn (p .rules) (trucksOf s) (openingsOf s) (roundAt s) k
 
--- whether the marks of each round of a recording are of a worth
+  -- whether the marks of each of its rounds are of a worth
+  abbrev pub worthsIn : (ℕ → Radio → Bool) → List ℕ → List Bool
+  worthsIn worth s = tab (λ e. worth (suc e) (roundOf s (suc e))) (roundsOf s)
+
+  -- how each of its trucks ends, and its crusher
+  abbrev pub endsIn : List ℕ → List (State × ℕ)
+  endsIn s = tab (λ i. (truck (ranIn p s .fleet .trucks) i .state, truck (ranIn p s .fleet .trucks) i .estimate)) (trucksOf s)
+
+  -- what holds of its rounds one by one holds of each
+  pub rounds-have : (worth : ℕ → Radio → Bool) (s : List ℕ)
+      → allBelow (λ e. worth (suc e) (radiosIn (p .rules) (trucksOf s) (openingsOf s) (roundAt s) (suc e))) (roundsOf s) ≡ true
+      → MarksIn p worth (trucksOf s) (openingsOf s) (roundAt s) (roundsOf s)
+  rounds-have worth s h zero l m = absurd (omega arith)
+  rounds-have worth s h (suc e) l m = allBelow-at (λ e. worth (suc e) (roundOf s (suc e))) (roundsOf s) h e (omega arith)
+
 abbrev worths : (ℕ → Radio → Bool) → List ℕ → List Bool
-worths worth s = tab (λ e. worth (suc e) (roundOf s (suc e))) (roundsOf s)
+worths = worthsIn twoRound
 
--- how each truck of a recording ends, and its crusher
 abbrev ends : List ℕ → List (State × ℕ)
-ends s = tab (λ i. (truck (ran s .fleet .trucks) i .state, truck (ran s .fleet .trucks) i .estimate)) (trucksOf s)
-
--- what holds of the rounds of a recording one by one holds of each
-rounds-have : (worth : ℕ → Radio → Bool) (s : List ℕ) → allBelow (λ e. worth (suc e) (roundOf s (suc e))) (roundsOf s) ≡ true
-    → MarksIn twoRound worth (trucksOf s) (openingsOf s) (roundAt s) (roundsOf s)
-rounds-have worth s h zero l m = absurd (omega arith)
-rounds-have worth s h (suc e) l m = allBelow-at (λ e. worth (suc e) (roundOf s (suc e))) (roundsOf s) h e (omega arith)
+ends = endsIn twoRound
 
 -- majority complete marks but for round 2, mixed marks throughout, false ones among them; both trucks decide 3 in round 4
 pub half-heard : (worths (λ k. majorityComplete) halfHeard ≡ true ∷ false ∷ true ∷ true ∷ []) × (worths twoWorth halfHeard ≡ true ∷ true ∷ true ∷ true ∷ [])
@@ -61,7 +70,7 @@ half-heard = (refl, refl, refl, refl, refl)
 pub mixed-not-majority : MixedMarks (trucksOf halfHeard) (openingsOf halfHeard) (roundAt halfHeard) (roundsOf halfHeard)
     × (MajorityMarks (trucksOf halfHeard) (openingsOf halfHeard) (roundAt halfHeard) (roundsOf halfHeard) → ⊥)
 unfolding tabFrom tab filled allBelow who first someBelow sent hears heardBy heard judged majorityComplete zeroComplete stateAt bitAt numAt rowAt trucksOf roundsOf openingAt openingsOf wordAt wordsOf roundAt allSame different leastOr radioIn valuesIn playsIn afterIn openedIn trucksIn radiosIn
-mixed-not-majority = (rounds-have twoWorth halfHeard refl, λ marks. false≢true (marks 2 (omega arith) (omega arith)))
+mixed-not-majority = (rounds-have twoRound twoWorth halfHeard refl, λ marks. false≢true (marks 2 (omega arith) (omega arith)))
 
 -- in C2 only the marks of an odd round are too weak, and with a veto missed only those of an even one; in both, two trucks decide differently
 pub too-weak : (worths twoWorth c2 ≡ false ∷ true ∷ []) × (worths (λ k. zeroComplete) c2 ≡ true ∷ true ∷ []) × (ends c2 ≡ (Decided 2, 3) ∷ (Decided 2, 5) ∷ [])
@@ -73,12 +82,12 @@ too-weak = (refl, refl, refl, refl, refl)
 pub majority-needed : HoldsIn twoRound (agreesWith (MarksIn twoRound (λ k. zeroComplete))) → ⊥
 unfolding tabFrom tab filled allBelow who first someBelow sent hears heardBy heard judged majorityComplete zeroComplete stateAt bitAt numAt rowAt trucksOf roundsOf openingAt openingsOf wordAt wordsOf roundAt allSame different leastOr radioIn valuesIn playsIn afterIn openedIn trucksIn radiosIn bitsFor bytesFor tooShort badTrucks badRounds badLength endBit ownBit ownIn ownLoss ownRound ownTruck ownLossCheck frameCheck ownCheck checkOf blank fleetIn ranIn
 majority-needed h =
-    let e : _≡_ {A = ℕ} 3 5 = h .run c2 refl (rounds-have (λ k. zeroComplete) c2 refl) .same 0 1 (omega arith) (omega arith) refl refl in
+    let e : _≡_ {A = ℕ} 3 5 = h .run c2 refl (rounds-have twoRound (λ k. zeroComplete) c2 refl) .same 0 1 (omega arith) (omega arith) refl refl in
     absurd (omega arith)
 
 -- nor with marks that are majority complete in odd rounds and worth nothing in even ones
 pub zero-needed : HoldsIn twoRound (agreesWith (MarksIn twoRound (λ k a. implies (odd k) (majorityComplete a)))) → ⊥
 unfolding tabFrom tab filled allBelow who first someBelow sent hears heardBy heard judged majorityComplete zeroComplete stateAt bitAt numAt rowAt trucksOf roundsOf openingAt openingsOf wordAt wordsOf roundAt allSame different leastOr radioIn valuesIn playsIn afterIn openedIn trucksIn radiosIn bitsFor bytesFor tooShort badTrucks badRounds badLength endBit ownBit ownIn ownLoss ownRound ownTruck ownLossCheck frameCheck ownCheck checkOf blank fleetIn ranIn
 zero-needed h =
-    let e : _≡_ {A = ℕ} 5 3 = h .run vetoMissed refl (rounds-have (λ k a. implies (odd k) (majorityComplete a)) vetoMissed refl) .same 0 2 (omega arith) (omega arith) refl refl in
+    let e : _≡_ {A = ℕ} 5 3 = h .run vetoMissed refl (rounds-have twoRound (λ k a. implies (odd k) (majorityComplete a)) vetoMissed refl) .same 0 2 (omega arith) (omega arith) refl refl in
     absurd (omega arith)

@@ -6,9 +6,9 @@ use mathlib.Core.Logic.{_⊎_, inl}
 use Prim.Native.Nat.{ℕ, suc, _%_, _≤_}
 use native.Mathlib.Decide.{ℕ-discrete}
 use native.Mathlib.Omega.{arith}
-use borrow.Author.Tests.{ne-eqb, eq-eqb, le-leb}
+use borrow.Author.Tests.{ne-eqb, eq-eqb, le-leb, leb-true}
 use lib.Dec.{ltb, leb}
-use Rattle.basics.proofs.Laws.{and-left, and-both}
+use Rattle.basics.proofs.Laws.{and-left, and-right, and-both}
 use Rattle.radio.specs.Radio.{Radio, heard}
 use Rattle.radio.specs.Round.{activeBit}
 use Rattle.radio.proofs.Laws.{implies-mp, implies-by}
@@ -54,7 +54,7 @@ module _ (k : ℕ) (b s m : Bool) (vs : List ℕ) (t : Truck) where
       go (no e) (yes f) = subst P (sym (six-accept f)) (accept f)
       go (no e) (no f) = subst P (sym (six-bit e f)) (bit e f)
 
--- what refusal 7 asks of willingness: a willing truck passes, so does a running one amid the cycle, and one that doesn't run is willing
+-- what refusal 7 asks of willingness: a willing truck passes, and an unwilling one passes if it runs and 2 to 5 rounds of the cycle are done, and only then
 module _ (done : ℕ) (t : Truck) where
   pub willing-memory : t .unwilling ≡ false → sixMemory done t ≡ true
   willing-memory h = rw h
@@ -62,13 +62,18 @@ module _ (done : ℕ) (t : Truck) where
   pub amid-memory : runs t ≡ true → 2 ≤ done % 6 → sixMemory done t ≡ true
   amid-memory h l = implies-by (t .unwilling) (runs t && leb 2 (done % 6)) (λ u. and-both (runs t) (leb 2 (done % 6)) h (le-leb 2 (done % 6) l))
 
+  pub unwilling-parts : t .unwilling ≡ true → sixMemory done t ≡ true → (runs t ≡ true) × (2 ≤ done % 6)
+  unwilling-parts u g =
+      let h = implies-mp (t .unwilling) (runs t && leb 2 (done % 6)) g u in
+      (and-left (runs t) (leb 2 (done % 6)) h, leb-true 2 (done % 6) (and-right (runs t) (leb 2 (done % 6)) h))
+
+  -- so one that doesn't run is willing
   pub idle-willing : runs t ≡ false → sixMemory done t ≡ true → t .unwilling ≡ false
   idle-willing h g = go (t .unwilling) refl
     where
       go : (u : Bool) → t .unwilling ≡ u → u ≡ false
       go false e = refl
-      go true e =
-          absurd (false≢true (sym h ∙ and-left (runs t) (leb 2 (done % 6)) (implies-mp (t .unwilling) (runs t && leb 2 (done % 6)) g e)))
+      go true e = absurd (false≢true (sym h ∙ unwilling-parts e g .0))
 
 -- the six-round cycle has what any cycle of fleet records has to show
 pub sound-six : Sound sixRound

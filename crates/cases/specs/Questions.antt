@@ -11,51 +11,82 @@ use Rattle.refusals.specs.Numbers.{outcomeNumber}
 use Rattle.refusals.specs.Locations.{outcomeLocation}
 use Rattle.recording.specs.Packed.{trucksOf, openingsOf, roundAt}
 use Rattle.recording.specs.Checks.{plainCheck}
+use Rattle.protocol.specs.declared.Cycle.{Cycle}
+use Rattle.protocol.specs.declared.Cycle.the-variants.{TwoRound}
 use Rattle.protocol.specs.declared.Truck.{Truck}
+use Rattle.protocol.specs.declared.Fleet.{Fleet}
 use Rattle.protocol.specs.declared.Grading.{Grading}
 use Rattle.protocol.specs.declared.Grading.the-variants.{Graded}
 use Rattle.protocol.specs.Rules.{truck, valuesHeard}
-use Rattle.protocol.specs.Runs.{openedTrucks, trucksAt, radioAt}
-use Rattle.protocol.specs.Fleets.{stepCheck, graded}
+use Rattle.protocol.specs.Runs.{openedTrucks, trucksIn, trucksAt, radiosIn}
+use Rattle.protocol.specs.Fleets.{chosen, stepCheckIn, steppedIn, ranIn, gradedIn}
 use Rattle.listing.specs.Text.{text, printed}
 use Rattle.roads.specs.Opening.{Road, numerator, denominator, openingOf, openingAnswer}
 
 pub data Question : Type 0 where
   -- what is printed for a recording
   prints : List ℕ → Question
-  -- the grading of a recording
-  grades : List ℕ → Question
+  -- the grading of a recording in a cycle
+  gradesIn : Cycle → List ℕ → Question
+  -- the trucks that running a recording in a cycle leaves
+  leavesIn : Cycle → List ℕ → Question
   -- the estimates of a recording's trucks after round k
-  estimates : ℕ → List ℕ → Question
+  estimatesIn : Cycle → ℕ → List ℕ → Question
   -- the trucks of a recording that send in round k
-  senders : ℕ → List ℕ → Question
-  -- the values that truck i hears in round k of a recording
+  sendersIn : Cycle → ℕ → List ℕ → Question
+  -- the values that truck i hears in round k of a recording, in two rounds
   values : ℕ → ℕ → List ℕ → Question
-  -- how many messages are sent in round k of a recording, and how many of them each truck hears
+  -- how many messages are sent in round k of a recording, and how many of them each truck hears, in two rounds
   messages : ℕ → List ℕ → Question
   -- what writing these counts, openings and words is refused for
   writes : ℕ → ℕ → List ℕ → List ℕ → Question
-  -- what a step by these words is refused for, of n running trucks with so many rounds done
-  steps : ℕ → ℕ → List ℕ → Question
-  -- the same of a record of n trucks with so many rounds done, where these trucks stand in the first places
-  stepsOf : ℕ → ℕ → List Truck → List ℕ → Question
+  -- what a step by these words is refused for, of a record of n trucks with so many rounds done, where these trucks stand in the first places and all others run
+  stepsIn : Cycle → ℕ → ℕ → List Truck → List ℕ → Question
+  -- the n trucks that it returns
+  returnsIn : Cycle → ℕ → ℕ → List Truck → List ℕ → Question
   -- the opening crusher of three lists
   opens : List ℕ → List ℕ → List ℕ → Question
   -- the exact seconds of a road of this length, metres and seconds, as quotient and remainder
   takes : ℕ → ℕ → ℕ → Question
 
+-- in two rounds
+abbrev pub grades : List ℕ → Question
+grades = gradesIn TwoRound
+
+abbrev pub estimates : ℕ → List ℕ → Question
+estimates = estimatesIn TwoRound
+
+abbrev pub senders : ℕ → List ℕ → Question
+senders = sendersIn TwoRound
+
+abbrev pub stepsOf : ℕ → ℕ → List Truck → List ℕ → Question
+stepsOf = stepsIn TwoRound
+
+-- of n running trucks
+abbrev pub steps : ℕ → ℕ → List ℕ → Question
+steps n done = stepsOf n done []
+
 pub data Reply : Type 0 where
   bytes : List ℕ → Reply
   grading : Grading → Reply
   numbers : List ℕ → Reply
+  trucks : List Truck → Reply
   -- a refusal by its number and what it names
   refused : ℕ × Location → Reply
   opening : ℕ × List ℕ → Reply
   exactly : ℕ × ℕ → Reply
 
 -- round k of a recording on the radio
-abbrev roundOf : List ℕ → ℕ → Radio
-roundOf s k = radioAt (trucksOf s) (openingsOf s) (roundAt s) k
+abbrev roundOf : Cycle → List ℕ → ℕ → Radio
+roundOf c s k = radiosIn (chosen c .rules) (trucksOf s) (openingsOf s) (roundAt s) k
+
+-- the first n trucks of a list
+abbrev firstOf : ℕ → List Truck → Reply
+firstOf n ts = trucks (tab (truck ts) n)
+
+-- a record of n trucks with so many rounds done, where these trucks stand in the first places and all others run
+abbrev recordOf : ℕ → ℕ → List Truck → Fleet
+recordOf n done ts = record { n = n; done = done; trucks = ts ++ drop (length ts) (openedTrucks []) }
 
 abbrev outcome : Outcome → Reply
 outcome o = refused (outcomeNumber o, outcomeLocation o)
@@ -63,16 +94,17 @@ outcome o = refused (outcomeNumber o, outcomeLocation o)
 -- the reply that the definitions give
 unfoldable pub reply : Question → Reply
 reply (prints s) = bytes (printed s)
-reply (grades s) = grading (graded s)
-reply (estimates k s) =
-    let ts = trucksAt (trucksOf s) (openingsOf s) (roundAt s) k in
+reply (gradesIn c s) = grading (gradedIn (chosen c) s)
+reply (leavesIn c s) = firstOf (trucksOf s) (ranIn (chosen c) s .fleet .trucks)
+reply (estimatesIn c k s) =
+    let ts = trucksIn (chosen c .rules) (trucksOf s) (openingsOf s) (roundAt s) k in
     numbers (tab (λ i. truck ts i .estimate) (trucksOf s))
-reply (senders k s) = numbers (who (roundOf s k .sends) (trucksOf s))
-reply (values i k s) = numbers (valuesHeard (roundOf s k) (trucksAt (trucksOf s) (openingsOf s) (roundAt s) (k - 1)) i)
-reply (messages k s) = numbers (sent (roundOf s k) ∷ tab (heard (roundOf s k)) (trucksOf s))
+reply (sendersIn c k s) = numbers (who (roundOf c s k .sends) (trucksOf s))
+reply (values i k s) = numbers (valuesHeard (roundOf TwoRound s k) (trucksAt (trucksOf s) (openingsOf s) (roundAt s) (k - 1)) i)
+reply (messages k s) = numbers (sent (roundOf TwoRound s k) ∷ tab (heard (roundOf TwoRound s k)) (trucksOf s))
 reply (writes n R openings words) = outcome (plainCheck n R openings words)
-reply (steps n done words) = outcome (stepCheck (record { n = n; done = done; trucks = openedTrucks [] }) words)
-reply (stepsOf n done ts words) = outcome (stepCheck (record { n = n; done = done; trucks = ts ++ drop (length ts) (openedTrucks []) }) words)
+reply (stepsIn c n done ts words) = outcome (stepCheckIn (chosen c) (recordOf n done ts) words)
+reply (returnsIn c n done ts words) = firstOf n (steppedIn (chosen c) (recordOf n done ts) words .fleet .trucks)
 reply (opens lengths metres seconds) = opening (openingAnswer (openingOf lengths metres seconds))
 reply (takes length metres seconds) =
     let r : Road = record { length = length; metres = metres; seconds = seconds } in

@@ -1,15 +1,16 @@
--- The starred cases C1 to C12 of document 01, a row for each thing that it says of them, and cases of F-2, F-5 and F-7 of document 02.
-use mathlib.Core.Bool.{false}
+-- The starred cases C1 to C12 of document 01, a row for each thing that it says of them, and cases of F-2, F-4, F-5 and F-7 of document 02.
+use mathlib.Core.Bool.{Bool, true, false}
 use mathlib.Core.List.{List, [], _∷_, _++_}
-use Prim.Native.Nat.{ℕ}
+use Prim.Native.Nat.{ℕ, _+_}
 use lib.ListN.{replicate}
 use Rattle.refusals.specs.declared.Location.the-variants.{Unnamed, At}
-use Rattle.protocol.specs.declared.Heard.the-variants.{Nothing}
+use Rattle.protocol.specs.declared.Cycle.the-variants.{TwoRound, SixRound}
+use Rattle.protocol.specs.declared.Heard.the-variants.{Nothing, One, Several}
 use Rattle.protocol.specs.declared.State.{State}
 use Rattle.protocol.specs.declared.State.the-variants.{Running, Stopped, Decided}
 use Rattle.protocol.specs.declared.Truck.{Truck}
-use Rattle.cases.specs.Questions.{Question, prints, grades, estimates, senders, values, messages, writes, steps, stepsOf, opens, takes}
-use Rattle.cases.specs.Questions.{Reply, numbers, refused, opening, exactly, says, gradesAre}
+use Rattle.cases.specs.Questions.{Question, prints, gradesIn, grades, leavesIn, estimatesIn, estimates, sendersIn, senders, values, messages, writes, steps, stepsIn, stepsOf, returnsIn, opens, takes}
+use Rattle.cases.specs.Questions.{Reply, numbers, trucks, refused, opening, exactly, says, gradesAre}
 
 pub record Row : Type 0 where
   pub asks : Question
@@ -34,9 +35,55 @@ c3 = 0x08 ∷ 0x02 ∷ 0x35 ∷ 0x3d ∷ 0x80 ∷ 0x00 ∷ []
 abbrev quiet : List ℕ
 quiet = 0 ∷ 0 ∷ 0 ∷ 0 ∷ 0 ∷ []
 
+-- a truck without memory: its opening, its estimate, whether it is unwilling, its state, and how many proposals and vetoes it has sent
+abbrev truckOf : ℕ → ℕ → Bool → State → ℕ → ℕ → Truck
+truckOf o e u s p v = record { opening = o; estimate = e; mark = false; heard = Nothing; unwilling = u; state = s; sent = record { proposals = p; vetoes = v } }
+
 -- a truck in this state that has sent so many proposals and vetoes
 abbrev sender : State → ℕ → ℕ → Truck
-sender s p v = record { opening = 3; estimate = 3; mark = false; heard = Nothing; state = s; sent = record { proposals = p; vetoes = v } }
+sender = truckOf 3 3 false
+
+-- a truck that has only known the six-round cycle
+abbrev six : ℕ → ℕ → Bool → State → Truck
+six o e u s = truckOf o e u s 0 0
+
+-- a truck in this state that remembers a mark and several values and has sent one proposal
+abbrev remembering : State → Truck
+remembering s = record { opening = 3; estimate = 3; mark = true; heard = Several; unwilling = false; state = s; sent = record { proposals = 1; vetoes = 0 } }
+
+-- an unwilling truck that remembers one value and has sent one proposal
+abbrev unwillingOne : Truck
+unwillingOne = record { opening = 3; estimate = 3; mark = false; heard = One; unwilling = true; state = Running; sent = record { proposals = 1; vetoes = 0 } }
+
+-- rounds of one truck in plain form: nothing happens, it stops, it is active
+abbrev quietOne : List ℕ
+quietOne = 0 ∷ 0 ∷ 0 ∷ 0 ∷ []
+
+abbrev stopOne : List ℕ
+stopOne = 1 ∷ 0 ∷ 0 ∷ 0 ∷ []
+
+abbrev activeOne : List ℕ
+activeOne = 0 ∷ 1 ∷ 0 ∷ 0 ∷ []
+
+-- six rounds of two trucks that open with 3 and 5, both active in round 1
+abbrev pub bothActive : List ℕ
+bothActive = 0x08 ∷ 0x06 ∷ 0x35 ∷ 0x30 ∷ replicate 7 0x00
+
+-- the same with a mark of truck 1 in round 1
+abbrev pub oneMarked : List ℕ
+oneMarked = 0x08 ∷ 0x06 ∷ 0x35 ∷ 0x34 ∷ replicate 7 0x00
+
+-- six rounds of two trucks that open with 3 and 1 and are never active
+abbrev pub neverActive : List ℕ
+neverActive = 0x08 ∷ 0x06 ∷ 0x31 ∷ replicate 8 0x00
+
+-- the same where truck 1 misses truck 0 in round 4
+abbrev pub bitMissed : List ℕ
+bitMissed = 0x08 ∷ 0x06 ∷ 0x31 ∷ 0x00 ∷ 0x00 ∷ 0x00 ∷ 0x00 ∷ 0x02 ∷ 0x00 ∷ 0x00 ∷ 0x00 ∷ []
+
+-- six rounds of one truck that opens with 1, by the bits of round 1, of rounds 2 and 3, of rounds 4 and 5, and of round 6 with the end bits
+abbrev pub alone : ℕ → ℕ → ℕ → ℕ → List ℕ
+alone r₁ r₂₃ r₄₅ r₆ = 0x04 ∷ 0x06 ∷ (0x10 + r₁) ∷ r₂₃ ∷ r₄₅ ∷ r₆ ∷ []
 
 unfoldable pub table : List Row
 table =
@@ -115,6 +162,86 @@ table =
     ∷ (stepsOf 2 400 (sender Running 200 200 ∷ sender (Stopped 400) 200 200 ∷ []) quiet ⟶ refused (14, Unnamed))
     ∷ (stepsOf 2 400 (sender Running 200 200 ∷ sender (Stopped 400) 200 201 ∷ []) quiet ⟶ refused (7, Unnamed))
     ∷ (stepsOf 2 0 (sender Running 0 0 ∷ sender Running 0 0 ∷ sender Running 1 1 ∷ []) quiet ⟶ refused (0, Unnamed))
+    -- F-4: round 1 leaves both trucks 3, whose bits are 0, 0, 1, 1: both send in rounds 4 and 5, nobody becomes unwilling, and both decide in round 6
+    ∷ (sendersIn SixRound 1 bothActive ⟶ numbers (0 ∷ 1 ∷ []))
+    ∷ (sendersIn SixRound 3 bothActive ⟶ numbers [])
+    ∷ (sendersIn SixRound 4 bothActive ⟶ numbers (0 ∷ 1 ∷ []))
+    ∷ (sendersIn SixRound 5 bothActive ⟶ numbers (0 ∷ 1 ∷ []))
+    ∷ (sendersIn SixRound 6 bothActive ⟶ numbers [])
+    ∷ (leavesIn SixRound bothActive ⟶ trucks (six 3 3 false (Decided 6) ∷ six 5 3 false (Decided 6) ∷ []))
+    ∷ (gradesIn SixRound bothActive ⟶ gradesAre 0 0 0 0)
+    -- the same recording in two rounds: both hear two values, so both veto in round 2, and nobody proposes later
+    ∷ (leavesIn TwoRound bothActive ⟶ trucks (truckOf 3 3 false Running 1 1 ∷ truckOf 5 3 false Running 1 1 ∷ []))
+    -- a marked truck keeps its estimate in prepare: truck 1 sends the second bit of 5, truck 0 the third of 3, so both become unwilling, and both veto
+    ∷ (estimatesIn SixRound 1 oneMarked ⟶ numbers (3 ∷ 5 ∷ []))
+    ∷ (sendersIn SixRound 3 oneMarked ⟶ numbers (1 ∷ []))
+    ∷ (sendersIn SixRound 4 oneMarked ⟶ numbers (0 ∷ []))
+    ∷ (sendersIn SixRound 6 oneMarked ⟶ numbers (0 ∷ 1 ∷ []))
+    ∷ (leavesIn SixRound oneMarked ⟶ trucks (six 3 3 false Running ∷ six 5 5 false Running ∷ []))
+    ∷ (gradesIn SixRound oneMarked ⟶ gradesAre 0 0 0 1)
+    -- 3 and 1 differ in the third bit: after four rounds truck 1 is unwilling; it sends its last bit all the same, and vetoes, so truck 0 does not decide
+    ∷ (leavesIn SixRound (0x08 ∷ 0x04 ∷ 0x31 ∷ replicate 5 0x00) ⟶ trucks (six 3 3 false Running ∷ six 1 1 true Running ∷ []))
+    ∷ (sendersIn SixRound 5 neverActive ⟶ numbers (0 ∷ 1 ∷ []))
+    ∷ (sendersIn SixRound 6 neverActive ⟶ numbers (1 ∷ []))
+    ∷ (leavesIn SixRound neverActive ⟶ trucks (six 3 3 false Running ∷ six 1 1 false Running ∷ []))
+    -- where truck 1 misses that bit without a mark, both decide; in two rounds nothing is sent at all
+    ∷ (leavesIn SixRound bitMissed ⟶ trucks (six 3 3 false (Decided 6) ∷ six 1 1 false (Decided 6) ∷ []))
+    ∷ (gradesIn SixRound bitMissed ⟶ gradesAre 4 4 4 0)
+    ∷ (gradesIn TwoRound bitMissed ⟶ gradesAre 0 0 0 0)
+    -- a silent prepare: both open with 3 and decide it
+    ∷ (leavesIn SixRound (0x08 ∷ 0x06 ∷ 0x33 ∷ replicate 8 0x00) ⟶ trucks (six 3 3 false (Decided 6) ∷ six 3 3 false (Decided 6) ∷ []))
+    -- one truck, bits 0, 0, 0, 1: a mark in round 5 changes nothing; one in round 4 makes it unwilling, and it hears its own veto; one in accept keeps it from deciding
+    ∷ (leavesIn SixRound (alone 0x0 0x00 0x02 0x00) ⟶ trucks (six 1 1 false (Decided 6) ∷ []))
+    ∷ (gradesIn SixRound (alone 0x0 0x00 0x02 0x00) ⟶ gradesAre 0 0 0 5)
+    ∷ (sendersIn SixRound 6 (alone 0x0 0x00 0x20 0x00) ⟶ numbers (0 ∷ []))
+    ∷ (leavesIn SixRound (alone 0x0 0x00 0x20 0x00) ⟶ trucks (six 1 1 false Running ∷ []))
+    ∷ (leavesIn SixRound (alone 0x0 0x00 0x00 0x20) ⟶ trucks (six 1 1 false Running ∷ []))
+    -- a stop in each round; in the last two it is unwilling before, and a truck that stops does not veto
+    ∷ (leavesIn SixRound (alone 0x8 0x00 0x00 0x00) ⟶ trucks (six 1 1 false (Stopped 1) ∷ []))
+    ∷ (leavesIn SixRound (alone 0x0 0x80 0x00 0x00) ⟶ trucks (six 1 1 false (Stopped 2) ∷ []))
+    ∷ (leavesIn SixRound (alone 0x0 0x08 0x00 0x00) ⟶ trucks (six 1 1 false (Stopped 3) ∷ []))
+    ∷ (leavesIn SixRound (alone 0x0 0x00 0x80 0x00) ⟶ trucks (six 1 1 false (Stopped 4) ∷ []))
+    ∷ (leavesIn SixRound (alone 0x0 0x00 0x28 0x00) ⟶ trucks (six 1 1 false (Stopped 5) ∷ []))
+    ∷ (leavesIn SixRound (alone 0x0 0x00 0x20 0x80) ⟶ trucks (six 1 1 false (Stopped 6) ∷ []))
+    ∷ (sendersIn SixRound 6 (alone 0x0 0x00 0x20 0x80) ⟶ numbers [])
+    -- 3 and 1 again: truck 0 stops in round 4 and sends nothing, so truck 1 stays willing and decides
+    ∷ (leavesIn SixRound (0x08 ∷ 0x06 ∷ 0x31 ∷ 0x00 ∷ 0x00 ∷ 0x00 ∷ 0x02 ∷ replicate 4 0x00) ⟶ trucks (six 3 3 false (Stopped 4) ∷ six 1 1 false (Decided 6) ∷ []))
+    -- a record handed on: a bit round, a stop and a decision of the six-round cycle leave memory and counts; the veto round of the two-round cycle reads them
+    ∷ (returnsIn SixRound 1 1 (remembering Running ∷ []) quietOne ⟶ trucks (remembering Running ∷ []))
+    ∷ (returnsIn SixRound 1 1 (remembering Running ∷ []) stopOne ⟶ trucks (remembering (Stopped 2) ∷ []))
+    ∷ (returnsIn SixRound 1 5 (remembering Running ∷ []) quietOne ⟶ trucks (remembering (Decided 6) ∷ []))
+    ∷ (returnsIn TwoRound 1 1 (remembering Running ∷ []) quietOne ⟶ trucks (sender Running 1 1 ∷ []))
+    -- a proposal, a stop and a decision of the two-round cycle leave willingness; accept reads it
+    ∷ (returnsIn TwoRound 1 2 (six 3 3 true Running ∷ []) activeOne ⟶ trucks (unwillingOne ∷ []))
+    ∷ (returnsIn TwoRound 1 2 (six 3 3 true Running ∷ []) stopOne ⟶ trucks (six 3 3 true (Stopped 3) ∷ []))
+    ∷ (returnsIn TwoRound 1 3 (unwillingOne ∷ []) quietOne ⟶ trucks (truckOf 3 3 true (Decided 4) 1 0 ∷ []))
+    ∷ (returnsIn SixRound 1 5 (six 3 3 true Running ∷ []) quietOne ⟶ trucks (six 3 3 false Running ∷ []))
+    -- 7 reads each cycle's own part: a memory with two rounds done, and five proposals, are refused in two rounds alone
+    ∷ (stepsIn TwoRound 1 2 (remembering Running ∷ []) quietOne ⟶ refused (7, Unnamed))
+    ∷ (stepsIn SixRound 1 2 (remembering Running ∷ []) quietOne ⟶ refused (0, Unnamed))
+    ∷ (stepsIn TwoRound 1 2 (sender Running 5 0 ∷ []) quietOne ⟶ refused (7, Unnamed))
+    ∷ (stepsIn SixRound 1 2 (sender Running 5 0 ∷ []) quietOne ⟶ refused (0, Unnamed))
+    -- an unwilling truck is refused in six rounds alone, unless it runs and 2 to 5 rounds of the cycle are done
+    ∷ (stepsIn TwoRound 1 1 (six 3 3 true Running ∷ []) quietOne ⟶ refused (0, Unnamed))
+    ∷ (stepsIn SixRound 1 0 (six 3 3 true Running ∷ []) quietOne ⟶ refused (7, Unnamed))
+    ∷ (stepsIn SixRound 1 1 (six 3 3 true Running ∷ []) quietOne ⟶ refused (7, Unnamed))
+    ∷ (stepsIn SixRound 1 2 (six 3 3 true Running ∷ []) quietOne ⟶ refused (0, Unnamed))
+    ∷ (stepsIn SixRound 1 5 (six 3 3 true Running ∷ []) quietOne ⟶ refused (0, Unnamed))
+    ∷ (stepsIn SixRound 1 6 (six 3 3 true Running ∷ []) quietOne ⟶ refused (7, Unnamed))
+    ∷ (stepsIn SixRound 1 7 (six 3 3 true Running ∷ []) quietOne ⟶ refused (7, Unnamed))
+    ∷ (stepsIn SixRound 1 400 (six 3 3 true Running ∷ []) quietOne ⟶ refused (14, Unnamed))
+    ∷ (stepsIn TwoRound 1 4 (six 3 3 true (Stopped 2) ∷ []) quietOne ⟶ refused (0, Unnamed))
+    ∷ (stepsIn SixRound 1 4 (six 3 3 true (Stopped 2) ∷ []) quietOne ⟶ refused (7, Unnamed))
+    ∷ (stepsIn SixRound 1 8 (six 3 3 true (Decided 6) ∷ []) quietOne ⟶ refused (7, Unnamed))
+    -- places n and above are not read
+    ∷ (stepsIn SixRound 1 0 (six 3 3 false Running ∷ six 3 3 true Running ∷ []) quietOne ⟶ refused (0, Unnamed))
+    -- a decided round: 4 and 6 in two rounds, 6 alone in six; not 0, and not past the rounds done
+    ∷ (stepsIn TwoRound 1 11 (six 3 3 false (Decided 4) ∷ []) quietOne ⟶ refused (0, Unnamed))
+    ∷ (stepsIn SixRound 1 11 (six 3 3 false (Decided 4) ∷ []) quietOne ⟶ refused (7, Unnamed))
+    ∷ (stepsIn TwoRound 1 11 (six 3 3 false (Decided 6) ∷ []) quietOne ⟶ refused (0, Unnamed))
+    ∷ (stepsIn SixRound 1 11 (six 3 3 false (Decided 6) ∷ []) quietOne ⟶ refused (0, Unnamed))
+    ∷ (stepsIn SixRound 1 11 (six 3 3 false (Decided 12) ∷ []) quietOne ⟶ refused (7, Unnamed))
+    ∷ (stepsIn SixRound 1 11 (six 3 3 false (Decided 0) ∷ []) quietOne ⟶ refused (7, Unnamed))
     -- C11: both roads take 180 seconds
     ∷ (takes 1200 600 90 ⟶ exactly (180, 0))
     ∷ (takes 900 300 60 ⟶ exactly (180, 0))

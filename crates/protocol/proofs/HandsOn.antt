@@ -188,15 +188,24 @@ two-hands-on =
       }) (λ done t. refl);
     }
 
--- a step in six rounds hands on the memory and the counts
+-- a round of six hands on the memory and the counts
+six-leaves : Leaves sixRules memoryPart
+six-leaves =
+    record {
+      stops = λ k t. refl;
+      plays = λ k b s m vs t. six-cases k b s m vs t (λ (u : Truck). memoryPart u ≡ memoryPart t) (λ e. refl) (λ e f. refl) (λ e. refl);
+    }
+
+pub six-kept : (n : ℕ) (active : ℕ → Bool) (k : ℕ) (w : List ℕ) (ts : List Truck) (i : ℕ)
+    → memoryPart (truck (afterIn sixRules n active k w ts) i) ≡ memoryPart (truck ts i)
+six-kept n active k w ts = leaves-after sixRules n active k w ts memoryPart six-leaves
+
+-- so does a step
 six-hands-on : HandsOnOther SixRound
 unfolding goodTruckIn
 six-hands-on =
     record {
-      kept = kept-by sixRound memoryPart (record {
-        stops = λ k t. refl;
-        plays = λ k b s m vs t. six-cases k b s m vs t (λ (u : Truck). memoryPart u ≡ memoryPart t) (λ e. refl) (λ e f. refl) (λ e. refl);
-      });
+      kept = kept-by sixRound memoryPart six-leaves;
       unread = unread-by sixRound withoutMemory (record {
         opened = refl;
         state = λ t. refl;

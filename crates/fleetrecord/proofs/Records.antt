@@ -17,7 +17,7 @@ use Rattle.protocol.specs.declared.Fleet.{Fleet}
 use Rattle.protocol.specs.Rules.{opened, truck}
 use Rattle.radio.specs.Runs.{stateAt}
 use Rattle.protocol.specs.Runs.{openedTrucks, trucksAt, trucksIn}
-use Rattle.protocol.specs.Fleets.{blank, goodTruck, goodFleet, goodFleetIn}
+use Rattle.protocol.specs.Fleets.{Protocol, blank, goodTruckIn, goodFleetIn}
 use Rattle.fleetrecord.specs.Opens.{openFleet}
 
 -- a run before round 1
@@ -63,15 +63,16 @@ module _ (n : ℕ) (openings : List ℕ) where
   pub open-done : (f : Fleet) (i : ℕ) → f ≡ openingFleet n openings i → i ≡ length openings → length openings ≤ 32 → f ≡ openFleet n openings
   open-done f i e h l = e ∙ rw (opened-filled openings i (sym h) (omega arith))
 
--- refusal 7, test by test
-pub bad-count : (f : Fleet) → badTrucks (f .n) ≡ true → goodFleet f ≡ false
-unfolding goodFleetIn
-bad-count f h = rw h
+-- refusal 7, test by test, in any protocol
+module _ (p : Protocol) (f : Fleet) where
+  pub bad-count : badTrucks (f .n) ≡ true → goodFleetIn p f ≡ false
+  unfolding goodFleetIn
+  bad-count h = rw h
 
-pub bad-done : (f : Fleet) → badTrucks (f .n) ≡ false → 400 < f .done → goodFleet f ≡ false
-unfolding goodFleetIn
-bad-done f h l = rw (h, lt-leb (f .done) 400 l)
+  pub bad-done : badTrucks (f .n) ≡ false → 400 < f .done → goodFleetIn p f ≡ false
+  unfolding goodFleetIn
+  bad-done h l = rw (h, lt-leb (f .done) 400 l)
 
-pub good-count : (f : Fleet) → badTrucks (f .n) ≡ false → f .done ≤ 400 → goodFleet f ≡ allBelow (λ i. goodTruck (f .done) (truck (f .trucks) i)) (f .n)
-unfolding goodFleetIn
-good-count f h l = rw (h, le-leb (f .done) 400 l)
+  pub good-count : badTrucks (f .n) ≡ false → f .done ≤ 400 → goodFleetIn p f ≡ allBelow (λ i. goodTruckIn p (f .done) (truck (f .trucks) i)) (f .n)
+  unfolding goodFleetIn
+  good-count h l = rw (h, le-leb (f .done) 400 l)

@@ -4,14 +4,16 @@ use protocol::Heard;
 use protocol::Sent;
 use protocol::State;
 use protocol::Truck;
+ghost use mathlib.Core.Bool.{cond};
 ghost use mathlib.Core.Path.{_≡_};
 ghost use Prim.Native.Nat.{min};
 ghost use Rattle.protocol.specs.Rules.{runs, vetoes, isOne, isSeveral, counted, stops, proposed, vetoed, decides};
+ghost use Rattle.protocol.specs.Six.{stopsSix, afterPrepare, afterBit, accepts, afterAccept};
 ghost use Rattle.truck.specs.Events.{adds, happened, turned, updatedFirst};
 
 // What a round is to a running truck.
 pub enum Event {
-    // Its stop bit is set.
+    // In the two-round cycle: its stop bit is set.
     Stop,
     // A proposal round: whether it sends, its mark, how many different values it heard, and the least of them (its estimate where it heard none).
     Proposals {
@@ -25,6 +27,22 @@ pub enum Event {
         sends: bool,
         mark: bool,
         veto: bool,
+    },
+    // In the six-round cycle: its stop bit is set.
+    StopSix,
+    // Prepare: its mark, and the least value that it heard (its estimate where it heard none).
+    Prepare {
+        mark: bool,
+        least: u8,
+    },
+    // A bit round: that bit of its estimate, and whether it noticed a message or a mark.
+    Bit {
+        bit: bool,
+        noticed: bool,
+    },
+    // Accept: whether it noticed a message or a mark.
+    Accept {
+        noticed: bool,
     },
 }
 
@@ -76,6 +94,13 @@ fn count(sends: bool, c: u8) -> u8
     if sends & (c < 255) { c + 1 } else { c }
 }
 
+// The estimate after a round for proposals: with a mark the truck keeps its own.
+fn estimate_after(t: Truck, mark: bool, least: u8) -> u8
+    ensures { λ r. ⌜ r ≡ cond mark (t .estimate) least ⌝ }
+{
+    if mark { t.estimate } else { least }
+}
+
 fn after_proposals(t: Truck, sends: bool, mark: bool, heard: Heard, least: u8) -> Truck
     ensures { λ r. ⌜ r ≡ proposed (adds sends (t .sent .proposals)) mark heard least t ⌝ }
 {
@@ -83,9 +108,8 @@ fn after_proposals(t: Truck, sends: bool, mark: bool, heard: Heard, least: u8) -
         proposals: count(sends, t.sent.proposals),
         vetoes: t.sent.vetoes,
     };
-    let estimate = if mark { t.estimate } else { least };
     Truck {
-        estimate,
+        estimate: estimate_after(t, mark, least),
         mark,
         heard,
         sent,
@@ -136,6 +160,55 @@ fn after_vetoes(t: Truck, round: u16, sends: bool, mark: bool, veto: bool) -> Tr
     }
 }
 
+fn after_stop_six(t: Truck, round: u16) -> Truck
+    ensures { λ r. ⌜ r ≡ stopsSix round t ⌝ }
+{
+    Truck {
+        unwilling: false,
+        state: State::Stopped(round),
+        ..t
+    }
+}
+
+fn after_prepare(t: Truck, mark: bool, least: u8) -> Truck
+    ensures { λ r. ⌜ r ≡ afterPrepare mark least t ⌝ }
+{
+    Truck {
+        estimate: estimate_after(t, mark, least),
+        unwilling: false,
+        ..t
+    }
+}
+
+fn after_bit(t: Truck, bit: bool, noticed: bool) -> Truck
+    ensures { λ r. ⌜ r ≡ afterBit bit noticed t ⌝ }
+{
+    let unwilling = t.unwilling | (!bit & noticed);
+    Truck { unwilling, ..t }
+}
+
+// Whether a truck decides in accept.
+fn accepts(t: Truck, noticed: bool) -> bool
+    ensures { λ r. ⌜ r ≡ accepts noticed t ⌝ }
+{
+    !t.unwilling & !noticed
+}
+
+fn after_accept(t: Truck, round: u16, noticed: bool) -> Truck
+    ensures { λ r. ⌜ r ≡ afterAccept round noticed t ⌝ }
+{
+    let state = if accepts(t, noticed) {
+        State::Decided(round)
+    } else {
+        t.state
+    };
+    Truck {
+        unwilling: false,
+        state,
+        ..t
+    }
+}
+
 fn after_event(t: Truck, round: u16, event: Event) -> Truck
     ensures { λ r. ⌜ r ≡ happened round event t ⌝ }
 {
@@ -148,6 +221,10 @@ fn after_event(t: Truck, round: u16, event: Event) -> Truck
             least,
         } => after_proposals(t, sends, mark, heard, least),
         Event::Vetoes { sends, mark, veto } => after_vetoes(t, round, sends, mark, veto),
+        Event::StopSix => after_stop_six(t, round),
+        Event::Prepare { mark, least } => after_prepare(t, mark, least),
+        Event::Bit { bit, noticed } => after_bit(t, bit, noticed),
+        Event::Accept { noticed } => after_accept(t, round, noticed),
     }
 }
 

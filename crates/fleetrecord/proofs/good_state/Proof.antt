@@ -7,7 +7,7 @@ returns-2 : tie.Need-returns-2
 returns-2 c = rw (c .before .state .given .1)
 
 returns-3 : tie.Need-returns-3
-returns-3 c = rw (c .before .before .state2 .given .1, c .is-odd .ensures)
+returns-3 c = rw (c .before .before .state2 .given .1, c .decides-in .ensures)
 
 pub good-state-spec : {M : Type 1} → statement M
 good-state-spec =

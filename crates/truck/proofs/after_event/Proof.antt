@@ -13,6 +13,18 @@ returns-2 c = c .after-proposals .ensures ∙ rw (c .before .before .event .give
 returns-3 : tie.Need-returns-3
 returns-3 c = c .after-vetoes .ensures ∙ rw (c .before .before .event2 .given .1)
 
+returns-4 : tie.Need-returns-4
+returns-4 c = c .after-stop-six .ensures ∙ rw (c .before .enum-told2 .given .1)
+
+returns-5 : tie.Need-returns-5
+returns-5 c = c .after-prepare .ensures ∙ rw (c .before .before .event3 .given .1)
+
+returns-6 : tie.Need-returns-6
+returns-6 c = c .after-bit .ensures ∙ rw (c .before .before .event4 .given .1)
+
+returns-7 : tie.Need-returns-7
+returns-7 c = c .after-accept .ensures ∙ rw (c .before .before .event5 .given .1)
+
 pub after-event-spec : {M : Type 1} → statement M
 after-event-spec =
     tie.close
@@ -23,6 +35,18 @@ after-event-spec =
     (λ c κs. search needs)
     (λ c. search needs)
     (λ c κs. search needs)
+    (λ c. search needs)
+    (λ c κs. search needs)
+    (λ c. search needs)
+    (λ c κs. search needs)
+    (λ c. search needs)
+    (λ c κs. search needs)
+    (λ c. search needs)
+    (λ c κs. search needs)
     returns
     returns-2
-    returns-3)
+    returns-3
+    returns-4
+    returns-5
+    returns-6
+    returns-7)

@@ -151,7 +151,7 @@ module _ {M : Type 1} (𝓤 : URA M) (H : Heap 𝓤) (A : Atoms 𝓤) (W : Given
 
   -- where truck i lies in the fleet; its reference, under the name δ, and what `update`'s triple binds outside
   abbrev off : ℕ → ℕ
-  off i = i * 10 + 4
+  off i = i * 12 + 4
 
   abbrev ref : ℕ → ℕ → GName → RefT Truck
   ref i l δ = record { ptr = (l, off i); name = δ; now = t i }
@@ -258,9 +258,9 @@ module _ {M : Type 1} (𝓤 : URA M) (H : Heap 𝓤) (A : Atoms 𝓤) (W : Given
           rewrite ! 0 (λ (o : ℕ). ‵ (cellAt fullShare (Event-t.the-row .mir) (eventVal (e i) ∷ []) l6 o)) (sym (place-is 5 0 i)) refl $
           elem-back ! Event-t.the-row fullShare es i Stop (eventVal (e i) ∷ []) l6 0 (in-events i less) $
           -- truck i, out of the row of trucks, and lent for a lifetime ν of the call
-          move ! (1 ∷ []) $ use1 W (‵ (partAt Truck-t.the-row fullShare (t i) l5 (place 10 4 i)) ⊛ ‵ (others (shares Truck-t.the-row) fullShare (now i) i l5 4))
+          move ! (1 ∷ []) $ use1 W (‵ (partAt Truck-t.the-row fullShare (t i) l5 (place 12 4 i)) ⊛ ‵ (others (shares Truck-t.the-row) fullShare (now i) i l5 4))
           (takes (shares Truck-t.the-row) fullShare 𝓤 H A W (now i) i (opened 0) l5 4 (in-trucks i less)) $ split ! $
-          rewrite ! 0 (λ (o : ℕ). ‵ (partAt Truck-t.the-row fullShare (t i) l5 o)) (place-is 10 4 i) refl $
+          rewrite ! 0 (λ (o : ℕ). ‵ (partAt Truck-t.the-row fullShare (t i) l5 o)) (place-is 12 4 i) refl $
           lft-new ! tt (λ ν. move ! (1 ∷ []) $ use1 W (later (some (λ (δ : GName). ‵ (Ref i ν l5 δ) ⊛ ‵ (flent (ν ∷ []) (Body (mem Truck-t.the-row) l5 (off i) δ)))))
           (lends-ref 𝓤 H A W Truck-t.the-row (named 0) (ν ∷ []) (t i) l5 (off i)) $ await ! tt $ pick ! (λ δ. split ! $
           move ! (2 ∷ 0 ∷ []) $ use2 W (raw (Callee 𝓤 H A at-mem run .pre (to i ν l5 δ))) (goes i e-is ν l5 δ) $
@@ -276,7 +276,7 @@ module _ {M : Type 1} (𝓤 : URA M) (H : Heap 𝓤) (A : Atoms 𝓤) (W : Given
           -- the lifetime is ended; the truck comes back, and is put in its place
           move ! (1 ∷ []) $ lft-end ! tt $ move ! (0 ∷ 5 ∷ 3 ∷ []) $
           use3 W (later (‵ (partAt Truck-t.the-row fullShare (ws .0) l5 (off i)))) (ref-back 𝓤 H A W Truck-t.the-row (ν ∷ []) δ (ws .0) l5 (off i)) $ await ! tt $
-          rewrite ! 0 (λ (o : ℕ). ‵ (partAt Truck-t.the-row fullShare (ws .0) l5 o)) (sym (place-is 10 4 i)) refl $
+          rewrite ! 0 (λ (o : ℕ). ‵ (partAt Truck-t.the-row fullShare (ws .0) l5 o)) (sym (place-is 12 4 i)) refl $
           move ! (0 ∷ 4 ∷ []) $ use2 W (TruckRow (set (now i) i (ws .0)) l5) (puts (shares Truck-t.the-row) fullShare 𝓤 H A W (now i) i (ws .0) l5 4 (in-trucks i less)) $
           rewrite ! 0 (λ (ys : List Truck). TruckRow ys l5) (step-is i less (ws .0) p) refl $
           -- [the trucks; the result; true; true; the events; the way back; _20 at 6; …]

@@ -15,18 +15,18 @@ use Rattle.radio.specs.Radio.{Radio, complete, majorityComplete, zeroComplete, 
 use Rattle.radio.proofs.Laws.{idle-classes}
 use Rattle.recording.specs.Packed.{trucksOf, openingsOf, roundAt}
 use Rattle.protocol.specs.declared.Grades.{Grades}
-use Rattle.protocol.specs.Cycles.{radioIn}
-use Rattle.protocol.specs.Rules.{truck, runs, twoRules}
-use Rattle.protocol.specs.Runs.{radioAt, gradesFor}
+use Rattle.protocol.specs.Cycles.{Rules, radioIn}
+use Rattle.protocol.specs.Rules.{recorded, truck, runs}
+use Rattle.protocol.specs.Runs.{radiosIn, gradesFor}
 use Rattle.protocol.proofs.AnyRun.{radio-suc, kept}
 use Rattle.fleet.specs.Replays.{noGrades, gradesAfter}
 use Rattle.fleet.specs.Standing.{trucksAfter}
 use Rattle.fleet.specs.Grading.{carried, carriedBy}
 use Rattle.fleet.proofs.Stood.{nextRadio}
 
--- round k + 1 of a recording on the radio
-abbrev pub radioAfter : List ℕ → ℕ → Radio
-radioAfter s k = nextRadio (trucksOf s) k (roundAt s k) (trucksAfter s k)
+-- round k + 1 of a recording on the radio, by the rules of a cycle
+abbrev pub radioAfter : Rules recorded → List ℕ → ℕ → Radio
+radioAfter rules s k = nextRadio rules (trucksOf s) k (roundAt s k) (trucksAfter rules s k)
 
 -- ---- the first break
 module _ (class : Radio → Bool) (radios : ℕ → Radio) where
@@ -64,20 +64,20 @@ carried-true g k = go (ℕ-discrete g 0)
     go (yes e) = rw (eq-eqb g 0 e) (sym e)
     go (no e) = rw (ne-eqb g 0 e)
 
-module _ (s : List ℕ) where
+module _ (rules : Rules recorded) (s : List ℕ) where
   abbrev radios : ℕ → Radio
-  radios k = radioAt (trucksOf s) (openingsOf s) (roundAt s) k
+  radios k = radiosIn rules (trucksOf s) (openingsOf s) (roundAt s) k
 
   -- before round 1
-  pub grades-none : (judging : Bool) → noGrades ≡ gradesAfter s judging 0
+  pub grades-none : (judging : Bool) → noGrades ≡ gradesAfter rules s judging 0
   unfolding gradesAfter gradesFor
   grades-none true = rw (break-none complete radios, break-none majorityComplete radios, break-none zeroComplete radios, break-none accurate radios)
   grades-none false = refl
 
-  pub grades-next : (judging : Bool) (k : ℕ) → gradesAfter s judging (suc k) ≡ cond judging (carriedBy (gradesAfter s judging k) (radioAfter s k) (suc k)) (gradesAfter s judging k)
+  pub grades-next : (judging : Bool) (k : ℕ) → gradesAfter rules s judging (suc k) ≡ cond judging (carriedBy (gradesAfter rules s judging k) (radioAfter rules s k) (suc k)) (gradesAfter rules s judging k)
   unfolding gradesAfter gradesFor carriedBy
   grades-next true k =
-      rw (break-next complete radios k, break-next majorityComplete radios k, break-next zeroComplete radios k, break-next accurate radios k, radio-suc twoRules (trucksOf s) (openingsOf s) (roundAt s) k)
+      rw (break-next complete radios k, break-next majorityComplete radios k, break-next zeroComplete radios k, break-next accurate radios k, radio-suc rules (trucksOf s) (openingsOf s) (roundAt s) k)
   grades-next false k = refl
 
 -- nobody runs: a round breaks nothing
@@ -87,20 +87,20 @@ idle-carried a h g k =
     let e = idle-classes a h in
     rw (e .0, e .1, e .2, e .3, carried-true (g .complete) k, carried-true (g .majority) k, carried-true (g .zero) k, carried-true (g .accurate) k)
 
-module _ (s : List ℕ) (k : ℕ) (none : (j : ℕ) → j < trucksOf s → runs (truck (trucksAfter s k) j) ≡ false) where
-  idle-radio : (m j : ℕ) → j < trucksOf s → radioAfter s (k + m) .running j ≡ false
+module _ (rules : Rules recorded) (s : List ℕ) (k : ℕ) (none : (j : ℕ) → j < trucksOf s → runs (truck (trucksAfter rules s k) j) ≡ false) where
+  idle-radio : (m j : ℕ) → j < trucksOf s → radioAfter rules s (k + m) .running j ≡ false
   unfolding radioIn
-  idle-radio m j l = ap (λ (r : Bool). r && not (stopBit (roundAt s (k + m)) j)) (ap runs (kept twoRules (trucksOf s) (openingsOf s) (roundAt s) j l k m (none j l)) ∙ none j l)
+  idle-radio m j l = ap (λ (r : Bool). r && not (stopBit (roundAt s (k + m)) j)) (ap runs (kept rules (trucksOf s) (openingsOf s) (roundAt s) j l k m (none j l)) ∙ none j l)
 
-  pub grades-idle : (judging : Bool) (m : ℕ) → gradesAfter s judging (k + m) ≡ gradesAfter s judging k
+  pub grades-idle : (judging : Bool) (m : ℕ) → gradesAfter rules s judging (k + m) ≡ gradesAfter rules s judging k
   unfolding radioIn
-  grades-idle judging zero = ap (gradesAfter s judging) (add-zero k)
+  grades-idle judging zero = ap (gradesAfter rules s judging) (add-zero k)
   grades-idle judging (suc m) =
-      ap (gradesAfter s judging) (let e : k + suc m ≡ suc (k + m) = omega arith in e)
-      ∙ grades-next s judging (k + m)
+      ap (gradesAfter rules s judging) (let e : k + suc m ≡ suc (k + m) = omega arith in e)
+      ∙ grades-next rules s judging (k + m)
       ∙ go judging
       ∙ grades-idle judging m
     where
-      go : (b : Bool) → cond b (carriedBy (gradesAfter s judging (k + m)) (radioAfter s (k + m)) (suc (k + m))) (gradesAfter s judging (k + m)) ≡ gradesAfter s judging (k + m)
-      go true = idle-carried (radioAfter s (k + m)) (idle-radio m) (gradesAfter s judging (k + m)) (suc (k + m))
+      go : (b : Bool) → cond b (carriedBy (gradesAfter rules s judging (k + m)) (radioAfter rules s (k + m)) (suc (k + m))) (gradesAfter rules s judging (k + m)) ≡ gradesAfter rules s judging (k + m)
+      go true = idle-carried (radioAfter rules s (k + m)) (idle-radio m) (gradesAfter rules s judging (k + m)) (suc (k + m))
       go false = refl

@@ -25,20 +25,23 @@ use Rattle.recording.specs.declared.Counts.{Counts}
 use Rattle.recording.specs.Checks.{frameCheck}
 use Rattle.recording.proofs.Fronts.{counts-trucks, front-opening, front-small}
 use Rattle.recording.proofs.Accepted.{frame-good}
+use Rattle.protocol.specs.declared.Cycle.{Cycle}
+use Rattle.protocol.specs.declared.Cycle.the-variants.{TwoRound, SixRound}
 use Rattle.protocol.specs.declared.Heard.{Heard}
 use Rattle.protocol.specs.declared.Heard.the-variants.{Nothing}
 use Rattle.protocol.specs.declared.Sent.{Sent}
 use Rattle.protocol.specs.declared.Truck.{Truck}
-use Rattle.protocol.specs.Cycles.{afterIn}
-use Rattle.protocol.specs.Rules.{opened, truck, after, isOne, isSeveral, twoRules}
-use Rattle.protocol.specs.Runs.{openedTrucks, trucksAt, trucksIn}
-use Rattle.protocol.specs.Fleets.{fleetIn, twoRound}
+use Rattle.protocol.specs.Cycles.{Rules, afterIn}
+use Rattle.protocol.specs.Rules.{recorded, opened, truck, isOne, isSeveral, twoRules}
+use Rattle.protocol.specs.Runs.{openedTrucks, trucksIn}
+use Rattle.protocol.specs.Fleets.{Protocol, fleetIn, twoRound, chosen}
 use Rattle.radio.specs.Round.{activeBit}
-use Rattle.fleetrecord.proofs.Records.{length-start}
 use Rattle.protocol.proofs.Opened.{length-opened, truck-unopened}
 use Rattle.protocol.proofs.OneRound.{sound-two}
+use Rattle.protocol.proofs.SixRound.{sound-six}
 use Rattle.protocol.proofs.Good.{good-at}
 use Rattle.protocol.proofs.Rules.{counts-few}
+use Rattle.protocol.proofs.AnyRound.{Takes}
 use Rattle.protocol.proofs.AnyRun.{at-suc, opened-truck, throughout, estimates-open, kept}
 use Rattle.fleet.specs.declared.replay.Proposed.{Proposed}
 use Rattle.fleet.specs.declared.replay.Vetoed.{Vetoed}
@@ -57,41 +60,49 @@ use Rattle.fleet.proofs.Graded.{radioAfter, grades-next, grades-idle}
 use Rattle.fleet.specs.Standing.{ReadsAs, nextTrucks, holds, trucksAfter, stateOf, memoryOf, standing, sentBy, truckBy, fleetBy, Stands, Proposes, Vetoes, noted, Fresh, Due, Halted}
 use Rattle.fleet.proofs.Reading.{word-here, place-small, place-next}
 use Rattle.fleet.proofs.Places.{read-bit, everyone, everyone-lt, everyone-in, everyone-out, turn-back}
-use Rattle.fleet.proofs.Stood.{runs-is, memory-back, proposal-stands, veto-stands, veto-ended, proposal-radio, veto-radio}
+use Rattle.fleet.proofs.Stood.{runs-is, memory-back}
+use Rattle.fleet.proofs.StoodTwo.{proposal-stands, veto-stands, veto-ended, proposal-radio, veto-radio}
+
+-- estimates are openings or heard, in the cycle that a caller chose
+pub takes-in : (c : Cycle) → Takes (chosen c .rules)
+takes-in TwoRound = sound-two .takes
+takes-in SixRound = sound-six .takes
 
 -- what the rounds of a recording have in common
 module _ (s : List ℕ) (good : frameCheck s ≡ Accepted) where
-  few : trucksOf s ≤ 32
+  pub few : trucksOf s ≤ 32
   few = frame-good s good .most
 
-  small : (k j : ℕ) → j < trucksOf s → estimates (trucksAfter s k) j < 16
-  small k j l =
-      let e = estimates-open twoRules (trucksOf s) (openingsOf s) (roundAt s) few (sound-two .takes) k j l in
+  pub small : (rules : Rules recorded) → Takes rules → (k j : ℕ) → j < trucksOf s → estimates (trucksAfter rules s k) j < 16
+  small rules takes k j l =
+      let e = estimates-open rules (trucksOf s) (openingsOf s) (roundAt s) few takes k j l in
       omega (arith, e .2, openings-read s .opening (e .0) (e .1))
 
-  -- no count comes near 255
-  room : (k j : ℕ) → k ≤ 400 → j < trucksOf s → (truck (trucksAfter s k) j .sent .proposals < 255) × (truck (trucksAfter s k) j .sent .vetoes < 255)
+  -- in the two-round cycle no count comes near 255
+  room : (k j : ℕ) → k ≤ 400 → j < trucksOf s → (truck (trucksAfter twoRules s k) j .sent .proposals < 255) × (truck (trucksAfter twoRules s k) j .sent .vetoes < 255)
   room k j few-rounds l =
       let g = good-at twoRound sound-two (trucksOf s) (openingsOf s) few (openings-read s) (roundAt s) k j l in
-      let c = counts-few k (truck (trucksAfter s k) j .sent) few-rounds (g .counts) in
+      let c = counts-few k (truck (trucksAfter twoRules s k) j .sent) few-rounds (g .counts) in
       (omega (arith, c .0), omega (arith, c .1))
 
-  read-as : (k at : ℕ) → at ≡ roundPlace (trucksOf s) k → ReadsAs s at (trucksOf s) (roundAt s k)
+  pub read-as : (k at : ℕ) → at ≡ roundPlace (trucksOf s) k → ReadsAs s at (trucksOf s) (roundAt s k)
   read-as k at e i j li l =
       read-bit s (at + i * trucksOf s) (trucksOf s) j few l
       ∙ ap (λ (x : ℕ). bit x j) (word-here s k i (at + i * trucksOf s) li (ap (λ (x : ℕ). x + i * trucksOf s) e))
 
 -- ---- round by round
-module _ {s : List ℕ} {at n left k : ℕ} {by ends sent : List ℕ} {running decided marked one several until : ℕ} (d : Due s at n left k by ends sent running decided marked one several until) where
+module _ {rules : Rules recorded} {s : List ℕ} {at n left k : ℕ} {by ends sent : List ℕ} {running decided marked one several unwilling until : ℕ}
+    (d : Due rules s at n left k by ends sent running decided marked one several unwilling until) where
   pub due-few : n ≤ 32
   due-few = omega (arith, d .count, few s (d .good))
 
-  at-place : at ≡ roundPlace (trucksOf s) k
+  pub at-place : at ≡ roundPlace (trucksOf s) k
   at-place = d .place ∙ ap (λ (m : ℕ). roundPlace m k) (d .count)
 
   -- the run has come to its end
   pub halts : (eqb left 0 || eqb running 0 || not (eqb (bitAnd decided until) 0)) ≡ true → (g : Grades)
-      → Halted s (k + left) by ends sent until (record { running = running; decided = decided; marked = marked; one = one; several = several; done = k; grades = g })
+      → Halted rules s (k + left) by ends sent until
+      (record { running = running; decided = decided; marked = marked; one = one; several = several; unwilling = unwilling; done = k; grades = g })
   halts h g =
       record {
         good = d .good;
@@ -136,20 +147,18 @@ module _ {s : List ℕ} {at n left k : ℕ} {by ends sent : List ℕ} {running d
     further =
         ap₂ (λ (x m : ℕ). x + (3 + m) * m) at-place (d .count) ∙ place-next s k ∙ sym (ap (λ (m : ℕ). roundPlace m (k + 1)) (d .count))
 
-    due-counts : (j : ℕ) → j < trucksOf s → (truck (trucksAfter s k) j .sent .proposals < 255) × (truck (trucksAfter s k) j .sent .vetoes < 255)
-    due-counts j l = room s (d .good) k j (omega (arith, d .most)) l
-
     -- the sets after the next round, as the code counts
-    recount : (who : ℕ) {by′ sent′ : List ℕ} {running′ decided′ marked′ one′ several′ : ℕ} (ends′ : List ℕ) (left′ : ℕ) → ends′ ≡ filled (noted ends who (k + 1)) 32 ends → left′ ≡ left - 1
-        → Stands (trucksOf s) (k + left) (suc k) (openingAt s) (nextTrucks (trucksOf s) k (roundAt s k) (trucksAfter s k)) by′ (filled (noted ends who (suc k)) 32 ends) sent′ running′ decided′ marked′ one′ several′ → Fresh (trucksOf s) (suc k) (filled (noted ends who (suc k)) 32 ends) decided′ until
-        → Due s (at + (3 + n) * n) n left′ (k + 1) by′ ends′ sent′ running′ decided′ marked′ one′ several′ until
-    recount who {by′} {sent′} {running′} {decided′} {marked′} {one′} {several′} ends′ left′ ee el st fr =
+    pub recount : (who : ℕ) {by′ sent′ : List ℕ} {running′ decided′ marked′ one′ several′ unwilling′ : ℕ} (ends′ : List ℕ) (left′ : ℕ) → ends′ ≡ filled (noted ends who (k + 1)) 32 ends → left′ ≡ left - 1
+        → Stands (trucksOf s) (k + left) (suc k) (openingAt s) (nextTrucks rules (trucksOf s) k (roundAt s k) (trucksAfter rules s k)) by′ (filled (noted ends who (suc k)) 32 ends) sent′ running′ decided′ marked′ one′ several′ unwilling′
+        → Fresh (trucksOf s) (suc k) (filled (noted ends who (suc k)) 32 ends) decided′ until
+        → Due rules s (at + (3 + n) * n) n left′ (k + 1) by′ ends′ sent′ running′ decided′ marked′ one′ several′ unwilling′ until
+    recount who {by′} {sent′} {running′} {decided′} {marked′} {one′} {several′} {unwilling′} ends′ left′ ee el st fr =
         let f : k + left ≡ k + 1 + left′ = omega (arith, due-more, el) in
         record {
           good = d .good;
-          stands = subst (λ (x : List ℕ). Stands (trucksOf s) (k + 1 + left′) (k + 1) (openingAt s) (trucksAfter s (k + 1)) by′ x sent′ running′ decided′ marked′ one′ several′) (sym ee)
-              (subst₂ (λ (x y : ℕ). Stands (trucksOf s) x y (openingAt s) (trucksAfter s y) by′ (filled (noted ends who y) 32 ends) sent′ running′ decided′ marked′ one′ several′) f (sym (add-one k))
-              (subst (λ (x : List Truck). Stands (trucksOf s) (k + left) (suc k) (openingAt s) x by′ (filled (noted ends who (suc k)) 32 ends) sent′ running′ decided′ marked′ one′ several′) (sym (at-suc twoRules (trucksOf s) (openingsOf s) (roundAt s) k)) st));
+          stands = subst (λ (x : List ℕ). Stands (trucksOf s) (k + 1 + left′) (k + 1) (openingAt s) (trucksAfter rules s (k + 1)) by′ x sent′ running′ decided′ marked′ one′ several′ unwilling′) (sym ee)
+              (subst₂ (λ (x y : ℕ). Stands (trucksOf s) x y (openingAt s) (trucksAfter rules s y) by′ (filled (noted ends who y) 32 ends) sent′ running′ decided′ marked′ one′ several′ unwilling′) f (sym (add-one k))
+              (subst (λ (x : List Truck). Stands (trucksOf s) (k + left) (suc k) (openingAt s) x by′ (filled (noted ends who (suc k)) 32 ends) sent′ running′ decided′ marked′ one′ several′ unwilling′) (sym (at-suc rules (trucksOf s) (openingsOf s) (roundAt s) k)) st));
           most = omega (arith, f, d .most);
           count = d .count;
           place = further;
@@ -157,71 +166,81 @@ module _ {s : List ℕ} {at n left k : ℕ} {by ends sent : List ℕ} {running d
               (subst (λ (y : ℕ). Fresh (trucksOf s) y (filled (noted ends who y) 32 ends) decided′ until) (sym (add-one k)) fr);
         }
 
-    pub proposal-next : odd k ≡ false → {by′ : List ℕ} {r : Proposed} → Proposes s at n left running by by′ r → (who : ℕ) (ends′ sent′ : List ℕ) → who ≡ without running (r .going)
-        → ends′ ≡ filled (noted ends who (k + 1)) 32 ends → sent′ ≡ countedUp sent (r .senders)
-        → Due s (at + (3 + n) * n) n (left - 1) (k + 1) by′ ends′ sent′ (r .going) decided (r .mark) (r .one) (r .several) until × (odd (k + 1) ≡ true)
-    proposal-next o {by′} {r} p who ends′ sent′ ew ee es = (
-      recount (without running (r .going)) ends′ (left - 1) (ee ∙ ap (λ (x : ℕ). filled (noted ends x (k + 1)) 32 ends) ew) refl
-          (subst (λ (x : List ℕ). Stands (trucksOf s) (k + left) (suc k) (openingAt s) (nextTrucks (trucksOf s) k (roundAt s k) (trucksAfter s k)) by′ (filled (noted ends (without running (r .going)) (suc k)) 32 ends) x (r .going) decided (r .mark) (r .one) (r .several)) (sym es)
-          (proposal-stands (d .stands) (few s (d .good)) (small s (d .good) k) due-counts s at (roundAt s k) (read-as s (d .good) k at at-place) (odd-suc k ∙ ap not o) left refl (subst (λ (m : ℕ). Proposes s at m left running by by′ r) (d .count) p)))
-          (λ j l h. absurd (true≢false (sym h ∙ ap (λ (x : ℕ). holds x j) none-yet ∙ bit-zero (31 - j)))),
-      ap odd (add-one k) ∙ odd-suc k ∙ ap not o,
-    )
-
-    pub veto-next : odd k ≡ true → {r : Vetoed} → Vetoes s at n running marked one several r → (who : ℕ) (ends′ sent′ : List ℕ) → who ≡ without running (r .on)
-        → ends′ ≡ filled (noted ends who (k + 1)) 32 ends → sent′ ≡ countedUp sent (r .senders * 2 ^ 32 % 2 ^ 64)
-        → Due s (at + (3 + n) * n) n (left - 1) (k + 1) by ends′ sent′ (r .on) (bitOr decided (r .done)) 0 0 0 until × (odd (k + 1) ≡ false)
-    veto-next o {r} p who ends′ sent′ ew ee es = (
-      recount (without running (r .on)) ends′ (left - 1) (ee ∙ ap (λ (x : ℕ). filled (noted ends x (k + 1)) 32 ends) ew) refl
-          (subst (λ (x : List ℕ). Stands (trucksOf s) (k + left) (suc k) (openingAt s) (nextTrucks (trucksOf s) k (roundAt s k) (trucksAfter s k)) by (filled (noted ends (without running (r .on)) (suc k)) 32 ends) x (r .on) (bitOr decided (r .done)) 0 0 0) (sym es)
-          (veto-stands (d .stands) (few s (d .good)) (small s (d .good) k) due-counts s at (roundAt s k) (read-as s (d .good) k at at-place) (odd-suc k ∙ ap not o) (subst (λ (m : ℕ). Vetoes s at m running marked one several r) (d .count) p)))
-          (λ j l h.
-          veto-ended (d .stands) (few s (d .good)) (small s (d .good) k) due-counts s at (roundAt s k) (read-as s (d .good) k at at-place) (odd-suc k ∙ ap not o) (subst (λ (m : ℕ). Vetoes s at m running marked one several r) (d .count) p) j l
-          (new (holds decided j) (holds (r .done) j) (holds until j) (sym (bit-and decided until (31 - j)) ∙ ap (λ (x : ℕ). holds x j) none-yet ∙ bit-zero (31 - j))
-          (sym (bit-and (bitOr decided (r .done)) until (31 - j) ∙ ap (λ (b : Bool). b && holds until j) (bit-or decided (r .done) (31 - j))) ∙ h))),
-      ap odd (add-one k) ∙ odd-suc k ∙ ap not o,
-    )
-      where
-        new : (x y u : Bool) → (x && u) ≡ false → ((x || y) && u) ≡ true → y ≡ true
-        new true y true e f = absurd (true≢false e)
-        new true y false e f = absurd (false≢true f)
-        new false true u e f = refl
-        new false false u e f = absurd (false≢true f)
-
     -- the grades with the round
-    graded-next : (judging : Bool) {going senders mark : ℕ} → RadioSets (radioAfter s k) s (at + 3 * trucksOf s) (trucksOf s) going senders mark → (g g′ : Grades) → g ≡ gradesAfter s judging k
-        → ((a : Radio) → RadioSets a s (at + 3 * n) n going senders mark → g′ ≡ cond judging (carriedBy g a (k + 1)) g) → g′ ≡ gradesAfter s judging (k + 1)
+    pub graded-next : (judging : Bool) {going senders mark : ℕ} → RadioSets (radioAfter rules s k) s (at + 3 * trucksOf s) (trucksOf s) going senders mark → (g g′ : Grades) → g ≡ gradesAfter rules s judging k
+        → ((a : Radio) → RadioSets a s (at + 3 * n) n going senders mark → g′ ≡ cond judging (carriedBy g a (k + 1)) g) → g′ ≡ gradesAfter rules s judging (k + 1)
     graded-next judging {going} {senders} {mark} radio-sets g g′ eg h =
-        h (radioAfter s k) (subst (λ (m : ℕ). RadioSets (radioAfter s k) s (at + 3 * m) m going senders mark) (sym (d .count)) radio-sets)
-        ∙ ap₂ (λ (x : Grades) (j : ℕ). cond judging (carriedBy x (radioAfter s k) j) x) eg (add-one k)
-        ∙ sym (ap (gradesAfter s judging) (add-one k) ∙ grades-next s judging k)
+        h (radioAfter rules s k) (subst (λ (m : ℕ). RadioSets (radioAfter rules s k) s (at + 3 * m) m going senders mark) (sym (d .count)) radio-sets)
+        ∙ ap₂ (λ (x : Grades) (j : ℕ). cond judging (carriedBy x (radioAfter rules s k) j) x) eg (add-one k)
+        ∙ sym (ap (gradesAfter rules s judging) (add-one k) ∙ grades-next rules s judging k)
 
-    pub proposal-graded : odd k ≡ false → {by′ : List ℕ} {r : Proposed} → Proposes s at n left running by by′ r → (judging : Bool) (g g′ : Grades) → g ≡ gradesAfter s judging k
-        → ((a : Radio) → RadioSets a s (at + 3 * n) n (r .going) (r .senders) (r .mark) → g′ ≡ cond judging (carriedBy g a (k + 1)) g) → g′ ≡ gradesAfter s judging (k + 1)
-    proposal-graded o {by′} {r} p judging =
-        graded-next judging (proposal-radio (d .stands) (few s (d .good)) (small s (d .good) k) due-counts s at (roundAt s k) (read-as s (d .good) k at at-place) (odd-suc k ∙ ap not o) left refl (subst (λ (m : ℕ). Proposes s at m left running by by′ r) (d .count) p))
+    pub same-end : {by′ ends′ sent′ : List ℕ} {r : Sets} → Halted rules s (k + 1 + (left - 1)) by′ ends′ sent′ until r → Halted rules s (k + left) by′ ends′ sent′ until r
+    same-end {by′} {ends′} {sent′} {r} h = subst (λ (x : ℕ). Halted rules s x by′ ends′ sent′ until r) (let e : k + 1 + (left - 1) ≡ k + left = omega (arith, due-more) in e) h
 
-    pub veto-graded : odd k ≡ true → {r : Vetoed} → Vetoes s at n running marked one several r → (judging : Bool) (g g′ : Grades) → g ≡ gradesAfter s judging k
-        → ((a : Radio) → RadioSets a s (at + 3 * n) n (r .going) (r .senders) (r .mark) → g′ ≡ cond judging (carriedBy g a (k + 1)) g) → g′ ≡ gradesAfter s judging (k + 1)
-    veto-graded o {r} p judging =
-        graded-next judging (veto-radio (d .stands) (few s (d .good)) (small s (d .good) k) due-counts s at (roundAt s k) (read-as s (d .good) k at at-place) (odd-suc k ∙ ap not o) (subst (λ (m : ℕ). Vetoes s at m running marked one several r) (d .count) p))
+-- ---- a round of the two-round cycle
+module _ {s : List ℕ} {at n left k : ℕ} {by ends sent : List ℕ} {running decided marked one several until : ℕ} (d : Due twoRules s at n left k by ends sent running decided marked one several 0 until)
+    (on : (eqb left 0 || eqb running 0 || not (eqb (bitAnd decided until) 0)) ≡ false) where
+  due-small : (j : ℕ) → j < trucksOf s → estimates (trucksAfter twoRules s k) j < 16
+  due-small = small s (d .good) twoRules (sound-two .takes) k
 
-    pub same-end : {by′ ends′ sent′ : List ℕ} {r : Sets} → Halted s (k + 1 + (left - 1)) by′ ends′ sent′ until r → Halted s (k + left) by′ ends′ sent′ until r
-    same-end {by′} {ends′} {sent′} {r} h = subst (λ (x : ℕ). Halted s x by′ ends′ sent′ until r) (let e : k + 1 + (left - 1) ≡ k + left = omega (arith, due-more) in e) h
+  due-counts : (j : ℕ) → j < trucksOf s → (truck (trucksAfter twoRules s k) j .sent .proposals < 255) × (truck (trucksAfter twoRules s k) j .sent .vetoes < 255)
+  due-counts j l = room s (d .good) k j (omega (arith, d .most)) l
+
+  pub proposal-next : odd k ≡ false → {by′ : List ℕ} {r : Proposed} → Proposes s at n left running by by′ r → (who : ℕ) (ends′ sent′ : List ℕ) → who ≡ without running (r .going)
+      → ends′ ≡ filled (noted ends who (k + 1)) 32 ends → sent′ ≡ countedUp sent (r .senders)
+      → Due twoRules s (at + (3 + n) * n) n (left - 1) (k + 1) by′ ends′ sent′ (r .going) decided (r .mark) (r .one) (r .several) 0 until × (odd (k + 1) ≡ true)
+  proposal-next o {by′} {r} p who ends′ sent′ ew ee es = (
+    recount d on (without running (r .going)) ends′ (left - 1) (ee ∙ ap (λ (x : ℕ). filled (noted ends x (k + 1)) 32 ends) ew) refl
+        (subst (λ (x : List ℕ). Stands (trucksOf s) (k + left) (suc k) (openingAt s) (nextTrucks twoRules (trucksOf s) k (roundAt s k) (trucksAfter twoRules s k)) by′ (filled (noted ends (without running (r .going)) (suc k)) 32 ends) x (r .going) decided (r .mark) (r .one) (r .several) 0) (sym es)
+        (proposal-stands (d .stands) (few s (d .good)) due-small due-counts s at (roundAt s k) (read-as s (d .good) k at (at-place d)) (odd-suc k ∙ ap not o) left refl (subst (λ (m : ℕ). Proposes s at m left running by by′ r) (d .count) p)))
+        (λ j l h. absurd (true≢false (sym h ∙ ap (λ (x : ℕ). holds x j) (none-yet d on) ∙ bit-zero (31 - j)))),
+    ap odd (add-one k) ∙ odd-suc k ∙ ap not o,
+  )
+
+  pub veto-next : odd k ≡ true → {r : Vetoed} → Vetoes s at n running marked one several r → (who : ℕ) (ends′ sent′ : List ℕ) → who ≡ without running (r .on)
+      → ends′ ≡ filled (noted ends who (k + 1)) 32 ends → sent′ ≡ countedUp sent (r .senders * 2 ^ 32 % 2 ^ 64)
+      → Due twoRules s (at + (3 + n) * n) n (left - 1) (k + 1) by ends′ sent′ (r .on) (bitOr decided (r .done)) 0 0 0 0 until × (odd (k + 1) ≡ false)
+  veto-next o {r} p who ends′ sent′ ew ee es = (
+    recount d on (without running (r .on)) ends′ (left - 1) (ee ∙ ap (λ (x : ℕ). filled (noted ends x (k + 1)) 32 ends) ew) refl
+        (subst (λ (x : List ℕ). Stands (trucksOf s) (k + left) (suc k) (openingAt s) (nextTrucks twoRules (trucksOf s) k (roundAt s k) (trucksAfter twoRules s k)) by (filled (noted ends (without running (r .on)) (suc k)) 32 ends) x (r .on) (bitOr decided (r .done)) 0 0 0 0) (sym es)
+        (veto-stands (d .stands) (few s (d .good)) due-small due-counts s at (roundAt s k) (read-as s (d .good) k at (at-place d)) (odd-suc k ∙ ap not o) (subst (λ (m : ℕ). Vetoes s at m running marked one several r) (d .count) p)))
+        (λ j l h.
+        veto-ended (d .stands) (few s (d .good)) due-small due-counts s at (roundAt s k) (read-as s (d .good) k at (at-place d)) (odd-suc k ∙ ap not o) (subst (λ (m : ℕ). Vetoes s at m running marked one several r) (d .count) p) j l
+        (new (holds decided j) (holds (r .done) j) (holds until j) (sym (bit-and decided until (31 - j)) ∙ ap (λ (x : ℕ). holds x j) (none-yet d on) ∙ bit-zero (31 - j))
+        (sym (bit-and (bitOr decided (r .done)) until (31 - j) ∙ ap (λ (b : Bool). b && holds until j) (bit-or decided (r .done) (31 - j))) ∙ h))),
+    ap odd (add-one k) ∙ odd-suc k ∙ ap not o,
+  )
+    where
+      new : (x y u : Bool) → (x && u) ≡ false → ((x || y) && u) ≡ true → y ≡ true
+      new true y true e f = absurd (true≢false e)
+      new true y false e f = absurd (false≢true f)
+      new false true u e f = refl
+      new false false u e f = absurd (false≢true f)
+
+  pub proposal-graded : odd k ≡ false → {by′ : List ℕ} {r : Proposed} → Proposes s at n left running by by′ r → (judging : Bool) (g g′ : Grades) → g ≡ gradesAfter twoRules s judging k
+      → ((a : Radio) → RadioSets a s (at + 3 * n) n (r .going) (r .senders) (r .mark) → g′ ≡ cond judging (carriedBy g a (k + 1)) g) → g′ ≡ gradesAfter twoRules s judging (k + 1)
+  proposal-graded o {by′} {r} p judging =
+      graded-next d on judging (proposal-radio (d .stands) (few s (d .good)) due-small due-counts s at (roundAt s k) (read-as s (d .good) k at (at-place d)) (odd-suc k ∙ ap not o) left refl (subst (λ (m : ℕ). Proposes s at m left running by by′ r) (d .count) p))
+
+  pub veto-graded : odd k ≡ true → {r : Vetoed} → Vetoes s at n running marked one several r → (judging : Bool) (g g′ : Grades) → g ≡ gradesAfter twoRules s judging k
+      → ((a : Radio) → RadioSets a s (at + 3 * n) n (r .going) (r .senders) (r .mark) → g′ ≡ cond judging (carriedBy g a (k + 1)) g) → g′ ≡ gradesAfter twoRules s judging (k + 1)
+  veto-graded o {r} p judging =
+      graded-next d on judging (veto-radio (d .stands) (few s (d .good)) due-small due-counts s at (roundAt s k) (read-as s (d .good) k at (at-place d)) (odd-suc k ∙ ap not o) (subst (λ (m : ℕ). Vetoes s at m running marked one several r) (d .count) p))
 
 -- ---- the record at the end
 -- the places of a run's record
-module _ (n : ℕ) (openings : List ℕ) (rounds : ℕ → List ℕ) (m : n ≤ 32) where
-  length-after : (active : ℕ → Bool) (k : ℕ) (w : List ℕ) (ts : List Truck) → length ts ≡ 32 → length (after n active k w ts) ≡ 32
+module _ (rules : Rules recorded) (n : ℕ) (openings : List ℕ) (rounds : ℕ → List ℕ) (m : n ≤ 32) where
+  length-after : (active : ℕ → Bool) (k : ℕ) (w : List ℕ) (ts : List Truck) → length ts ≡ 32 → length (afterIn rules n active k w ts) ≡ 32
   unfolding afterIn
   length-after active k w ts e = length-filled _ n ts (omega arith) ∙ e
 
-  places : (k : ℕ) → length (trucksAt n openings rounds k) ≡ 32
+  places : (k : ℕ) → length (trucksIn rules n openings rounds k) ≡ 32
+  unfolding trucksIn stateAt
   places k =
-      throughout twoRules n openings rounds (λ k ts. length ts ≡ 32) k start (λ j l h. length-after (activeBit (rounds j)) (suc j) (rounds j) (trucksAt n openings rounds j) h) k (omega arith)
+      throughout rules n openings rounds (λ k ts. length ts ≡ 32) k start (λ j l h. length-after (activeBit (rounds j)) (suc j) (rounds j) (trucksIn rules n openings rounds j) h) k (omega arith)
     where
-      start : length (trucksAt n openings rounds 0) ≡ 32
-      start = length-start n openings rounds
+      start : length (trucksIn rules n openings rounds 0) ≡ 32
+      start = length-opened openings
 
 -- crusher c is that of the truck at place q
 own-there : (b q : ℕ) (x : Bool) → q < 32 → bit b q ≡ x → not (eqb (bitAnd (2 ^ q) b) 0) ≡ x
@@ -236,49 +255,46 @@ own-there b q false l e =
     go j (no h) = ap (λ (y : Bool). y && bit b j) (ne-eqb q j h)
 
 -- places past the trucks
-unused : (s : List ℕ) (k j : ℕ) → trucksOf s ≤ j → truck (trucksAfter s k) j ≡ opened 0
+unused : (rules : Rules recorded) (s : List ℕ) (k j : ℕ) → trucksOf s ≤ j → truck (trucksAfter rules s k) j ≡ opened 0
 unfolding trucksIn stateAt openingsOf afterIn
-unused s k j h =
-    throughout twoRules (trucksOf s) (openingsOf s) (roundAt s) (λ i ts. truck ts j ≡ opened 0) k
+unused rules s k j h =
+    throughout rules (trucksOf s) (openingsOf s) (roundAt s) (λ i ts. truck ts j ≡ opened 0) k
     (truck-unopened (openingsOf s) j (omega (arith, h, length-tab (openingAt s) (trucksOf s))))
-    (λ i l e. getD-filled-past _ (trucksOf s) (trucksAfter s i) j (opened 0) h ∙ e) k (omega arith)
+    (λ i l e. getD-filled-past _ (trucksOf s) (trucksAfter rules s i) j (opened 0) h ∙ e) k (omega arith)
 
-module _ {s : List ℕ} {last : ℕ} {by ends sent : List ℕ} {b : Sets} (h : Halted s last by ends sent 0 b) (most : last ≤ 400) where
+module _ (p : Protocol) {s : List ℕ} {last : ℕ} {by ends sent : List ℕ} {b : Sets} (takes : Takes (p .rules)) (h : Halted (p .rules) s last by ends sent 0 b) where
   abbrev then : List Truck
-  then = trucksAfter s (b .done)
+  then = trucksAfter (p .rules) s (b .done)
 
   estimate-is : (j : ℕ) → j < trucksOf s → first (wasHeard by (2 ^ (31 - j))) 16 ≡ truck then j .estimate
   estimate-is j l =
-      first-unique (wasHeard by (2 ^ (31 - j))) 16 (truck then j .estimate) (omega (arith, small s (h .good) (b .done) j l))
-      (λ c o. is c (omega (arith, small s (h .good) (b .done) j l)) ∙ ne-eqb (truck then j .estimate) c (λ e. omega arith)) (λ o. is (truck then j .estimate) o ∙ eq-eqb (truck then j .estimate) (truck then j .estimate) refl)
+      first-unique (wasHeard by (2 ^ (31 - j))) 16 (truck then j .estimate) (omega (arith, small s (h .good) (p .rules) takes (b .done) j l))
+      (λ c o. is c (omega (arith, small s (h .good) (p .rules) takes (b .done) j l)) ∙ ne-eqb (truck then j .estimate) c (λ e. omega arith)) (λ o. is (truck then j .estimate) o ∙ eq-eqb (truck then j .estimate) (truck then j .estimate) refl)
     where
       is : (c : ℕ) → c < 16 → wasHeard by (2 ^ (31 - j)) c ≡ eqb (truck then j .estimate) c
       is c lc =
           own-there (getD by c 0) (31 - j) (eqb (truck then j .estimate) c) (omega arith)
           (h .stands .sorted c lc j (omega (arith, few s (h .good))) ∙ ap (λ (y : Bool). y && eqb (truck then j .estimate) c) (lt-ltb j (trucksOf s) l))
 
-  halted-counts : (j : ℕ) → j < trucksOf s → (truck then j .sent .proposals < 255) × (truck then j .sent .vetoes < 255)
-  halted-counts j l = room s (h .good) (b .done) j (omega (arith, h .most)) l
-
   -- the rounds that are left leave the trucks as they are
-  stays : (j : ℕ) → j < trucksOf s → truck (trucksAfter s last) j ≡ truck then j
+  stays : (j : ℕ) → j < trucksOf s → truck (trucksAfter (p .rules) s last) j ≡ truck then j
   stays j l = go (ℕ-discrete (b .running) 0)
     where
-      go : Dec (b .running ≡ 0) → truck (trucksAfter s last) j ≡ truck then j
-      go (no some) = ap (λ (k : ℕ). truck (trucksAfter s k) j) (sym (h .over some (and-zero-r (b .decided))))
+      go : Dec (b .running ≡ 0) → truck (trucksAfter (p .rules) s last) j ≡ truck then j
+      go (no some) = ap (λ (k : ℕ). truck (trucksAfter (p .rules) s k) j) (sym (h .over some (and-zero-r (b .decided))))
       go (yes none) =
-          ap (λ (k : ℕ). truck (trucksAfter s k) j) (let e : last ≡ b .done + (last - b .done) = omega (arith, h .most) in e)
-          ∙ kept twoRules (trucksOf s) (openingsOf s) (roundAt s) j l (b .done) (last - b .done) (runs-is (h .stands) (few s (h .good)) (small s (h .good) (b .done)) halted-counts j l ∙ ap (λ (x : ℕ). holds x j) none ∙ bit-zero (31 - j))
+          ap (λ (k : ℕ). truck (trucksAfter (p .rules) s k) j) (let e : last ≡ b .done + (last - b .done) = omega (arith, h .most) in e)
+          ∙ kept (p .rules) (trucksOf s) (openingsOf s) (roundAt s) j l (b .done) (last - b .done) (runs-is (h .stands) j l ∙ ap (λ (x : ℕ). holds x j) none ∙ bit-zero (31 - j))
 
   -- nor do they break a class
-  pub grades-ended : (judging : Bool) → gradesAfter s judging (b .done) ≡ gradesAfter s judging last
+  pub grades-ended : (judging : Bool) → gradesAfter (p .rules) s judging (b .done) ≡ gradesAfter (p .rules) s judging last
   grades-ended judging = go (ℕ-discrete (b .running) 0)
     where
-      go : Dec (b .running ≡ 0) → gradesAfter s judging (b .done) ≡ gradesAfter s judging last
-      go (no some) = ap (gradesAfter s judging) (h .over some (and-zero-r (b .decided)))
+      go : Dec (b .running ≡ 0) → gradesAfter (p .rules) s judging (b .done) ≡ gradesAfter (p .rules) s judging last
+      go (no some) = ap (gradesAfter (p .rules) s judging) (h .over some (and-zero-r (b .decided)))
       go (yes none) =
-          sym (ap (gradesAfter s judging) (let e : last ≡ b .done + (last - b .done) = omega (arith, h .most) in e)
-          ∙ grades-idle s (b .done) (λ j l. runs-is (h .stands) (few s (h .good)) (small s (h .good) (b .done)) halted-counts j l ∙ ap (λ (x : ℕ). holds x j) none ∙ bit-zero (31 - j)) judging (last - b .done))
+          sym (ap (gradesAfter (p .rules) s judging) (let e : last ≡ b .done + (last - b .done) = omega (arith, h .most) in e)
+          ∙ grades-idle (p .rules) s (b .done) (λ j l. runs-is (h .stands) j l ∙ ap (λ (x : ℕ). holds x j) none ∙ bit-zero (31 - j)) judging (last - b .done))
 
   heard-then : (j : ℕ) → j < trucksOf s → (r : Bool) → holds (b .running) j ≡ r → cond r (truck then j .heard) Nothing ≡ cond r (memoryOf (holds (b .one) j) (holds (b .several) j)) Nothing
   heard-then j l true e =
@@ -287,23 +303,23 @@ module _ {s : List ℕ} {last : ℕ} {by ends sent : List ℕ} {b : Sets} (h : H
   heard-then j l false e = refl
 
   pub truck-ended : (j : ℕ) → j < trucksOf s
-      → truckBy b by (openingAt s j) (getD ends j 0) (sentBy sent (inUse sent 8) (31 - j)) (31 - j) ≡ truck (trucksAfter s last) j
+      → truckBy b by (openingAt s j) (getD ends j 0) (sentBy sent (inUse sent 8) (31 - j)) (31 - j) ≡ truck (trucksAfter (p .rules) s last) j
   truck-ended j l =
       sym (stays j l ∙ h .stands .each j l
-      ∙ ap₂ (λ (e : ℕ) (x : Heard). record { opening = openingAt s j; estimate = e; mark = holds (b .running) j && holds (b .marked) j; heard = x; state = stateOf (holds (b .running) j) (holds (b .decided) j) (getD ends j 0); sent = truck then j .sent })
+      ∙ ap₂ (λ (e : ℕ) (x : Heard). record { opening = openingAt s j; estimate = e; mark = holds (b .running) j && holds (b .marked) j; heard = x; unwilling = holds (b .running) j && holds (b .unwilling) j; state = stateOf (holds (b .running) j) (holds (b .decided) j) (getD ends j 0); sent = truck then j .sent })
       (sym (estimate-is j l)) (heard-then j l (holds (b .running) j) refl)
       ∙ ap (λ (c : Sent). truckBy b by (openingAt s j) (getD ends j 0) c (31 - j))
       (h .stands .counts j l ∙ sym (ap₂ (λ (x y : ℕ). record { proposals = x; vetoes = y }) (tally-used sent 8 (31 - j)) (tally-used sent 8 (32 + (31 - j))))))
 
   -- the record is that of the run
-  pub fleet-ended : (c : Counts) (openings : List ℕ) → c ≡ countsOf s → ((j : ℕ) → j < trucksOf s → getD openings j 0 ≡ openingAt s j) → c .rounds ≡ last → fleetBy c openings b by ends sent ≡ fleetAfter s last
+  pub fleet-ended : (c : Counts) (openings : List ℕ) → c ≡ countsOf s → ((j : ℕ) → j < trucksOf s → getD openings j 0 ≡ openingAt s j) → c .rounds ≡ last → fleetBy c openings b by ends sent ≡ fleetAfter p s last
   unfolding fleetIn
   fleet-ended c openings met opens done =
       ap₂ (λ (m k : ℕ). record { n = m; done = k; trucks = filled built m (openedTrucks []) }) count done
       ∙ ap (λ (x : List Truck). record { n = trucksOf s; done = last; trucks = x })
-      (ext-getD (opened 0) (filled built (trucksOf s) (openedTrucks [])) (trucksAfter s last)
+      (ext-getD (opened 0) (filled built (trucksOf s) (openedTrucks [])) (trucksAfter (p .rules) s last)
       (length-filled built (trucksOf s) (openedTrucks []) (omega (arith, few s (h .good), length-opened [])) ∙ length-opened []
-      ∙ sym (places (trucksOf s) (openingsOf s) (roundAt s) (few s (h .good)) last)) (λ j o. each j (decLt j (trucksOf s))))
+      ∙ sym (places (p .rules) (trucksOf s) (openingsOf s) (roundAt s) (few s (h .good)) last)) (λ j o. each j (decLt j (trucksOf s))))
     where
       count : c .trucks ≡ trucksOf s
       count = counts-trucks s c met
@@ -311,14 +327,14 @@ module _ {s : List ℕ} {last : ℕ} {by ends sent : List ℕ} {b : Sets} (h : H
       built : ℕ → Truck
       built i = truckBy b by (getD openings i 0) (getD ends i 0) (sentBy sent (inUse sent 8) (31 - i)) (31 - i)
 
-      each : (j : ℕ) → Dec (j < trucksOf s) → getD (filled built (trucksOf s) (openedTrucks [])) j (opened 0) ≡ getD (trucksAfter s last) j (opened 0)
+      each : (j : ℕ) → Dec (j < trucksOf s) → getD (filled built (trucksOf s) (openedTrucks [])) j (opened 0) ≡ getD (trucksAfter (p .rules) s last) j (opened 0)
       each j (yes l) =
           getD-filled built (trucksOf s) (openedTrucks []) j (opened 0) l
           ∙ ap (λ (o : ℕ). truckBy b by o (getD ends j 0) (sentBy sent (inUse sent 8) (31 - j)) (31 - j)) (opens j l)
           ∙ truck-ended j l
       each j (no l) =
           getD-filled-past built (trucksOf s) (openedTrucks []) j (opened 0) (omega arith)
-          ∙ truck-unopened [] j (omega arith) ∙ sym (unused s last j (omega arith))
+          ∙ truck-unopened [] j (omega arith) ∙ sym (unused (p .rules) s last j (omega arith))
 
 -- ---- before round 1
 -- a place of the list that is lent for the openings holds 0
@@ -335,18 +351,18 @@ module _ (s : List ℕ) (good : frameCheck s ≡ Accepted) (openings : List ℕ)
   pub openings-small : (i : ℕ) → getD openings i 0 < 16
   openings-small = front-small s (replicate 32 0) openings read (λ i. rw (zeros 32 i) (lit< tt))
 
-module _ (s : List ℕ) (good : frameCheck s ≡ Accepted) (n : ℕ) (count : n ≡ trucksOf s) where
-  pub first-few : (n ≤ 32) × (roundsOf s ≤ 400)
-  first-few = (omega (arith, count, frame-good s good .most), frame-good s good .rounds)
+pub first-few : (s : List ℕ) → frameCheck s ≡ Accepted → (n : ℕ) → n ≡ trucksOf s → (n ≤ 32) × (roundsOf s ≤ 400)
+first-few s good n count = (omega (arith, count, frame-good s good .most), frame-good s good .rounds)
 
-  opening-truck : (j : ℕ) → j < trucksOf s → truck (trucksAfter s 0) j ≡ opened (openingAt s j)
+module _ (rules : Rules recorded) (s : List ℕ) (good : frameCheck s ≡ Accepted) (n : ℕ) (count : n ≡ trucksOf s) where
+  opening-truck : (j : ℕ) → j < trucksOf s → truck (trucksAfter rules s 0) j ≡ opened (openingAt s j)
   unfolding openingsOf
   opening-truck j l =
-      opened-truck twoRules (trucksOf s) (openingsOf s) (roundAt s) j (omega (arith, frame-good s good .most)) ∙ ap opened (getD-tab (openingAt s) (trucksOf s) j 0 l)
+      opened-truck rules (trucksOf s) (openingsOf s) (roundAt s) j (omega (arith, frame-good s good .most)) ∙ ap opened (getD-tab (openingAt s) (trucksOf s) j 0 l)
 
   -- any number of rounds up to 400 may be asked for
   pub first-due : {rounds : ℕ} (openings : List ℕ) → ((j : ℕ) → j < trucksOf s → getD openings j 0 ≡ openingAt s j) → (at all until : ℕ) (by : List ℕ) → at ≡ wordPlace n 0 → rounds ≤ 400 → all ≡ everyone n → Sorted by 32 all (λ p. getD openings (31 - p) 0) × (length by ≡ 16)
-      → Due s at n rounds 0 by (replicate 32 0) (replicate 8 0) all 0 0 0 0 until
+      → Due rules s at n rounds 0 by (replicate 32 0) (replicate 8 0) all 0 0 0 0 0 until
   first-due {rounds} openings opens at all until by ep most ea (sorted, long) =
       record {
         good = good;
@@ -357,12 +373,12 @@ module _ (s : List ℕ) (good : frameCheck s ≡ Accepted) (n : ℕ) (count : n 
           counts = λ j l.
               ap (λ (t : Truck). t .sent) (opening-truck j l)
               ∙ sym (ap₂ (λ (x y : ℕ). record { proposals = x; vetoes = y }) (tally-none (replicate 8 0) 8 (31 - j) (zeros 8)) (tally-none (replicate 8 0) 8 (32 + (31 - j)) (zeros 8)));
-          fits = rw ea (everyone-lt n (first-few .0));
+          fits = rw ea (everyone-lt n (first-few s good n count .0));
           none = λ j h l. ap (λ (x : ℕ). holds x j) ea ∙ everyone-out n j (omega (arith, count)) l;
           apart = λ j l h. bit-zero (31 - j);
           each = λ j l. let e = opening-truck j l in
-              e ∙ sym (ap (λ (t : Truck). standing (openingAt s j) (t .estimate) (t .heard) true false false 0 (t .sent)) e)
-              ∙ bits j (truck (trucksAfter s 0) j .estimate) (truck (trucksAfter s 0) j .heard) (truck (trucksAfter s 0) j .sent) (in-all j l);
+              e ∙ sym (ap (λ (t : Truck). standing (openingAt s j) (t .estimate) (t .heard) true false false false 0 (t .sent)) e)
+              ∙ bits j (truck (trucksAfter rules s 0) j .estimate) (truck (trucksAfter rules s 0) j .heard) (truck (trucksAfter rules s 0) j .sent) (in-all j l);
           heard = λ j l r m. let e = ap (λ (t : Truck). t .heard) (opening-truck j l) in (ap isOne e ∙ sym (bit-zero (31 - j)), ap isSeveral e ∙ sym (bit-zero (31 - j)));
           sorted = λ c lc j l.
               sorted c lc .each (31 - j) (omega arith) ∙ ap (λ (x : ℕ). holds all j && eqb (getD openings x 0) c) (turn-back j l) ∙ go c j l (decLt j (trucksOf s));
@@ -374,14 +390,14 @@ module _ (s : List ℕ) (good : frameCheck s ≡ Accepted) (n : ℕ) (count : n 
       }
     where
       in-all : (j : ℕ) → j < trucksOf s → holds all j ≡ true
-      in-all j l = ap (λ (x : ℕ). holds x j) ea ∙ everyone-in n j (first-few .0) (omega (arith, count))
+      in-all j l = ap (λ (x : ℕ). holds x j) ea ∙ everyone-in n j (first-few s good n count .0) (omega (arith, count))
 
-      bits : (j e : ℕ) (x : Heard) (c : Sent) → holds all j ≡ true → standing (openingAt s j) e x true false false 0 c ≡ standing (openingAt s j) e x (holds all j) (holds 0 j) (holds 0 j) (getD (replicate 32 0) j 0) c
+      bits : (j e : ℕ) (x : Heard) (c : Sent) → holds all j ≡ true → standing (openingAt s j) e x true false false false 0 c ≡ standing (openingAt s j) e x (holds all j) (holds 0 j) (holds 0 j) (holds 0 j) (getD (replicate 32 0) j 0) c
       bits j e x c i = rw (i, bit-zero (31 - j))
 
-      go : (c j : ℕ) → j < 32 → Dec (j < trucksOf s) → (holds all j && eqb (getD openings j 0) c) ≡ (ltb j (trucksOf s) && eqb (truck (trucksAfter s 0) j .estimate) c)
+      go : (c j : ℕ) → j < 32 → Dec (j < trucksOf s) → (holds all j && eqb (getD openings j 0) c) ≡ (ltb j (trucksOf s) && eqb (truck (trucksAfter rules s 0) j .estimate) c)
       go c j l (yes o) =
           ap₂ (λ (x : Bool) (y : ℕ). x && eqb y c) (in-all j o ∙ sym (lt-ltb j (trucksOf s) o)) (opens j o ∙ sym (ap (λ (t : Truck). t .estimate) (opening-truck j o)))
       go c j l (no o) =
           ap (λ (x : Bool). x && eqb (getD openings j 0) c) (ap (λ (x : ℕ). holds x j) ea ∙ everyone-out n j (omega (arith, count)) l)
-          ∙ sym (ap (λ (x : Bool). x && eqb (truck (trucksAfter s 0) j .estimate) c) (le-ltb j (trucksOf s) (omega arith)))
+          ∙ sym (ap (λ (x : Bool). x && eqb (truck (trucksAfter rules s 0) j .estimate) c) (le-ltb j (trucksOf s) (omega arith)))

@@ -9,7 +9,10 @@ pub mod Reading
 pub mod Places
 pub mod Pairs
 pub mod Stood
+pub mod StoodTwo
+pub mod StoodSix
 pub mod Rounded
 pub mod Halts
+pub mod HaltsSix
 pub mod Judged
 pub mod Graded

@@ -1,25 +1,27 @@
 // Fleets of trucks: started, stepped, run through a recording, and graded.
 use protocol::Answer;
+use protocol::Cycle;
 use protocol::Fleet;
 use protocol::Grading;
 use refusals::Outcome;
 use refusals::Refusal;
 ghost use mathlib.Core.Path.{_≡_};
-ghost use Rattle.protocol.specs.Fleets.{stepCheck, stepped, ran, graded};
+ghost use Rattle.protocol.specs.Fleets.{chosen, stepCheckIn, steppedIn, ranIn, gradedIn, stepped, ran, graded};
 
 mod grading;
 mod hearing;
 mod listening;
 mod replay;
 mod round;
+mod six;
 
 // Starting a fleet.
 pub use fleetrecord::start;
 
-fn check_step(f: Fleet, words: &[u32]) -> Outcome
-    ensures { λ r. ⌜ r ≡ stepCheck f (now (words .entry)) ⌝ }
+fn check_step(cycle: Cycle, f: Fleet, words: &[u32]) -> Outcome
+    ensures { λ r. ⌜ r ≡ stepCheckIn (chosen cycle) f (now (words .entry)) ⌝ }
 {
-    if !fleetrecord::good_fleet(f) {
+    if !fleetrecord::good_fleet(cycle, f) {
         return Outcome::Refused(Refusal::Record);
     }
     if f.done == 400 {
@@ -28,15 +30,15 @@ fn check_step(f: Fleet, words: &[u32]) -> Outcome
     plain::check_round(f.n, f.done + 1, words)
 }
 
-// A step by a round in plain form.
-pub fn step(f: Fleet, words: &[u32]) -> Answer
-    ensures { λ r. ⌜ r ≡ stepped f (now (words .entry)) ⌝ }
+// A step in a cycle by a round in plain form.
+pub fn step_in(cycle: Cycle, f: Fleet, words: &[u32]) -> Answer
+    ensures { λ r. ⌜ r ≡ steppedIn (chosen cycle) f (now (words .entry)) ⌝ }
 {
-    let outcome = check_step(f, words);
+    let outcome = check_step(cycle, f, words);
     match outcome {
         Outcome::Accepted => Answer {
             outcome: Outcome::Accepted,
-            fleet: round::next_fleet(f, words),
+            fleet: round::next_fleet(cycle, f, words),
         },
         Outcome::Refused(refusal) => Answer {
             outcome: Outcome::Refused(refusal),
@@ -45,14 +47,21 @@ pub fn step(f: Fleet, words: &[u32]) -> Answer
     }
 }
 
-// Running a recording: all its rounds.
-pub fn run(s: &[u8]) -> Answer
-    ensures { λ r. ⌜ r ≡ ran (now (s .entry)) ⌝ }
+// A step of the two-round cycle.
+pub fn step(f: Fleet, words: &[u32]) -> Answer
+    ensures { λ r. ⌜ r ≡ stepped f (now (words .entry)) ⌝ }
+{
+    step_in(Cycle::TwoRound, f, words)
+}
+
+// Running a recording in a cycle: all its rounds.
+pub fn run_in(cycle: Cycle, s: &[u8]) -> Answer
+    ensures { λ r. ⌜ r ≡ ranIn (chosen cycle) (now (s .entry)) ⌝ }
 {
     let outcome = recording::check(s);
     match outcome {
         Outcome::Accepted => {
-            let end = replay::replay(s, false);
+            let end = replay::replay(cycle, s, false);
             let fleet = end.fleet;
             Answer {
                 outcome: Outcome::Accepted,
@@ -63,17 +72,31 @@ pub fn run(s: &[u8]) -> Answer
     }
 }
 
-// Grading a recording.
-pub fn grade(s: &[u8]) -> Grading
-    ensures { λ r. ⌜ r ≡ graded (now (s .entry)) ⌝ }
+// Running a recording in the two-round cycle.
+pub fn run(s: &[u8]) -> Answer
+    ensures { λ r. ⌜ r ≡ ran (now (s .entry)) ⌝ }
+{
+    run_in(Cycle::TwoRound, s)
+}
+
+// Grading a recording in a cycle.
+pub fn grade_in(cycle: Cycle, s: &[u8]) -> Grading
+    ensures { λ r. ⌜ r ≡ gradedIn (chosen cycle) (now (s .entry)) ⌝ }
 {
     let outcome = recording::check(s);
     match outcome {
         Outcome::Accepted => {
-            let end = replay::replay(s, true);
+            let end = replay::replay(cycle, s, true);
             let grades = end.grades;
             Grading::Graded(grades)
         }
         Outcome::Refused(refusal) => Grading::Refused(refusal),
     }
+}
+
+// Grading a recording in the two-round cycle.
+pub fn grade(s: &[u8]) -> Grading
+    ensures { λ r. ⌜ r ≡ graded (now (s .entry)) ⌝ }
+{
+    grade_in(Cycle::TwoRound, s)
 }

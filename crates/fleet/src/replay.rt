@@ -1,10 +1,12 @@
 // A recording run from its bytes by sets in packed order, truck j at the bit worth 2 to the 31 - j: proposal rounds and veto rounds hand on
-// to each other, each with one round fewer left.
+// to each other, each with one round fewer left. The rounds of the six-round cycle are in six.rt.
 use crate::grading::judged;
 use crate::hearing::first_heard;
 use crate::listening::deciding;
 use crate::listening::hear;
 use crate::listening::settle;
+use crate::six::six_rounds;
+use protocol::Cycle;
 use protocol::Fleet;
 use protocol::Grades;
 use protocol::Heard;
@@ -16,13 +18,15 @@ ghost use mathlib.Core.Path.{_≡_};
 ghost use mathlib.Core.Bool.{false, true, cond};
 ghost use Prim.Native.Nat.{_+_, _*_, _-_, _<_, _≤_, _^_, ℕ};
 ghost use lib.Dec.{eqb};
-ghost use lib.ListN.{length, getD};
+ghost use lib.ListN.{length, getD, replicate};
 ghost use Rattle.basics.specs.Bits.{bit, odd};
 ghost use Rattle.basics.specs.Lists.{filled, first};
 ghost use Rattle.refusals.specs.declared.Outcome.the-variants.{Accepted};
 ghost use Rattle.recording.specs.Packed.{roundsOf};
 ghost use Rattle.recording.specs.Checks.{frameCheck};
 ghost use Rattle.protocol.specs.declared.Heard.the-variants.{Nothing};
+ghost use Rattle.protocol.specs.Rules.{twoRules};
+ghost use Rattle.protocol.specs.Fleets.{chosen};
 ghost use Rattle.fleet.specs.Sets.{Sorted};
 ghost use Rattle.fleet.specs.Replays.{fleetAfter, gradesAfter};
 ghost use Rattle.fleet.specs.Standing.{stateOf, memoryOf, sentBy, truckBy, fleetBy, unreadOf, Proposes, Vetoes, noted, Due, Halted};
@@ -52,6 +56,7 @@ pub struct Sets {
     pub marked: u32,
     pub one: u32,
     pub several: u32,
+    pub unwilling: u32,
     pub done: u16,
     pub grades: Grades,
 }
@@ -63,7 +68,7 @@ pub struct Course {
 }
 
 // Those of a set came to their end in round k.
-fn ended(ends: &mut [u16; 32], who: u32, k: u16)
+pub(crate) fn ended(ends: &mut [u16; 32], who: u32, k: u16)
     requires { ⌜ length (now ends) ≡ 32 ⌝ }
     ensures { λ _. ⌜ now (ends .exit) ≡ filled (noted (now (ends .entry)) who k) 32 (now (ends .entry)) ⌝ }
 {
@@ -147,9 +152,10 @@ fn proposals(
     judging: bool,
     grades: Grades,
 ) -> Sets
-    requires { ⌜ Due (now s) at n left k (now by) (now ends) (now sent) running decided 0 0 0 until × ((odd k ≡ false) × (grades ≡ gradesAfter (now s) judging k)) ⌝ }
-    ensures { λ r. ⌜ Halted (now (s .entry)) (k + left) (now (by .exit)) (now (ends .exit)) (now (sent .exit)) until r
-        × (r .grades ≡ gradesAfter (now (s .entry)) judging (r .done)) ⌝ }
+    requires { ⌜ Due twoRules (now s) at n left k (now by) (now ends) (now sent) running decided 0 0 0 0 until
+        × ((odd k ≡ false) × (grades ≡ gradesAfter twoRules (now s) judging k)) ⌝ }
+    ensures { λ r. ⌜ Halted twoRules (now (s .entry)) (k + left) (now (by .exit)) (now (ends .exit)) (now (sent .exit)) until r
+        × (r .grades ≡ gradesAfter twoRules (now (s .entry)) judging (r .done)) ⌝ }
 {
     if (left == 0) | (running == 0) | (decided & until != 0) {
         return Sets {
@@ -158,6 +164,7 @@ fn proposals(
             marked: 0,
             one: 0,
             several: 0,
+            unwilling: 0,
             done: k,
             grades,
         };
@@ -215,10 +222,10 @@ fn vetoes(
     judging: bool,
     grades: Grades,
 ) -> Sets
-    requires { ⌜ Due (now s) at n left k (now by) (now ends) (now sent) running decided marked one several until
-        × ((odd k ≡ true) × (grades ≡ gradesAfter (now s) judging k)) ⌝ }
-    ensures { λ r. ⌜ Halted (now (s .entry)) (k + left) (now (by .exit)) (now (ends .exit)) (now (sent .exit)) until r
-        × (r .grades ≡ gradesAfter (now (s .entry)) judging (r .done)) ⌝ }
+    requires { ⌜ Due twoRules (now s) at n left k (now by) (now ends) (now sent) running decided marked one several 0 until
+        × ((odd k ≡ true) × (grades ≡ gradesAfter twoRules (now s) judging k)) ⌝ }
+    ensures { λ r. ⌜ Halted twoRules (now (s .entry)) (k + left) (now (by .exit)) (now (ends .exit)) (now (sent .exit)) until r
+        × (r .grades ≡ gradesAfter twoRules (now (s .entry)) judging (r .done)) ⌝ }
 {
     if (left == 0) | (running == 0) | (decided & until != 0) {
         return Sets {
@@ -227,6 +234,7 @@ fn vetoes(
             marked,
             one,
             several,
+            unwilling: 0,
             done: k,
             grades,
         };
@@ -321,6 +329,7 @@ fn truck_of(b: Sets, by: &[u32; 16], opening: u8, end: u16, sent: Sent, p: usize
         estimate: c as u8,
         mark: running & sets::holds(b.marked, p),
         heard,
+        unwilling: running & sets::holds(b.unwilling, p),
         state,
         sent,
     }
@@ -385,11 +394,56 @@ fn everyone(n: usize) -> u32
     (((1u64 << n) - 1) << (32 - n)) as u32
 }
 
+// The rounds of a cycle, from the first on.
+fn rounds_in(
+    cycle: Cycle,
+    s: &[u8],
+    at: usize,
+    n: usize,
+    rounds: u16,
+    by: &mut [u32; 16],
+    ends: &mut [u16; 32],
+    sent: &mut [u64; 8],
+    all: u32,
+    judging: bool,
+) -> Sets
+    requires { ⌜ Due (chosen cycle .rules) (now s) at n rounds 0 (now by) (now ends) (now sent) all 0 0 0 0 0 0 × (now sent ≡ replicate 8 0) ⌝ }
+    ensures { λ r. ⌜ Halted (chosen cycle .rules) (now (s .entry)) rounds (now (by .exit)) (now (ends .exit)) (now (sent .exit)) 0 r
+        × (r .grades ≡ gradesAfter (chosen cycle .rules) (now (s .entry)) judging (r .done)) ⌝ }
+{
+    let none = Grades {
+        complete: 0,
+        majority: 0,
+        zero: 0,
+        accurate: 0,
+    };
+    match cycle {
+        Cycle::TwoRound => {
+            proposals(
+                s,
+                at,
+                n,
+                rounds,
+                0,
+                by,
+                ends,
+                sent,
+                all,
+                0,
+                0,
+                judging,
+                none,
+            )
+        }
+        Cycle::SixRound => six_rounds(s, at, n, rounds, by, ends, all, judging, none),
+    }
+}
+
 // All rounds of a recording whose frame is good.
-pub(crate) fn replay(s: &[u8], judging: bool) -> Course
+pub(crate) fn replay(cycle: Cycle, s: &[u8], judging: bool) -> Course
     requires { ⌜ frameCheck (now s) ≡ Accepted ⌝ }
-    ensures { λ r. ⌜ (r .fleet ≡ fleetAfter (now (s .entry)) (roundsOf (now (s .entry))))
-        × (r .grades ≡ gradesAfter (now (s .entry)) judging (roundsOf (now (s .entry)))) ⌝ }
+    ensures { λ r. ⌜ (r .fleet ≡ fleetAfter (chosen cycle) (now (s .entry)) (roundsOf (now (s .entry))))
+        × (r .grades ≡ gradesAfter (chosen cycle .rules) (now (s .entry)) judging (roundsOf (now (s .entry)))) ⌝ }
 {
     let mut openings = [0u8; 32];
     let c = recording::read_front(s, &mut openings);
@@ -398,26 +452,17 @@ pub(crate) fn replay(s: &[u8], judging: bool) -> Course
     let mut by = openers(&openings, all);
     let mut ends = [0u16; 32];
     let mut sent = [0u64; 8];
-    let none = Grades {
-        complete: 0,
-        majority: 0,
-        zero: 0,
-        accurate: 0,
-    };
-    let b = proposals(
+    let b = rounds_in(
+        cycle,
         s,
         recording::word_place(c.trucks, 0),
         n,
         c.rounds,
-        0,
         &mut by,
         &mut ends,
         &mut sent,
         all,
-        0,
-        0,
         judging,
-        none,
     );
     let grades = b.grades;
     let fleet = fleet_of(c, &openings, b, &by, &ends, &sent);

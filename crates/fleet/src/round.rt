@@ -1,47 +1,104 @@
 // One round in plain form makes of a fleet record the next. Bit j of a word and of a set says something of truck j.
 use crate::hearing::heard_by;
 use crate::hearing::values_of;
+use protocol::Cycle;
 use protocol::Fleet;
 use protocol::Truck;
 use truck::Event;
 ghost use mathlib.Core.Path.{_≡_};
-ghost use mathlib.Core.Bool.{cond, not, _&&_};
+ghost use mathlib.Core.Bool.{not, _&&_};
 ghost use Prim.Native.Nat.{ℕ, _<_, _≤_, _+_, min};
 ghost use lib.ListN.{length, replicate};
 ghost use Rattle.refusals.specs.declared.Outcome.the-variants.{Accepted};
 ghost use Rattle.basics.specs.Lists.{filled};
-ghost use Rattle.protocol.specs.Rules.{runs, vetoes};
-ghost use Rattle.protocol.specs.Fleets.{stepCheck, nextFleet};
+ghost use Rattle.protocol.specs.Rules.{runs};
+ghost use Rattle.protocol.specs.Fleets.{chosen, stepCheckIn, nextFleetIn};
 ghost use Rattle.sets.specs.Sets.{Members};
 ghost use Rattle.fleet.specs.Sets.{Sorted};
-ghost use Rattle.fleet.specs.Rounds.{estimates, stepRadio, eventOf, eventAt, noEvents};
+ghost use Rattle.fleet.specs.Rounds.{estimates, sixPhase, phaseOf, messageIn, sendsIn, stopEvent, eventOf, eventAt, noEvents};
 
-// Whether a truck sends: in a proposal round where it is active, in a veto round where it has a veto.
-fn sends(t: Truck, proposals: bool, stop: bool, active: bool) -> bool
-    ensures { λ r. ⌜ r ≡ ((runs t && not stop) && cond proposals active (vetoes t)) ⌝ }
+// What a round of a cycle is for; a bit round has what its bit is worth.
+pub enum Phase {
+    Proposals,
+    Vetoes,
+    Prepare,
+    Bit(u8),
+    Accept,
+}
+
+// The next round of the six-round cycle, with so many of its rounds done.
+fn six_phase(done: u16) -> Phase
+    requires { ⌜ done < 6 ⌝ }
+    ensures { λ r. ⌜ r ≡ sixPhase done ⌝ }
 {
-    let message = if proposals { active } else { truck::vetoes(t) };
-    truck::runs(t) & !stop & message
+    if done == 0 {
+        return Phase::Prepare;
+    }
+    if done == 5 {
+        return Phase::Accept;
+    }
+    Phase::Bit(1 << (4 - done))
+}
+
+// The next round, with so many done.
+fn phase_of(cycle: Cycle, done: u16) -> Phase
+    ensures { λ r. ⌜ r ≡ phaseOf cycle done ⌝ }
+{
+    match cycle {
+        Cycle::TwoRound => {
+            if done % 2 == 0 {
+                return Phase::Proposals;
+            }
+            Phase::Vetoes
+        }
+        Cycle::SixRound => six_phase(done % 6),
+    }
+}
+
+// Whether a truck that runs has something to send.
+fn message(phase: Phase, t: Truck, active: bool) -> bool
+    ensures { λ r. ⌜ r ≡ messageIn phase active t ⌝ }
+{
+    match phase {
+        Phase::Proposals => active,
+        Phase::Vetoes => truck::vetoes(t),
+        Phase::Prepare => active,
+        Phase::Bit(worth) => t.estimate & worth != 0,
+        Phase::Accept => t.unwilling,
+    }
+}
+
+// Whether a truck sends.
+fn sends(phase: Phase, t: Truck, stop: bool, active: bool) -> bool
+    ensures { λ r. ⌜ r ≡ ((runs t && not stop) && messageIn phase active t) ⌝ }
+{
+    let has = message(phase, t, active);
+    truck::runs(t) & !stop & has
 }
 
 // The senders of the next round, in one pass with the senders of each crusher and the estimate that each truck holds, so that the record is copied once. Nobody
-// asks for the crushers' senders in a veto round.
-fn senders_of(f: Fleet, words: &[u32], values: &mut [u32; 16], held: &mut [u8; 32]) -> u32
+// asks for the crushers' senders but in rounds in which estimates are sent.
+fn senders_of(
+    phase: Phase,
+    f: Fleet,
+    words: &[u32],
+    values: &mut [u32; 16],
+    held: &mut [u8; 32],
+) -> u32
     requires { ⌜ (f .n ≤ 32) × (length (now words) ≡ 3 + f .n) × ((j : ℕ) → j < f .n → estimates (f .trucks) j < 16)
         × (now values ≡ replicate 16 0) × (length (now held) ≡ 32) ⌝ }
-    ensures senders { λ r. ⌜ Members r (f .n) (stepRadio f (now (words .entry)) .sends) ⌝ }
+    ensures senders { λ r. ⌜ Members r (f .n) (sendsIn phase (now (words .entry)) (f .trucks)) ⌝ }
     ensures sorted { λ r. ⌜ Sorted (now (values .exit)) (f .n) r (estimates (f .trucks)) ⌝ }
     ensures kept { λ r. ⌜ now (held .exit) ≡ filled (estimates (f .trucks)) (f .n) (now (held .entry)) ⌝ }
 {
     let n = f.n as usize;
-    let proposals = f.done % 2 == 0;
     let stop = words[0];
     let active = words[1];
     let mut senders = 0;
     let mut i = 0;
     while i < n {
         let t = f.trucks[i];
-        let joins = sends(t, proposals, sets::holds(stop, i), sets::holds(active, i));
+        let joins = sends(phase, t, sets::holds(stop, i), sets::holds(active, i));
         let c = t.estimate as usize;
         held[i] = t.estimate;
         senders = sets::union_where(senders, sets::only(i), joins);
@@ -51,9 +108,22 @@ fn senders_of(f: Fleet, words: &[u32], values: &mut [u32; 16], held: &mut [u8; 3
     senders
 }
 
+// A stop in a round.
+fn stop_event(phase: Phase) -> Event
+    ensures { λ r. ⌜ r ≡ stopEvent phase ⌝ }
+{
+    match phase {
+        Phase::Proposals => Event::Stop,
+        Phase::Vetoes => Event::Stop,
+        Phase::Prepare => Event::StopSix,
+        Phase::Bit(_) => Event::StopSix,
+        Phase::Accept => Event::StopSix,
+    }
+}
+
 // What a round is to a truck, by its stop bit, whether it sends, its mark, the senders it hears and those of each crusher.
 fn event_of(
-    proposals: bool,
+    phase: Phase,
     stop: bool,
     sends: bool,
     mark: bool,
@@ -61,25 +131,41 @@ fn event_of(
     values: &[u32; 16],
     estimate: u8,
 ) -> Event
-    ensures { λ r. ⌜ r ≡ eventOf proposals stop sends mark heard (now (values .entry)) estimate ⌝ }
+    ensures { λ r. ⌜ r ≡ eventOf phase stop sends mark heard (now (values .entry)) estimate ⌝ }
 {
     if stop {
-        return Event::Stop;
+        return stop_event(phase);
     }
-    if proposals {
-        let v = values_of(values, heard, estimate);
-        let count = v.heard;
-        return Event::Proposals {
+    match phase {
+        Phase::Proposals => {
+            let v = values_of(values, heard, estimate);
+            let count = v.heard;
+            Event::Proposals {
+                sends,
+                mark,
+                heard: count,
+                least: v.least,
+            }
+        }
+        Phase::Vetoes => Event::Vetoes {
             sends,
             mark,
-            heard: count,
-            least: v.least,
-        };
-    }
-    Event::Vetoes {
-        sends,
-        mark,
-        veto: heard != 0,
+            veto: heard != 0,
+        },
+        Phase::Prepare => {
+            let v = values_of(values, heard, estimate);
+            Event::Prepare {
+                mark,
+                least: v.least,
+            }
+        }
+        Phase::Bit(_) => Event::Bit {
+            bit: sends,
+            noticed: mark | (heard != 0),
+        },
+        Phase::Accept => Event::Accept {
+            noticed: mark | (heard != 0),
+        },
     }
 }
 
@@ -90,20 +176,19 @@ fn places(n: u8) -> usize
     if n < 32 { n as usize } else { 32 }
 }
 
-// What the round after some is to each of n trucks.
+// What the round is to each of n trucks.
 fn events_of(
+    phase: Phase,
     n: u8,
-    done: u16,
     words: &[u32],
     senders: u32,
     values: &[u32; 16],
     held: &[u8; 32],
 ) -> [Event; 32]
     requires { ⌜ (n ≤ 32) × (length (now words) ≡ 3 + n) ⌝ }
-    ensures { λ r. ⌜ r ≡ filled (eventAt done (now (words .entry)) senders (now (values .entry)) (now (held .entry))) n noEvents ⌝ }
+    ensures { λ r. ⌜ r ≡ filled (eventAt phase (now (words .entry)) senders (now (values .entry)) (now (held .entry))) n noEvents ⌝ }
 {
     let end = places(n);
-    let proposals = done % 2 == 0;
     let stop = words[0];
     let mark = words[2];
     let mut events = [Event::Stop; 32];
@@ -111,7 +196,7 @@ fn events_of(
     while i < end {
         let heard = heard_by(senders, words[3 + i], sets::only(i));
         let event = event_of(
-            proposals,
+            phase,
             sets::holds(stop, i),
             sets::holds(senders, i),
             sets::holds(mark, i),
@@ -126,14 +211,15 @@ fn events_of(
 }
 
 // The record after an accepted step.
-pub(crate) fn next_fleet(f: Fleet, words: &[u32]) -> Fleet
-    requires { ⌜ stepCheck f (now words) ≡ Accepted ⌝ }
-    ensures { λ r. ⌜ r ≡ nextFleet f (now (words .entry)) ⌝ }
+pub(crate) fn next_fleet(cycle: Cycle, f: Fleet, words: &[u32]) -> Fleet
+    requires { ⌜ stepCheckIn (chosen cycle) f (now words) ≡ Accepted ⌝ }
+    ensures { λ r. ⌜ r ≡ nextFleetIn (chosen cycle) f (now (words .entry)) ⌝ }
 {
+    let phase = phase_of(cycle, f.done);
     let mut values = [0u32; 16];
     let mut held = [0u8; 32];
-    let senders = senders_of(f, words, &mut values, &mut held);
-    let events = events_of(f.n, f.done, words, senders, &values, &held);
+    let senders = senders_of(phase, f, words, &mut values, &mut held);
+    let events = events_of(phase, f.n, words, senders, &values, &held);
     let round = f.done + 1;
     let mut fleet = truck::update_first(f, f.n as usize, round, events);
     fleet.done = round;

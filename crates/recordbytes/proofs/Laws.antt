@@ -9,7 +9,7 @@ use native.Mathlib.Omega.{arith}
 use lib.Dec.{eqb, ltb}
 use lib.ListN.{length, getD, set}
 use lib.Seq.{sets}
-use mir.Val.{boolByte}
+use mir.Val.{boolByte as castByte}
 use borrow.Author.Tests.{lt-ltb, le-ltb, ltb-false, eq-eqb, ne-eqb}
 use Rattle.basics.specs.Lists.{filled, someBelow}
 use Rattle.basics.proofs.Laws.{filled-none, filled-more, filled-again, fill-length}
@@ -29,20 +29,21 @@ use Rattle.protocol.specs.declared.Answer.{Answer}
 use Rattle.protocol.specs.Rules.{truck}
 use Rattle.protocol.specs.Runs.{openedTrucks}
 use Rattle.protocol.specs.Fleets.{blank}
-use Rattle.recordbytes.specs.Layout.{markByte, heardByte, stateByte, roundOf, truckBytes, recordByte, sizeFor, packCheck, packFor, heardOfByte, stateOfByte, pairOf, placeByte, placeRound, truckAt, damagedAt, damaged, recordOf, noRecord, unpacked}
+use Rattle.recordbytes.specs.Layout.{boolByte, heardByte, stateByte, roundOf, truckBytes, recordByte, sizeFor, packCheck, packFor, heardOfByte, stateOfByte, pairOf, placeByte, placeRound, truckAt, damagedAt, damaged, recordOf, noRecord, unpacked}
 
 -- ---- the bytes of a truck
 
 -- (`towards-suc` reads sums up to at + 8)
 pub truck-put : (d : List ℕ) (at : ℕ) (t : Truck) (h s r : ℕ) → h ≡ heardByte (t .heard) → s ≡ stateByte (t .state) → r ≡ roundOf (t .state)
-    → let upTo4 = set (set (set (set (set d at (t .opening)) (at + 1) (t .estimate)) (at + 2) (boolByte (t .mark))) (at + 3) h) (at + 4) s in
-    set (set (set (set (set upTo4 (at + 5) (r % 256)) (at + 6) (r / 256)) (at + 7) (t .sent .proposals)) (at + 8) (t .sent .vetoes)) (at + 9) 0
+    → let upTo4 = set (set (set (set (set d at (t .opening)) (at + 1) (t .estimate)) (at + 2) (castByte (t .mark))) (at + 3) h) (at + 4) s in
+    set (set (set (set (set upTo4 (at + 5) (r % 256)) (at + 6) (r / 256)) (at + 7) (t .sent .proposals)) (at + 8) (t .sent .vetoes)) (at + 9) (castByte (t .unwilling))
     ≡ sets d at (truckBytes t)
-truck-put d at t h s r eh es er = simp (mark-byte (t .mark), eh, es, er, add-suc at 8, towards-suc)
+truck-put d at t h s r eh es er = simp (cast-byte (t .mark), cast-byte (t .unwilling), eh, es, er, add-suc at 8, towards-suc)
   where
-    mark-byte : (b : Bool) → boolByte b ≡ markByte b
-    mark-byte true = refl
-    mark-byte false = refl
+    -- what a Bool is as a number
+    cast-byte : (b : Bool) → castByte b ≡ boolByte b
+    cast-byte true = refl
+    cast-byte false = refl
 
 -- ---- a list that is filled from the front
 
@@ -172,18 +173,18 @@ module _ {A : Type 0} (b : ℕ) (x y z : A) where
     pub byte-0 : (b ≡ 2 → ⊥) → z ≡ cond (eqb b 1) x (cond (eqb b 2) y z)
     byte-0 h = rw (ne-eqb b 1 not-1, ne-eqb b 2 h)
 
-pub truck-is : (d : List ℕ) (i a b m k s r p v : ℕ) (h : Heard) (t : State)
+pub truck-is : (d : List ℕ) (i a b m k s r p v u : ℕ) (h : Heard) (t : State)
     → k ≡ placeByte d i 3 → h ≡ heardOfByte k → s ≡ placeByte d i 4 → r ≡ placeRound d i → t ≡ stateOfByte s r
-    → p ≡ placeByte d i 7 → v ≡ placeByte d i 8 → a ≡ placeByte d i 0 → b ≡ placeByte d i 1 → m ≡ placeByte d i 2
-    → _≡_ {A = Truck} (record { opening = a; estimate = b; mark = eqb m 1; heard = h; state = t; sent = record { proposals = p; vetoes = v } }) (truckAt d i)
+    → p ≡ placeByte d i 7 → v ≡ placeByte d i 8 → a ≡ placeByte d i 0 → b ≡ placeByte d i 1 → m ≡ placeByte d i 2 → u ≡ placeByte d i 9
+    → _≡_ {A = Truck} (record { opening = a; estimate = b; mark = eqb m 1; heard = h; unwilling = eqb u 1; state = t; sent = record { proposals = p; vetoes = v } }) (truckAt d i)
 unfolding truckAt
-truck-is d i a b m k s r p v h t ek eh es er et ep ev ea eb em = cc
+truck-is d i a b m k s r p v u h t ek eh es er et ep ev ea eb em eu = cc
 
-pub damaged-is : (d : List ℕ) (i m h s r z : ℕ)
-    → m ≡ placeByte d i 2 → h ≡ placeByte d i 3 → s ≡ placeByte d i 4 → r ≡ placeRound d i → z ≡ placeByte d i 9
-    → (ltb 1 m || ltb 2 h || ltb 2 s || (eqb s 0 && ltb 0 r) || ltb 0 z) ≡ damagedAt d i
+pub damaged-is : (d : List ℕ) (i m h s r u : ℕ)
+    → m ≡ placeByte d i 2 → h ≡ placeByte d i 3 → s ≡ placeByte d i 4 → r ≡ placeRound d i → u ≡ placeByte d i 9
+    → (ltb 1 m || ltb 2 h || ltb 2 s || (eqb s 0 && ltb 0 r) || ltb 1 u) ≡ damagedAt d i
 unfolding damagedAt
-damaged-is d i m h s r z em eh es er ez = cc
+damaged-is d i m h s r u em eh es er eu = cc
 
 -- ---- taking bytes for a record
 

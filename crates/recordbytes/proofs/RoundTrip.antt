@@ -24,7 +24,7 @@ use Rattle.protocol.specs.declared.Fleet.{Fleet}
 use Rattle.protocol.specs.Rules.{truck, opened}
 use Rattle.protocol.specs.Runs.{openedTrucks}
 use Rattle.protocol.proofs.Opened.{length-opened, truck-unopened}
-use Rattle.recordbytes.specs.Layout.{sizeFor, markByte, heardByte, stateByte, roundOf, truckBytes, recordByte, packCheck, packFor, packedRecord, packedWhole, heardOfByte, stateOfByte, pairOf, placeByte, placeRound, truckAt, damagedAt, damaged, recordOf, noRecord, unpacked}
+use Rattle.recordbytes.specs.Layout.{sizeFor, boolByte, heardByte, stateByte, roundOf, truckBytes, recordByte, packCheck, packFor, packedRecord, packedWhole, heardOfByte, stateOfByte, pairOf, placeByte, placeRound, truckAt, damagedAt, damaged, recordOf, noRecord, unpacked}
 use Rattle.recordbytes.proofs.Laws.{place-byte, byte-of-place, accepted-is, pack-0}
 
 -- ---- numbers of two bytes
@@ -40,10 +40,10 @@ pair-back k = omega arith
 
 -- ---- a byte, as what it stands for and back
 
-mark-back : (b : ℕ) → ltb 1 b ≡ false → markByte (eqb b 1) ≡ b
-mark-back zero h = refl
-mark-back (suc zero) h = refl
-mark-back (suc (suc b)) h = absurd (omega (arith, ltb-false 1 (suc (suc b)) h))
+bool-back : (b : ℕ) → ltb 1 b ≡ false → boolByte (eqb b 1) ≡ b
+bool-back zero h = refl
+bool-back (suc zero) h = refl
+bool-back (suc (suc b)) h = absurd (omega (arith, ltb-false 1 (suc (suc b)) h))
 
 heard-back : (b : ℕ) → ltb 2 b ≡ false → heardByte (heardOfByte b) ≡ b
 heard-back zero h = refl
@@ -72,7 +72,7 @@ record Sound (d : List ℕ) (i : ℕ) : Type 0 where
   heard : ltb 2 (placeByte d i 3) ≡ false
   state : ltb 2 (placeByte d i 4) ≡ false
   round : (eqb (placeByte d i 4) 0 && ltb 0 (placeRound d i)) ≡ false
-  free : ltb 0 (placeByte d i 9) ≡ false
+  unwilling : ltb 1 (placeByte d i 9) ≡ false
 
 sound : (d : List ℕ) (i : ℕ) → damagedAt d i ≡ false → Sound d i
 unfolding damagedAt
@@ -81,7 +81,7 @@ sound d i h =
     let heard = ltb 2 (placeByte d i 3) in
     let state = ltb 2 (placeByte d i 4) in
     let round = eqb (placeByte d i 4) 0 && ltb 0 (placeRound d i) in
-    let upTo6 = or-left (mark || heard || state || round) (ltb 0 (placeByte d i 9)) h in
+    let upTo6 = or-left (mark || heard || state || round) (ltb 1 (placeByte d i 9)) h in
     let upTo4 = or-left (mark || heard || state) round upTo6 in
     let upTo3 = or-left (mark || heard) state upTo4 in
     record {
@@ -89,7 +89,7 @@ sound d i h =
       heard = or-right mark heard upTo3;
       state = or-right (mark || heard) state upTo4;
       round = or-right (mark || heard || state) round upTo6;
-      free = or-right (mark || heard || state || round) (ltb 0 (placeByte d i 9)) h;
+      unwilling = or-right (mark || heard || state || round) (ltb 1 (placeByte d i 9)) h;
     }
 
 -- its ten bytes
@@ -97,7 +97,7 @@ place-back : (d : List ℕ) (i : ℕ) → Sound d i → placeByte d i 5 < 256 �
 unfolding truckAt
 place-back d i s low zero l = refl
 place-back d i s low (suc zero) l = refl
-place-back d i s low (suc (suc zero)) l = mark-back (placeByte d i 2) (s .mark)
+place-back d i s low (suc (suc zero)) l = bool-back (placeByte d i 2) (s .mark)
 place-back d i s low (suc (suc (suc zero))) l = heard-back (placeByte d i 3) (s .heard)
 place-back d i s low (suc (suc (suc (suc zero)))) l = state-back (placeByte d i 4) (placeRound d i) (s .state)
 place-back d i s low (suc (suc (suc (suc (suc zero))))) l =
@@ -106,7 +106,7 @@ place-back d i s low (suc (suc (suc (suc (suc (suc zero)))))) l =
     ap (λ (k : ℕ). k / 256) (state-round-back (placeByte d i 4) (placeRound d i) (s .state) (s .round)) ∙ pair-high (placeByte d i 5) (placeByte d i 6) low
 place-back d i s low (suc (suc (suc (suc (suc (suc (suc zero))))))) l = refl
 place-back d i s low (suc (suc (suc (suc (suc (suc (suc (suc zero)))))))) l = refl
-place-back d i s low (suc (suc (suc (suc (suc (suc (suc (suc (suc zero))))))))) l = omega (arith, ltb-false 0 (placeByte d i 9) (s .free))
+place-back d i s low (suc (suc (suc (suc (suc (suc (suc (suc (suc zero))))))))) l = bool-back (placeByte d i 9) (s .unwilling)
 place-back d i s low (suc (suc (suc (suc (suc (suc (suc (suc (suc (suc j)))))))))) l = absurd (omega arith)
 
 -- bytes: every element of the list is below 256
@@ -180,9 +180,9 @@ pub record SameRecord (f g : Fleet) : Type 0 where
   pub done : g .done ≡ f .done
   pub trucks : (i : ℕ) → i < f .n → truck (g .trucks) i ≡ truck (f .trucks) i
 
-mark-there : (m : Bool) → (eqb (markByte m) 1 ≡ m) × (ltb 1 (markByte m) ≡ false)
-mark-there true = (refl, refl)
-mark-there false = (refl, refl)
+bool-there : (b : Bool) → (eqb (boolByte b) 1 ≡ b) × (ltb 1 (boolByte b) ≡ false)
+bool-there true = (refl, refl)
+bool-there false = (refl, refl)
 
 heard-there : (h : Heard) → (heardOfByte (heardByte h) ≡ h) × (ltb 2 (heardByte h) ≡ false)
 heard-there Nothing = (refl, refl)
@@ -212,14 +212,15 @@ module _ (d : List ℕ) (i : ℕ) (t : Truck) (holds : (j : ℕ) → j < 10 → 
         place-round-there,
         holds 7 (omega arith),
         holds 8 (omega arith),
+        holds 9 (omega arith),
       )
-      (simp (mark-there (t .mark) .0, heard-there (t .heard) .0, state-there (t .state) .0))
+      (simp (bool-there (t .mark) .0, bool-there (t .unwilling) .0, heard-there (t .heard) .0, state-there (t .state) .0))
 
   place-there : damagedAt d i ≡ false
   unfolding damagedAt
   place-there =
       rw (holds 2 (omega arith), holds 3 (omega arith), holds 4 (omega arith), place-round-there, holds 9 (omega arith))
-      (simp (mark-there (t .mark) .1, heard-there (t .heard) .1, state-there (t .state) .1, state-there (t .state) .2))
+      (simp (bool-there (t .mark) .1, bool-there (t .unwilling) .1, heard-there (t .heard) .1, state-there (t .state) .1, state-there (t .state) .2))
 
 -- 32 places, of which those from n on are as a start makes them
 pub record Tidy (n : ℕ) (ts : List Truck) : Type 0 where

@@ -1,6 +1,6 @@
 -- A fleet record as 323 bytes, for callers in other languages: n, the rounds done (low byte first), then ten bytes for each of 32 places:
 -- opening, estimate, mark, what the truck heard, its state, the round of its stop or decision (low byte first; 0 for a running truck), how many proposals
--- and how many vetoes it sent, and a tenth byte that is always 0. The tenth byte is kept free for a field that a truck gains later: no other byte moves then.
+-- and how many vetoes it sent, and whether it is unwilling.
 use Prim.Native.Nat.{ℕ, _+_, _*_, _-_, _/_, _%_}
 use mathlib.Core.Bool.{Bool, cond, _&&_, _||_}
 use mathlib.Core.List.{List, [], _∷_}
@@ -29,8 +29,9 @@ sizeFor m = 3 + 10 * m
 
 -- ---- a record as bytes
 
-abbrev pub markByte : Bool → ℕ
-markByte m = cond m 1 0
+-- 1 for yes, 0 for no
+abbrev pub boolByte : Bool → ℕ
+boolByte b = cond b 1 0
 
 abbrev pub heardByte : Heard → ℕ
 heardByte Nothing = 0
@@ -47,11 +48,11 @@ roundOf Running = 0
 roundOf (Stopped k) = k
 roundOf (Decided k) = k
 
--- the ten bytes of a truck, the last of them free
+-- the ten bytes of a truck
 abbrev pub truckBytes : Truck → List ℕ
 truckBytes t =
-    t .opening ∷ t .estimate ∷ markByte (t .mark) ∷ heardByte (t .heard) ∷ stateByte (t .state) ∷ roundOf (t .state) % 256 ∷ roundOf (t .state) / 256
-    ∷ t .sent .proposals ∷ t .sent .vetoes ∷ 0 ∷ []
+    t .opening ∷ t .estimate ∷ boolByte (t .mark) ∷ heardByte (t .heard) ∷ stateByte (t .state) ∷ roundOf (t .state) % 256 ∷ roundOf (t .state) / 256
+    ∷ t .sent .proposals ∷ t .sent .vetoes ∷ boolByte (t .unwilling) ∷ []
 
 -- byte p of the record
 unfoldable pub recordByte : Fleet → ℕ → ℕ
@@ -103,22 +104,23 @@ truckAt d i =
       estimate = placeByte d i 1;
       mark = eqb (placeByte d i 2) 1;
       heard = heardOfByte (placeByte d i 3);
+      unwilling = eqb (placeByte d i 9) 1;
       state = stateOfByte (placeByte d i 4) (placeRound d i);
       sent = record { proposals = placeByte d i 7; vetoes = placeByte d i 8 };
     }
 
--- the ten bytes of place i are those of no truck: a mark above 1, more than 2 for what it heard or for its state, a running truck with a round, or a tenth
--- byte above 0
+-- the ten bytes of place i are those of no truck: a mark above 1, more than 2 for what it heard or for its state, a running truck with a round, or more than 1
+-- for whether it is unwilling
 unfoldable pub damagedAt : List ℕ → ℕ → Bool
 damagedAt d i =
     ltb 1 (placeByte d i 2) || ltb 2 (placeByte d i 3) || ltb 2 (placeByte d i 4) || (eqb (placeByte d i 4) 0 && ltb 0 (placeRound d i))
-    || ltb 0 (placeByte d i 9)
+    || ltb 1 (placeByte d i 9)
 
 -- the bytes are no record: too few, n out of range, or a damaged place below n; places n and above are not read
 unfoldable pub damaged : List ℕ → Bool
 damaged d = ltb (length d) (sizeFor 32) || badTrucks (getD d 0 0) || someBelow (damagedAt d) (getD d 0 0)
 
--- the record that they are; places n and above hold running trucks of opening and estimate 0 with empty memory
+-- the record that they are; places n and above hold running, willing trucks of opening and estimate 0 with empty memory and counts 0
 unfoldable pub recordOf : List ℕ → Fleet
 recordOf d =
     record { n = getD d 0 0; done = pairOf (getD d 1 0) (getD d 2 0); trucks = filled (truckAt d) (getD d 0 0) (openedTrucks []) }

@@ -67,7 +67,7 @@ fn put_truck(d: &mut [u8], at: usize, t: Truck)
     d[at + 6] = (round / 256) as u8;
     d[at + 7] = sent.proposals;
     d[at + 8] = sent.vetoes;
-    d[at + 9] = 0;
+    d[at + 9] = t.unwilling as u8;
 }
 
 // Puts the head and the first m places of a record into a buffer that has room for all.
@@ -193,6 +193,7 @@ fn truck_at(d: &[u8], i: usize) -> Truck
         estimate: place_byte(d, i, 1),
         mark: place_byte(d, i, 2) == 1,
         heard,
+        unwilling: place_byte(d, i, 9) == 1,
         state,
         sent,
     }
@@ -206,8 +207,8 @@ fn damaged_at(d: &[u8], i: usize) -> bool
     let heard = place_byte(d, i, 3);
     let state = place_byte(d, i, 4);
     let round = place_round(d, i);
-    let free = place_byte(d, i, 9);
-    (1 < mark) | (2 < heard) | (2 < state) | ((state == 0) & (0 < round)) | (0 < free)
+    let unwilling = place_byte(d, i, 9);
+    (1 < mark) | (2 < heard) | (2 < state) | ((state == 0) & (0 < round)) | (1 < unwilling)
 }
 
 // Some place below n is damaged.

@@ -3,7 +3,7 @@ use mathlib.Core.Path.{sym, _∙_}
 use borrow.Author.Tests.{eq-eqb, ne-eqb, not-true, not-false}
 use borrow.Author.Needs.{needs}
 use native.Mathlib.Omega.{arith}
-use Rattle.protocol.specs.Fleets.{stepCheckIn, twoRound}
+use Rattle.protocol.specs.Fleets.{chosen, stepCheckIn}
 use Rattle.protocol.proofs.Good.{record-parts}
 use Rattle.fleet.proofs.check_step.Statement.{statement}
 use Rattle.fleet.proofs.check_step.Tie as tie
@@ -19,8 +19,8 @@ returns-2 c = rw (sym (c .before .before .before .good-fleet .ensures) ∙ not-f
 -- of a record that refusal 7 lets pass at most 400 rounds are done
 add-check-round : tie.Need-add-check-round
 add-check-round c =
-    let f = c .before .before .before .before .before .before .args .f in
-    omega (arith, record-parts twoRound f (sym (c .before .before .before .before .good-fleet .ensures) ∙ not-false _ (c .before .before .before .if1 .left)) .done)
+    let a = c .before .before .before .before .before .before .args in
+    omega (arith, record-parts (chosen (a .cycle)) (a .f) (sym (c .before .before .before .before .good-fleet .ensures) ∙ not-false _ (c .before .before .before .if1 .left)) .done)
 
 returns-3 : tie.Need-returns-3
 unfolding stepCheckIn

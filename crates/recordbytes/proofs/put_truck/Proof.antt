@@ -34,6 +34,7 @@ put-truck-spec =
     (λ c. search needs)
     (λ c. simp length-set (omega arith))
     (λ c. search needs)
+    (λ c. search needs)
     (λ c. simp length-set (omega arith))
     (λ c. simp length-set)
     (λ c. search truck-put))

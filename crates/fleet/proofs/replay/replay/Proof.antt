@@ -2,21 +2,14 @@
 use mathlib.Core.Path.{refl, ap, subst, _∙_}
 use Prim.Native.Nat.{ℕ, _+_, _≤_}
 use mathlib.Core.List.{List}
-use native.Mathlib.Nat.{zero-add}
 use native.Mathlib.Omega.{arith}
 use borrow.Author.Needs.{needs}
 use Rattle.recording.proofs.Fronts.{counts-trucks, counts-rounds}
-use Rattle.fleet.specs.declared.replay.Sets.{Sets}
 use Rattle.fleet.specs.Replays.{fleetAfter, gradesAfter}
-use Rattle.fleet.specs.Standing.{Halted}
-use Rattle.fleet.proofs.Halts.{first-few, openings-are, openings-small, first-due, fleet-ended, grades-ended}
-use Rattle.fleet.proofs.Graded.{grades-none}
+use Rattle.protocol.specs.Fleets.{chosen}
+use Rattle.fleet.proofs.Halts.{takes-in, first-few, openings-are, openings-small, first-due, fleet-ended, grades-ended}
 use Rattle.fleet.proofs.replay.replay.Statement.{statement}
 use Rattle.fleet.proofs.replay.replay.Tie as tie
-
--- the rounds are counted from 0
-ended : (s : List ℕ) (rounds : ℕ) (by ends sent : List ℕ) (b : Sets) → Halted s (0 + rounds) by ends sent 0 b → Halted s rounds by ends sent 0 b
-ended s rounds by ends sent b h = subst (λ (k : ℕ). Halted s k by ends sent 0 b) (zero-add rounds) h
 
 everyone-requires : tie.Need-everyone-requires
 everyone-requires c κs =
@@ -30,8 +23,8 @@ openers-requires c κs =
     let r = c .before .before .before .before .read-front in
     openings-small (z .args .s .now) (z .pre) (r .last .1 .0) (r .ensures .1)
 
-proposals-requires : tie.Need-proposals-requires
-proposals-requires c κs =
+rounds-in-requires : tie.Need-rounds-in-requires
+rounds-in-requires c κs =
     let z = c .before .before .before .before .before .before .before .before .before .before .before .before in
     let s = z .args .s .now in
     let r = c .before .before .before .before .before .before .before .before .before .read-front in
@@ -39,9 +32,9 @@ proposals-requires c κs =
     let by = c .before .before .before .before .openers in
     let at = c .before .before .before .word-place in
     let n = counts-trucks s (r .result) (r .ensures .0) in (
-      first-due s (z .pre) (r .result .trucks) n (r .last .1 .0) (openings-are s (z .pre) (r .last .1 .0) (r .ensures .1)) (at .result) (all .result) 0 (by .result) (at .ensures)
+      first-due (chosen (z .args .cycle) .rules) s (z .pre) (r .result .trucks) n (r .last .1 .0) (openings-are s (z .pre) (r .last .1 .0) (r .ensures .1)) (at .result) (all .result) 0 (by .result) (at .ensures)
           (omega (arith, counts-rounds s (r .result) (r .ensures .0), first-few s (z .pre) (r .result .trucks) n .1)) (all .ensures) (by .ensures),
-      (refl, grades-none s (z .args .judging)),
+      refl,
     )
 
 fleet-of-requires : tie.Need-fleet-of-requires
@@ -55,13 +48,14 @@ returns c =
     let z = c .before .before .before .before .before .before .before .before .before .before .before .before .before .before .before .before .before .before .before in
     let a = z .args in
     let s = a .s .now in
+    let p = chosen (a .cycle) in
     let r = c .before .before .before .before .before .before .before .before .before .before .before .before .before .before .before .before .read-front in
-    let b = c .before .before .before .before .before .before .proposals in
-    let h = ended s (r .result .rounds) (b .last .1 .1 .1 .1 .1 .0) (b .last .1 .1 .1 .1 .1 .1 .0) (b .last .1 .1 .1 .1 .1 .1 .1 .0) (b .result) (b .ensures .0) in
-    let played = counts-rounds s (r .result) (r .ensures .0) in
-    let most : r .result .rounds ≤ 400 = omega (arith, played, first-few s (z .pre) (r .result .trucks) (counts-trucks s (r .result) (r .ensures .0)) .1) in (
-      c .fleet-of .ensures ∙ fleet-ended h most (r .result) (r .last .1 .0) (r .ensures .0) (openings-are s (z .pre) (r .last .1 .0) (r .ensures .1)) refl ∙ ap (fleetAfter s) played,
-      b .ensures .1 ∙ grades-ended h most (a .judging) ∙ ap (gradesAfter s (a .judging)) played,
+    let b = c .before .before .before .before .before .before .rounds-in in
+    let h = b .ensures .0 in
+    let takes = takes-in (a .cycle) in
+    let played = counts-rounds s (r .result) (r .ensures .0) in (
+      c .fleet-of .ensures ∙ fleet-ended p takes h (r .result) (r .last .1 .0) (r .ensures .0) (openings-are s (z .pre) (r .last .1 .0) (r .ensures .1)) refl ∙ ap (fleetAfter p s) played,
+      b .ensures .1 ∙ grades-ended p takes h (a .judging) ∙ ap (gradesAfter (p .rules) s (a .judging)) played,
     )
 
 pub replay-spec : {M : Type 1} → statement M
@@ -74,6 +68,6 @@ replay-spec =
     everyone-requires
     openers-requires
     (λ c κs. search needs)
-    proposals-requires
+    rounds-in-requires
     fleet-of-requires
     returns)

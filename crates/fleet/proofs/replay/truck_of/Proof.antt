@@ -22,15 +22,16 @@ cast-t14 c = rw (c .first-heard .ensures) (record { fits = small-first _ })
 returns : tie.Need-returns
 returns c =
     rw (
-      c .before .before .before .before .before .heard-of .ensures,
-      c .before .before .before .state-of .ensures,
-      c .before .first-heard .ensures,
-      c .before .before .only .ensures ∙ only-is _ (c .before .before .before .before .before .before .before .before .before .pre),
-      c .holds5 .ensures,
-      c .before .before .before .before .before .before .before .before .holds .ensures,
-      c .before .before .before .before .before .before .before .holds2 .ensures,
-      c .before .before .before .before .before .before .holds3 .ensures,
-      c .before .before .before .before .holds4 .ensures,
+      c .before .before .before .before .before .before .heard-of .ensures,
+      c .before .before .before .before .state-of .ensures,
+      c .before .before .first-heard .ensures,
+      c .before .before .before .only .ensures ∙ only-is _ (c .before .before .before .before .before .before .before .before .before .before .pre),
+      c .before .holds5 .ensures,
+      c .holds6 .ensures,
+      c .before .before .before .before .before .before .before .before .before .holds .ensures,
+      c .before .before .before .before .before .before .before .before .holds2 .ensures,
+      c .before .before .before .before .before .before .before .holds3 .ensures,
+      c .before .before .before .before .before .holds4 .ensures,
     )
 
 pub truck-of-spec : {M : Type 1} → statement M
@@ -46,5 +47,6 @@ truck-of-spec =
     (λ c κs. search needs)
     first-heard-requires
     cast-t14
+    (λ c κs. search needs)
     (λ c κs. search needs)
     returns)

@@ -1,6 +1,6 @@
--- `hearing_none` meets its contract.
+-- `hearing_some` meets its contract.
 use mathlib.Core.Path.{_≡_, ap, sym, _∙_}
-use mathlib.Core.Bool.{Bool, true, _&&_}
+use mathlib.Core.Bool.{Bool, true, not, _&&_}
 use mathlib.Core.List.{List}
 use Prim.Native.Nat.{ℕ, _-_}
 use native.Mathlib.Omega.{arith}
@@ -12,16 +12,16 @@ use Rattle.sets.specs.Sets.{Members, without}
 use Rattle.fleet.specs.Listens.{rowFrom}
 use Rattle.sets.proofs.Members.{taken-out, own-out, within-removed, seen, seen-none, seen-all, seen-joined}
 use Rattle.fleet.proofs.Reading.{product}
-use Rattle.fleet.proofs.listening.hearing_none.Statement.{statement}
-use Rattle.fleet.proofs.listening.hearing_none.Tie as tie
+use Rattle.fleet.proofs.listening.hearing_some.Statement.{statement}
+use Rattle.fleet.proofs.listening.hearing_some.Tie as tie
 
--- the truck at place p decides
-abbrev decided : List ℕ → ℕ → ℕ → ℕ → ℕ → ℕ → Bool
-decided s at n senders wanted p = bit wanted p && eqb (without senders (rowFrom s at n p)) 0
+-- the truck at place p hears a sender
+abbrev heardSome : List ℕ → ℕ → ℕ → ℕ → ℕ → ℕ → Bool
+heardSome s at n senders wanted p = bit wanted p && not (eqb (without senders (rowFrom s at n p)) 0)
 
 abbrev Inv-loop : tie.InvT-loop
 Inv-loop s at n senders wanted out₀ left₀ out left =
-    Members out 32 (seen left (decided s at n senders wanted)) × ((j : ℕ) → bit left j ≡ true → bit wanted j ≡ true)
+    Members out 32 (seen left (heardSome s at n senders wanted)) × ((j : ℕ) → bit left j ≡ true → bit wanted j ≡ true)
 
 abbrev μ-loop : tie.MeasureT-loop
 μ-loop s at n senders wanted out₀ left₀ out left = left
@@ -29,7 +29,7 @@ abbrev μ-loop : tie.MeasureT-loop
 loop-holds : tie.Need-loop-holds Inv-loop μ-loop
 loop-holds c =
     let a = c .before .args in (
-      seen-none 32 (a .wanted) (decided (a .s .now) (a .at) (a .n) (a .senders) (a .wanted)) (λ j l e. and-left (bit (a .wanted) j) (eqb (without (a .senders) (rowFrom (a .s .now) (a .at) (a .n) j)) 0) e),
+      seen-none 32 (a .wanted) (heardSome (a .s .now) (a .at) (a .n) (a .senders) (a .wanted)) (λ j l e. and-left (bit (a .wanted) j) (not (eqb (without (a .senders) (rowFrom (a .s .now) (a .at) (a .n) j)) 0)) e),
       λ j e. e,
     )
 
@@ -54,20 +54,20 @@ loop-again c =
     let some = c .before .before .before .before .before .before .loop-test .taken in
     let t = taken-out some (i .ensures) (c .rest .ensures) in
     let own = own-out some (i .ensures .0) (c .before .before .before .only-lowest .ensures) in
-    let q : ℕ → Bool = decided (a .s .now) (a .at) (a .n) (a .senders) (a .wanted) in
-    let e : eqb (w .result) 0 ≡ q (i .result) =
-    ap (λ (x : ℕ). eqb x 0) (w .ensures ∙ ap (without (a .senders)) (c .before .before .before .before .read-at .ensures))
-    ∙ sym (ap (λ (b : Bool). b && eqb (without (a .senders) (rowFrom (a .s .now) (a .at) (a .n) (i .result))) 0) (l .inv .1 (i .result) (t .held))) in
+    let q : ℕ → Bool = heardSome (a .s .now) (a .at) (a .n) (a .senders) (a .wanted) in
+    let e : not (eqb (w .result) 0) ≡ q (i .result) =
+    ap (λ (x : ℕ). not (eqb x 0)) (w .ensures ∙ ap (without (a .senders)) (c .before .before .before .before .read-at .ensures))
+    ∙ sym (ap (λ (b : Bool). b && not (eqb (without (a .senders) (rowFrom (a .s .now) (a .at) (a .n) (i .result))) 0)) (l .inv .1 (i .result) (t .held))) in
     rw (t .rest, c .before .union-where .ensures, own) (
-      seen-joined (l .out) 32 (l .left) (i .result) q (t .below) (t .held) (l .inv .0) (eqb (w .result) 0) e,
+      seen-joined (l .out) 32 (l .left) (i .result) q (t .below) (t .held) (l .inv .0) (not (eqb (w .result) 0)) e,
       λ j h. l .inv .1 j (within-removed (l .left) (i .result) (t .held) j h),
     )
 
 returns : tie.Need-returns Inv-loop μ-loop
 returns c = seen-all (rw (c .loop-test .left) at (c .before .loop .inv .0))
 
-pub hearing-none-spec : {M : Type 1} → statement M
-hearing-none-spec =
+pub hearing-some-spec : {M : Type 1} → statement M
+hearing-some-spec =
     tie.close
     (tie.spec
     Inv-loop

@@ -1,11 +1,11 @@
--- `run` meets its contract.
+-- `run_in` meets its contract.
 use mathlib.Core.Path.{sym, _∙_}
 use borrow.Author.Needs.{needs}
 use Rattle.recording.specs.Checks.{frameCheck, ownCheck, checkOf}
 use Rattle.refusals.proofs.Outcomes.{then-first}
 use Rattle.protocol.specs.Fleets.{ranIn}
-use Rattle.fleet.proofs.run.Statement.{statement}
-use Rattle.fleet.proofs.run.Tie as tie
+use Rattle.fleet.proofs.run_in.Statement.{statement}
+use Rattle.fleet.proofs.run_in.Tie as tie
 
 replay-requires : tie.Need-replay-requires
 unfolding checkOf
@@ -21,8 +21,8 @@ returns-2 : tie.Need-returns-2
 unfolding ranIn
 returns-2 c = c .refused .ensures ∙ rw (sym (c .before .before .before .before .check .ensures) ∙ c .before .before .outcome .given .1)
 
-pub run-spec : {M : Type 1} → statement M
-run-spec =
+pub run-in-spec : {M : Type 1} → statement M
+run-in-spec =
     tie.close
     (tie.spec
     (λ c κs. search needs)

@@ -1,12 +1,12 @@
--- `grade` meets its contract.
+-- `grade_in` meets its contract.
 use mathlib.Core.Path.{sym, _∙_}
 use borrow.Author.Needs.{needs}
 use Rattle.recording.specs.Checks.{frameCheck, ownCheck, checkOf}
 use Rattle.refusals.proofs.Outcomes.{then-first}
 use Rattle.protocol.specs.Fleets.{gradedIn}
 use Rattle.fleet.specs.Replays.{gradesAfter}
-use Rattle.fleet.proofs.grade.Statement.{statement}
-use Rattle.fleet.proofs.grade.Tie as tie
+use Rattle.fleet.proofs.grade_in.Statement.{statement}
+use Rattle.fleet.proofs.grade_in.Tie as tie
 
 replay-requires : tie.Need-replay-requires
 unfolding checkOf
@@ -22,7 +22,7 @@ returns-2 : tie.Need-returns-2
 unfolding gradedIn
 returns-2 c = rw (sym (c .before .before .before .check .ensures) ∙ c .before .outcome .given .1)
 
-pub grade-spec : {M : Type 1} → statement M
-grade-spec =
+pub grade-in-spec : {M : Type 1} → statement M
+grade-in-spec =
     tie.close
     (tie.spec (λ c κs. search needs) (λ c. search needs) replay-requires (λ c. search needs) returns returns-2)

@@ -252,7 +252,7 @@ refused-size s r h = refusal-size r (λ round truck e. check-in s round truck (h
 
 -- no size is larger than it has to be: a record that refusal 7 lets pass has the longest listing, and the last truck of the last round the longest line
 pub fullest : Fleet
-fullest = record { n = 32; done = 400; trucks = replicate 32 (record { opening = 15; estimate = 15; mark = false; heard = Nothing; state = Decided 400; sent = record { proposals = 200; vetoes = 200 } }) }
+fullest = record { n = 32; done = 400; trucks = replicate 32 (record { opening = 15; estimate = 15; mark = false; heard = Nothing; unwilling = false; state = Decided 400; sent = record { proposals = 200; vetoes = 200 } }) }
 
 pub listing-longest : (goodFleet fullest ≡ true) × (length (listingOf fullest) ≡ longestListing)
 unfolding fullest goodTruckIn goodFleetIn badTrucks allBelow sumBelow decimalIn decimal stateText sentText truckLine truckLines totalsLine listingOf

@@ -11,7 +11,7 @@ use Rattle.refusals.specs.declared.Refusal.the-variants.{ShortBuffer}
 use Rattle.protocol.specs.declared.Grades.{Grades}
 use Rattle.protocol.specs.declared.Grading.{Grading}
 use Rattle.protocol.specs.declared.Grading.the-variants as grading
-use Rattle.protocol.specs.Fleets.{graded}
+use Rattle.protocol.specs.Fleets.{Protocol, gradedIn, gradeAnswer}
 use Rattle.roads.specs.declared.Opening.{Opening}
 use Rattle.roads.specs.declared.Opening.the-variants as opening
 use Rattle.roads.specs.Opening.{openingOf}
@@ -23,7 +23,7 @@ use Rattle.plain.specs.Forms.{afterRead, readPlain, afterWrite, writePlain}
 use Rattle.listing.specs.declared.Listed.{Listed}
 use Rattle.listing.specs.declared.Listed.the-variants as listing
 use Rattle.listing.specs.Listed.{left, listed}
-use Rattle.ffi.specs.Calls.{listLeft, listCall, gradeLeft, gradeCall, openingLeft, openingCall, readLeft, readCall, writeLeft, writeCall}
+use Rattle.ffi.specs.Calls.{listLeft, listCall, GradeLeft, gradeLeft, gradeLeftAs, gradeCallIn, openingLeft, openingCall, readLeft, readCall, writeLeft, writeCall}
 use Rattle.ffi.proofs.Narrow.{narrow-write}
 
 -- ---- the opening crusher
@@ -83,16 +83,18 @@ four-put (x ∷ y ∷ []) a b c e h = absurd (omega arith)
 four-put (x ∷ y ∷ z ∷ []) a b c e h = absurd (omega arith)
 four-put (x ∷ y ∷ z ∷ w ∷ d) a b c e h = refl
 
-module _ (bytes grades : List ℕ) (g : Grading) (judged : g ≡ graded bytes) where
-  pub grade-call-refused : (r : Refusal) (k : ℕ) → g ≡ grading.Refused r → k ≡ numberOf r → gradeLeft k grades ≡ gradeCall bytes grades
-  unfolding gradeCall
-  grade-call-refused r k h e = rw (e, ← judged, h, le-ltb (length grades) 0 (omega arith))
+module _ (grades : List ℕ) (g : Grading) where
+  pub grades-refused : (r : Refusal) (k : ℕ) → g ≡ grading.Refused r → k ≡ numberOf r → gradeLeft k grades ≡ gradeLeftAs (gradeAnswer g) grades
+  grades-refused r k h e = rw (e, h, le-ltb (length grades) 0 (omega arith))
 
-  pub grade-call-9 : (x : Grades) (k : ℕ) → g ≡ grading.Graded x → length grades < 4 → k ≡ numberOf ShortBuffer → gradeLeft k grades ≡ gradeCall bytes grades
-  unfolding gradeCall
-  grade-call-9 x k h l e = rw (e, ← judged, h, lt-ltb (length grades) 4 l)
+  pub grades-9 : (x : Grades) (k : ℕ) → g ≡ grading.Graded x → length grades < 4 → k ≡ numberOf ShortBuffer → gradeLeft k grades ≡ gradeLeftAs (gradeAnswer g) grades
+  grades-9 x k h l e = rw (e, h, lt-ltb (length grades) 4 l)
 
-  pub grade-call-0 : (x : Grades) → g ≡ grading.Graded x → 4 ≤ length grades
-      → gradeLeft 0 (set (set (set (set grades 0 (x .complete)) 1 (x .majority)) 2 (x .zero)) 3 (x .accurate)) ≡ gradeCall bytes grades
-  unfolding gradeCall
-  grade-call-0 x h l = rw (four-put grades (x .complete) (x .majority) (x .zero) (x .accurate) l, ← judged, h, le-ltb (length grades) 4 l)
+  pub grades-0 : (x : Grades) → g ≡ grading.Graded x → 4 ≤ length grades
+      → gradeLeft 0 (set (set (set (set grades 0 (x .complete)) 1 (x .majority)) 2 (x .zero)) 3 (x .accurate)) ≡ gradeLeftAs (gradeAnswer g) grades
+  grades-0 x h l = rw (four-put grades (x .complete) (x .majority) (x .zero) (x .accurate) l, h, le-ltb (length grades) 4 l)
+
+-- by the protocol in which the recording is graded
+pub grade-put : (p : Protocol) (bytes grades : List ℕ) (g : Grading) (x : GradeLeft) → g ≡ gradedIn p bytes → x ≡ gradeLeftAs (gradeAnswer g) grades → x ≡ gradeCallIn p bytes grades
+unfolding gradeCallIn
+grade-put p bytes grades g x e h = rw (← e) h

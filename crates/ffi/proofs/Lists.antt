@@ -18,25 +18,25 @@ use Rattle.recording.proofs.Accepted.{trucks-in, openings-in, bytes-good}
 use Rattle.radio.specs.Round.{activeBit}
 use Rattle.radio.specs.Runs.{stateAt}
 use Rattle.protocol.proofs.AnyRun.{throughout}
-use Rattle.protocol.specs.Cycles.{afterIn}
+use Rattle.protocol.specs.Cycles.{Rules, afterIn}
 use Rattle.protocol.specs.declared.Truck.{Truck}
 use Rattle.protocol.specs.declared.Fleet.{Fleet}
 use Rattle.protocol.specs.declared.Answer.{Answer}
-use Rattle.protocol.specs.Rules.{opened, after, twoRules}
-use Rattle.protocol.specs.Runs.{openedTrucks, trucksAt, trucksIn}
-use Rattle.protocol.specs.Fleets.{answer, blank as blankFleet, startCheck, started, stepCheck, stepped, nextFleet, fleetAt, ran, steppedIn, nextFleetIn, ranIn, fleetIn}
-use Rattle.protocol.specs.Steps.{lastRecord, lastRecordIn}
+use Rattle.protocol.specs.Rules.{recorded, opened}
+use Rattle.protocol.specs.Runs.{openedTrucks, trucksIn}
+use Rattle.protocol.specs.Fleets.{Protocol, answer, blank as blankFleet, startCheck, started, stepCheckIn, steppedIn, nextFleetIn, ranIn, fleetIn}
+use Rattle.protocol.specs.Steps.{lastRecordIn}
 use Rattle.protocol.proofs.Opened.{length-opened, truck-unopened}
 use Rattle.protocol.proofs.Steps.{accepted-by, start-by}
 use Rattle.recordbytes.specs.Layout.{sizeFor, recordByte, packedRecord, packedWhole, unpacked}
 use Rattle.recordbytes.proofs.RoundTrip.{Tidy, record-tidy, whole-tidy, undamaged, taken-whole}
-use Rattle.ffi.specs.Calls.{recordAs, storeCall, startCall, stepCall, runCall, bytesAfter}
+use Rattle.ffi.specs.Calls.{recordAs, storeCall, startCall, stepCallIn, runCallIn, bytesAfterIn}
 use Rattle.ffi.proofs.Records.{record-number, step-trucks, room-for, start-range, step-range, run-range}
 
 -- a round keeps the places n and above
-tidy-after : (n : ℕ) (active : ℕ → Bool) (k : ℕ) (w : List ℕ) (ts : List Truck) → n ≤ 32 → Tidy n ts → Tidy n (after n active k w ts)
+tidy-after : (rules : Rules recorded) (n : ℕ) (active : ℕ → Bool) (k : ℕ) (w : List ℕ) (ts : List Truck) → n ≤ 32 → Tidy n ts → Tidy n (afterIn rules n active k w ts)
 unfolding afterIn
-tidy-after n active k w ts most b =
+tidy-after rules n active k w ts most b =
     record {
       places = length-filled _ n ts (omega (arith, b .places)) ∙ b .places;
       rest = λ i l. getD-filled-past _ n ts i (opened 0) l ∙ b .rest i l;
@@ -64,89 +64,89 @@ start-tidy n openings h =
 
 -- ---- a step
 
-step-tidy : (f : Fleet) (w : List ℕ) → Tidy (f .n) (f .trucks) → Tidy (stepped f w .fleet .n) (stepped f w .fleet .trucks)
+step-tidy : (p : Protocol) (f : Fleet) (w : List ℕ) → Tidy (f .n) (f .trucks) → Tidy (steppedIn p f w .fleet .n) (steppedIn p f w .fleet .trucks)
 unfolding steppedIn nextFleetIn
-step-tidy f w t = go (stepCheck f w) refl
+step-tidy p f w t = go (stepCheckIn p f w) refl
   where
-    go : (o : Outcome) → stepCheck f w ≡ o → Tidy (answer o (nextFleet f w) f .fleet .n) (answer o (nextFleet f w) f .fleet .trucks)
+    go : (o : Outcome) → stepCheckIn p f w ≡ o → Tidy (answer o (nextFleetIn p f w) f .fleet .n) (answer o (nextFleetIn p f w) f .fleet .trucks)
     go Accepted e =
-        tidy-after (f .n) (activeBit w) (f .done + 1) w (f .trucks) (trucks-in (f .n) (step-trucks f w e) .1) t
+        tidy-after (p .rules) (f .n) (activeBit w) (f .done + 1) w (f .trucks) (trucks-in (f .n) (step-trucks p f w e) .1) t
     go (Refused r) e = t
 
 -- a refused step returns the record it was given
-step-kept : (f : Fleet) (w : List ℕ) (r : Refusal) → stepped f w .outcome ≡ Refused r → stepped f w .fleet ≡ f
+step-kept : (p : Protocol) (f : Fleet) (w : List ℕ) (r : Refusal) → steppedIn p f w .outcome ≡ Refused r → steppedIn p f w .fleet ≡ f
 unfolding steppedIn
-step-kept f w r h = go (stepCheck f w) h
+step-kept p f w r h = go (stepCheckIn p f w) h
   where
-    go : (o : Outcome) → answer o (nextFleet f w) f .outcome ≡ Refused r → answer o (nextFleet f w) f .fleet ≡ f
+    go : (o : Outcome) → answer o (nextFleetIn p f w) f .outcome ≡ Refused r → answer o (nextFleetIn p f w) f .fleet ≡ f
     go Accepted e = absurd (true≢false (ap accepted e))
     go (Refused q) e = refl
 
-module _ (d w : List ℕ) (f : Fleet) (holds : Holds d f) where
-  step-as : stepCall d w ≡ recordAs (stepped f w .outcome) (stepped f w .fleet .n) (stepped f w .fleet) d
-  unfolding stepCall
+module _ (p : Protocol) (d w : List ℕ) (f : Fleet) (holds : Holds d f) where
+  step-as : stepCallIn p d w ≡ recordAs (steppedIn p f w .outcome) (steppedIn p f w .fleet .n) (steppedIn p f w .fleet) d
+  unfolding stepCallIn
   step-as = rw (holds .read)
 
-  step-number : stepCall d w .number ≡ outcomeNumber (stepped f w .outcome)
-  step-number = rw step-as (record-number (stepped f w .outcome) (stepped f w .fleet .n) (stepped f w .fleet) d)
+  step-number : stepCallIn p d w .number ≡ outcomeNumber (steppedIn p f w .outcome)
+  step-number = rw step-as (record-number (steppedIn p f w .outcome) (steppedIn p f w .fleet .n) (steppedIn p f w .fleet) d)
 
-  step-holds : Holds (stepCall d w .bytes) (stepped f w .fleet)
+  step-holds : Holds (stepCallIn p d w .bytes) (steppedIn p f w .fleet)
   unfolding packedRecord
-  step-holds = rw step-as (go (stepped f w .outcome) refl)
+  step-holds = rw step-as (go (steppedIn p f w .outcome) refl)
     where
       g : Fleet
-      g = stepped f w .fleet
+      g = steppedIn p f w .fleet
 
-      go : (o : Outcome) → stepped f w .outcome ≡ o → Holds (recordAs o (g .n) g d .bytes) g
+      go : (o : Outcome) → steppedIn p f w .outcome ≡ o → Holds (recordAs o (g .n) g d .bytes) g
       go Accepted e =
-          let room = room-for (g .n) d (step-range f w e) (undamaged d (taken-whole d (ap (λ (a : Answer). a .outcome) (holds .read))) .whole) in
+          let room = room-for (g .n) d (step-range p f w e) (undamaged d (taken-whole d (ap (λ (a : Answer). a .outcome) (holds .read))) .whole) in
           let s : filled (recordByte g) (sizeFor (g .n)) d ≡ packedRecord g d = rw room in
-          record { read = rw s (record-tidy g d room (step-tidy f w (holds .clean))); clean = step-tidy f w (holds .clean) }
-      go (Refused r) e = rw (step-kept f w r e) holds
+          record { read = rw s (record-tidy g d room (step-tidy p f w (holds .clean))); clean = step-tidy p f w (holds .clean) }
+      go (Refused r) e = rw (step-kept p f w r e) holds
 
-steps-hold : (ws : List (List ℕ)) (d : List ℕ) (f : Fleet) → Holds d f → Holds (bytesAfter d ws) (lastRecord f ws)
-unfolding bytesAfter lastRecordIn
-steps-hold [] d f h = h
-steps-hold (w ∷ ws) d f h = steps-hold ws (stepCall d w .bytes) (stepped f w .fleet) (step-holds d w f h)
+steps-hold : (p : Protocol) (ws : List (List ℕ)) (d : List ℕ) (f : Fleet) → Holds d f → Holds (bytesAfterIn p d ws) (lastRecordIn p f ws)
+unfolding bytesAfterIn lastRecordIn
+steps-hold p [] d f h = h
+steps-hold p (w ∷ ws) d f h = steps-hold p ws (stepCallIn p d w .bytes) (steppedIn p f w .fleet) (step-holds p d w f h)
 
 -- ---- lists of steps and runs on bytes
 
-module _ (n : ℕ) (openings d : List ℕ) (accepted : started n openings .outcome ≡ Accepted) (room : sizeFor 32 ≤ length d) (ws : List (List ℕ)) where
-  held : Holds (bytesAfter (startCall n openings d .bytes) ws) (lastRecord (started n openings .fleet) ws)
+module _ (p : Protocol) (n : ℕ) (openings d : List ℕ) (accepted : started n openings .outcome ≡ Accepted) (room : sizeFor 32 ≤ length d) (ws : List (List ℕ)) where
+  held : Holds (bytesAfterIn p (startCall n openings d .bytes) ws) (lastRecordIn p (started n openings .fleet) ws)
   unfolding startCall
   held =
-      steps-hold ws (startCall n openings d .bytes) (started n openings .fleet)
+      steps-hold p ws (startCall n openings d .bytes) (started n openings .fleet)
       (stored (started n openings) d accepted (start-range n openings (started n openings) refl accepted) room (start-tidy n openings accepted))
 
   -- after a start and steps on bytes, refused ones included, the bytes are the record that the start and the steps return
-  pub bytes-hold : unpacked (bytesAfter (startCall n openings d .bytes) ws) ≡ record { outcome = Accepted; fleet = lastRecord (started n openings .fleet) ws }
+  pub bytes-hold : unpacked (bytesAfterIn p (startCall n openings d .bytes) ws) ≡ record { outcome = Accepted; fleet = lastRecordIn p (started n openings .fleet) ws }
   bytes-hold = held .read
 
   -- and the next step answers the number that it answers of that record
   pub next-number : (w : List ℕ)
-      → stepCall (bytesAfter (startCall n openings d .bytes) ws) w .number ≡ outcomeNumber (stepped (lastRecord (started n openings .fleet) ws) w .outcome)
-  next-number w = step-number (bytesAfter (startCall n openings d .bytes) ws) w (lastRecord (started n openings .fleet) ws) held
+      → stepCallIn p (bytesAfterIn p (startCall n openings d .bytes) ws) w .number ≡ outcomeNumber (steppedIn p (lastRecordIn p (started n openings .fleet) ws) w .outcome)
+  next-number w = step-number p (bytesAfterIn p (startCall n openings d .bytes) ws) w (lastRecordIn p (started n openings .fleet) ws) held
 
 -- ---- runs
 
-run-tidy : (s : List ℕ) → trucksOf s ≤ 32 → Tidy (trucksOf s) (trucksAt (trucksOf s) (openingsOf s) (roundAt s) (roundsOf s))
+run-tidy : (rules : Rules recorded) (s : List ℕ) → trucksOf s ≤ 32 → Tidy (trucksOf s) (trucksIn rules (trucksOf s) (openingsOf s) (roundAt s) (roundsOf s))
 unfolding openingsOf trucksIn stateAt
-run-tidy s most =
-    throughout twoRules (trucksOf s) (openingsOf s) (roundAt s) (λ k ts. Tidy (trucksOf s) ts) (roundsOf s)
+run-tidy rules s most =
+    throughout rules (trucksOf s) (openingsOf s) (roundAt s) (λ k ts. Tidy (trucksOf s) ts) (roundsOf s)
     (record {
       places = length-opened (openingsOf s);
       rest = λ i l. truck-unopened (openingsOf s) i (omega (arith, length-tab (openingAt s) (trucksOf s)));
     })
-    (λ k l b. tidy-after (trucksOf s) (activeBit (roundAt s k)) (suc k) (roundAt s k) (trucksAt (trucksOf s) (openingsOf s) (roundAt s) k) most b)
+    (λ k l b. tidy-after rules (trucksOf s) (activeBit (roundAt s k)) (suc k) (roundAt s k) (trucksIn rules (trucksOf s) (openingsOf s) (roundAt s) k) most b)
     (roundsOf s) (omega arith)
 
-run-clean : (s : List ℕ) → ran s .outcome ≡ Accepted → Tidy (ran s .fleet .n) (ran s .fleet .trucks)
+run-clean : (p : Protocol) (s : List ℕ) → ranIn p s .outcome ≡ Accepted → Tidy (ranIn p s .fleet .n) (ranIn p s .fleet .trucks)
 unfolding ranIn fleetIn
-run-clean s h =
-    let o = accepted-by (checkOf s) (fleetAt (trucksOf s) (openingsOf s) (roundAt s) (roundsOf s)) blankFleet h in
-    rw (o .1) (run-tidy s (bytes-good s (o .0) .frame .most))
+run-clean p s h =
+    let o = accepted-by (checkOf s) (fleetIn p (trucksOf s) (openingsOf s) (roundAt s) (roundsOf s)) blankFleet h in
+    rw (o .1) (run-tidy (p .rules) s (bytes-good s (o .0) .frame .most))
 
 -- the bytes that an accepted run leaves are the record that it returns
-pub run-holds : (s d : List ℕ) → ran s .outcome ≡ Accepted → sizeFor 32 ≤ length d → unpacked (runCall s d .bytes) ≡ record { outcome = Accepted; fleet = ran s .fleet }
-unfolding runCall
-run-holds s d h room = stored (ran s) d h (run-range s (ran s) refl h) room (run-clean s h) .read
+pub run-holds : (p : Protocol) (s d : List ℕ) → ranIn p s .outcome ≡ Accepted → sizeFor 32 ≤ length d → unpacked (runCallIn p s d .bytes) ≡ record { outcome = Accepted; fleet = ranIn p s .fleet }
+unfolding runCallIn
+run-holds p s d h room = stored (ranIn p s) d h (run-range p s (ranIn p s) refl h) room (run-clean p s h) .read

@@ -23,14 +23,14 @@ use Rattle.recording.proofs.Named.{check-names, plain-names}
 use Rattle.plain.specs.Forms.{readCheck, shortBuffers, writeCheck}
 use Rattle.plain.proofs.RoundTrip.{read-answer, write-answer}
 use Rattle.protocol.specs.declared.Fleet.{Fleet}
-use Rattle.protocol.specs.Fleets.{twoRound, blank, stepCheck, stepped, fleetAt, ran, ranIn}
+use Rattle.protocol.specs.Fleets.{Protocol, blank, ran, stepCheckIn, steppedIn, ranIn, fleetIn}
 use Rattle.protocol.proofs.Ran.{grade-answer}
 use Rattle.protocol.proofs.Steps.{answer-outcome, step-checked, step-names}
 use Rattle.listing.specs.Text.{listingOf}
 use Rattle.listing.specs.Listed.{listCheck}
 use Rattle.listing.proofs.Prints.{list-answer}
 use Rattle.recordbytes.specs.Layout.{sizeFor, damaged, recordOf, noRecord, unpacked}
-use Rattle.ffi.specs.Calls.{readCall, writeCall, listCall, gradeLeft, gradeLeftAs, gradeCall, storeCall, runCall, stepCall, recordingOwnLoss, writeOwnLoss, roundOwnLoss}
+use Rattle.ffi.specs.Calls.{readCall, writeCall, listCall, gradeLeft, gradeLeftAs, gradeCallIn, storeCall, runCallIn, stepCallIn, recordingOwnLoss, writeOwnLoss, roundOwnLoss}
 use Rattle.ffi.proofs.Narrow.{many-trucks, narrowed, narrow-check}
 use Rattle.ffi.proofs.Records.{record-number}
 
@@ -111,17 +111,17 @@ module _ (s : List ℕ) where
       (before-9 (checkOf s) short
       (sym (ap (λ (x : ℕ × List ℕ). x .0) (list-answer s text) ∙ number-of (listCheck s (length text)) (length (listingOf (ran s .fleet)) ∷ [])) ∙ h))
 
-  pub run-6 : (d : List ℕ) → runCall s d .number ≡ 6 → RecordingNamed
-  unfolding runCall storeCall ranIn
-  run-6 d h =
+  pub run-6 : (p : Protocol) (d : List ℕ) → runCallIn p s d .number ≡ 6 → RecordingNamed
+  unfolding runCallIn storeCall ranIn
+  run-6 p d h =
       let short = ltb (length d) (sizeFor 32) in
-      let f : Fleet = fleetAt (trucksOf s) (openingsOf s) (roundAt s) (roundsOf s) in
-      let ran-6 = before-9 (ran s .outcome) short (sym (record-number (andThen (ran s .outcome) (refuse short ShortBuffer Accepted)) 32 (ran s .fleet) d) ∙ h) in
+      let f : Fleet = fleetIn p (trucksOf s) (openingsOf s) (roundAt s) (roundsOf s) in
+      let ran-6 = before-9 (ranIn p s .outcome) short (sym (record-number (andThen (ranIn p s .outcome) (refuse short ShortBuffer Accepted)) 32 (ranIn p s .fleet) d) ∙ h) in
       named (sym (ap outcomeNumber (answer-outcome (checkOf s) f blank)) ∙ ran-6)
 
-  pub grade-6 : (grades : List ℕ) → gradeCall s grades .number ≡ 6 → RecordingNamed
-  unfolding gradeCall
-  grade-6 grades h = named (go (checkOf s) _ (sym (ap (λ (x : ℕ × List ℕ). gradeLeftAs x grades .number) (grade-answer twoRound s)) ∙ h))
+  pub grade-6 : (p : Protocol) (grades : List ℕ) → gradeCallIn p s grades .number ≡ 6 → RecordingNamed
+  unfolding gradeCallIn
+  grade-6 p grades h = named (go (checkOf s) _ (sym (ap (λ (x : ℕ × List ℕ). gradeLeftAs x grades .number) (grade-answer p s)) ∙ h))
     where
       short : (b : Bool) (values : List ℕ) → cond b (gradeLeft (numberOf ShortBuffer) grades) (gradeLeft 0 (values ++ drop (length values) grades)) .number ≡ 6 → _≡_ {A = ℕ} 0 6
       short true values e = absurd (omega arith)
@@ -151,11 +151,11 @@ whole-6 {A} d = go (damaged d)
     go false h = absurd (omega arith)
 
 -- a step: the round is the one after those done
-pub step-6 : (d w : List ℕ) → stepCall d w .number ≡ 6
+pub step-6 : (p : Protocol) (d w : List ℕ) → stepCallIn p d w .number ≡ 6
     → (truck : ℕ) × (roundOwnLoss (unpacked d .fleet .n) (unpacked d .fleet .done + 1) w ≡ (unpacked d .fleet .done + 1) * 256 + truck)
     × FirstOwn (λ k. getD w k 0) (unpacked d .fleet .n) 1 0 truck
-unfolding stepCall roundOwnLoss badRounds
-step-6 d w h = go (unpacked d .outcome) refl (sym (record-number (andThen (unpacked d .outcome) (stepped f w .outcome)) (stepped f w .fleet .n) (stepped f w .fleet) d) ∙ h)
+unfolding stepCallIn roundOwnLoss badRounds
+step-6 p d w h = go (unpacked d .outcome) refl (sym (record-number (andThen (unpacked d .outcome) (steppedIn p f w .outcome)) (steppedIn p f w .fleet .n) (steppedIn p f w .fleet) d) ∙ h)
   where
     f : Fleet
     f = unpacked d .fleet
@@ -163,11 +163,11 @@ step-6 d w h = go (unpacked d .outcome) refl (sym (record-number (andThen (unpac
     k : ℕ
     k = f .done + 1
 
-    go : (o : Outcome) → unpacked d .outcome ≡ o → outcomeNumber (andThen o (stepped f w .outcome)) ≡ 6
+    go : (o : Outcome) → unpacked d .outcome ≡ o → outcomeNumber (andThen o (steppedIn p f w .outcome)) ≡ 6
         → (truck : ℕ) × (cond (badTrucks (f .n) || eqb k 0 || ltb 400 k) 0 (ownLoss (roundCheck (f .n) k w)) ≡ k * 256 + truck) × FirstOwn (λ j. getD w j 0) (f .n) 1 0 truck
     go Accepted e g =
-        let (round, truck, r) = outcome-6 (stepCheck f w) (sym (ap outcomeNumber (step-checked twoRound f w)) ∙ g) in
-        let n = step-names twoRound f w round truck r in
+        let (round, truck, r) = outcome-6 (stepCheckIn p f w) (sym (ap outcomeNumber (step-checked p f w)) ∙ g) in
+        let n = step-names p f w round truck r in
         let within : (badTrucks (f .n) || eqb k 0 || ltb 400 k) ≡ false =
         or-none (badTrucks (f .n) || eqb k 0) (ltb 400 k) (or-none (badTrucks (f .n)) (eqb k 0) (n .trucks) (ne-eqb k 0 (λ z. omega arith))) (le-ltb 400 k (omega (arith, n .room))) in
         (truck, ap (λ (t : Bool). cond t 0 (ownLoss (roundCheck (f .n) k w))) within ∙ ap ownLoss (n .own) ∙ ap (λ (j : ℕ). j * 256 + truck) (n .round-next), n .first)

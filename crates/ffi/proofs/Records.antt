@@ -20,20 +20,20 @@ use Rattle.recording.proofs.Accepted.{in-trucks, bytes-good}
 use Rattle.protocol.specs.declared.Fleet.{Fleet}
 use Rattle.protocol.specs.declared.Answer.{Answer}
 use Rattle.protocol.specs.Runs.{openedTrucks}
-use Rattle.protocol.specs.Fleets.{blank, startCheck, started, stepCheck, stepped, nextFleet, goodFleet, fleetAt, ran, twoRound, stepCheckIn, steppedIn, nextFleetIn, ranIn, fleetIn}
+use Rattle.protocol.specs.Fleets.{Protocol, blank, startCheck, started, goodFleetIn, stepCheckIn, steppedIn, nextFleetIn, ranIn, fleetIn}
 use Rattle.protocol.proofs.Good.{record-parts}
 use Rattle.protocol.proofs.Steps.{accepted-by, start-by}
 use Rattle.recordbytes.proofs.RoundTrip.{undamaged, taken-whole}
 use Rattle.recordbytes.specs.Layout.{sizeFor, packCheck, packFor, packedRecord, packedWhole, unpacked}
-use Rattle.ffi.specs.Calls.{RecordLeft, recordLeft, recordAs, storeCall, runCall, startCall, stepCall}
+use Rattle.ffi.specs.Calls.{RecordLeft, recordLeft, recordAs, storeCall, runCallIn, startCall, stepCallIn}
 use Rattle.ffi.proofs.Narrow.{many-trucks, narrowed}
 
 -- the record of an accepted step has an n in range
-pub step-trucks : (f : Fleet) (w : List ℕ) → stepCheck f w ≡ Accepted → badTrucks (f .n) ≡ false
+pub step-trucks : (p : Protocol) (f : Fleet) (w : List ℕ) → stepCheckIn p f w ≡ Accepted → badTrucks (f .n) ≡ false
 unfolding stepCheckIn
-step-trucks f w h =
-    record-parts twoRound f
-    (not-false (goodFleet f) (refuse-false (not (goodFleet f)) Record (refuse (eqb (f .done) 400) RoundsDone (roundCheck (f .n) (f .done + 1) w)) h))
+step-trucks p f w h =
+    record-parts p f
+    (not-false (goodFleetIn p f) (refuse-false (not (goodFleetIn p f)) Record (refuse (eqb (f .done) 400) RoundsDone (roundCheck (f .n) (f .done + 1) w)) h))
     .trucks
 
 -- a buffer with room for a record of n trucks
@@ -92,31 +92,31 @@ start-stored n m openings d a x e h s = s ∙ ap (λ (a : Answer). storeCall a d
 
 -- ---- a step
 
-pub step-range : (f : Fleet) (w : List ℕ) → stepped f w .outcome ≡ Accepted → badTrucks (stepped f w .fleet .n) ≡ false
+pub step-range : (p : Protocol) (f : Fleet) (w : List ℕ) → steppedIn p f w .outcome ≡ Accepted → badTrucks (steppedIn p f w .fleet .n) ≡ false
 unfolding steppedIn nextFleetIn
-step-range f w h =
-    let o = accepted-by (stepCheck f w) (nextFleet f w) f h in
-    rw (o .1) (step-trucks f w (o .0))
+step-range p f w h =
+    let o = accepted-by (stepCheckIn p f w) (nextFleetIn p f w) f h in
+    rw (o .1) (step-trucks p f w (o .0))
 
-module _ (d w : List ℕ) (u : Answer) (read : u ≡ unpacked d) where
-  pub step-7 : (r : Refusal) (k : ℕ) → u .outcome ≡ Refused r → k ≡ numberOf r → recordLeft k d ≡ stepCall d w
-  unfolding stepCall
+module _ (p : Protocol) (d w : List ℕ) (u : Answer) (read : u ≡ unpacked d) where
+  pub step-7 : (r : Refusal) (k : ℕ) → u .outcome ≡ Refused r → k ≡ numberOf r → recordLeft k d ≡ stepCallIn p d w
+  unfolding stepCallIn
   step-7 r k h e = rw (e, ← read, h)
 
-  module _ (whole : u .outcome ≡ Accepted) (a : Answer) (done : a ≡ stepped (u .fleet) w) where
-    step-as : recordAs (a .outcome) (a .fleet .n) (a .fleet) d ≡ stepCall d w
-    unfolding stepCall
+  module _ (whole : u .outcome ≡ Accepted) (a : Answer) (done : a ≡ steppedIn p (u .fleet) w) where
+    step-as : recordAs (a .outcome) (a .fleet .n) (a .fleet) d ≡ stepCallIn p d w
+    unfolding stepCallIn
     step-as = rw (← read, whole, ← done)
 
-    pub step-refused : (r : Refusal) (k : ℕ) → a .outcome ≡ Refused r → k ≡ numberOf r → recordLeft k d ≡ stepCall d w
+    pub step-refused : (r : Refusal) (k : ℕ) → a .outcome ≡ Refused r → k ≡ numberOf r → recordLeft k d ≡ stepCallIn p d w
     step-refused r k h e = rw (e, ← step-as, h)
 
     step-room : a .outcome ≡ Accepted → packCheck (a .fleet .n) (length d) ≡ Accepted
     step-room h =
-        room-for (a .fleet .n) d (rw done (step-range (u .fleet) w (rw done at h))) (undamaged d (taken-whole d (rw read at whole)) .whole)
+        room-for (a .fleet .n) d (rw done (step-range p (u .fleet) w (rw done at h))) (undamaged d (taken-whole d (rw read at whole)) .whole)
 
     pub step-0 : a .outcome ≡ Accepted → (o : Outcome) (l : List ℕ) (k : ℕ)
-        → o ≡ packCheck (a .fleet .n) (length d) → l ≡ packedRecord (a .fleet) d → k ≡ outcomeNumber o → recordLeft k l ≡ stepCall d w
+        → o ≡ packCheck (a .fleet .n) (length d) → l ≡ packedRecord (a .fleet) d → k ≡ outcomeNumber o → recordLeft k l ≡ stepCallIn p d w
     unfolding packedRecord
     step-0 h o l k p q e =
         packed-as (a .fleet) (a .fleet .n) d l o k p q e
@@ -125,13 +125,13 @@ module _ (d w : List ℕ) (u : Answer) (read : u ≡ unpacked d) where
 
 -- ---- a run
 
-pub run-range : (s : List ℕ) (a : Answer) → a ≡ ran s → a .outcome ≡ Accepted → badTrucks (a .fleet .n) ≡ false
+pub run-range : (p : Protocol) (s : List ℕ) (a : Answer) → a ≡ ranIn p s → a .outcome ≡ Accepted → badTrucks (a .fleet .n) ≡ false
 unfolding ranIn fleetIn
-run-range s a e h =
-    let o = accepted-by (checkOf s) (fleetAt (trucksOf s) (openingsOf s) (roundAt s) (roundsOf s)) blank (rw e at h) in
+run-range p s a e h =
+    let o = accepted-by (checkOf s) (fleetIn p (trucksOf s) (openingsOf s) (roundAt s) (roundsOf s)) blank (rw e at h) in
     let g = bytes-good s (o .0) .frame in
     rw (e, o .1) (in-trucks (trucksOf s) (g .some) (g .most))
 
-pub run-stored : (s d : List ℕ) (a : Answer) (x : RecordLeft) → a ≡ ran s → x ≡ storeCall a d → x ≡ runCall s d
-unfolding runCall
-run-stored s d a x e h = rw (← e) h
+pub run-stored : (p : Protocol) (s d : List ℕ) (a : Answer) (x : RecordLeft) → a ≡ ranIn p s → x ≡ storeCall a d → x ≡ runCallIn p s d
+unfolding runCallIn
+run-stored p s d a x e h = rw (← e) h

@@ -18,7 +18,7 @@ use Rattle.roads.specs.Opening.{openingOf, openingAnswer}
 use Rattle.plain.specs.Forms.{readAnswer, readPlain, writeAnswer, writePlain}
 use Rattle.protocol.specs.declared.Fleet.{Fleet}
 use Rattle.protocol.specs.declared.Answer.{Answer}
-use Rattle.protocol.specs.Fleets.{started, stepped, ran, gradeAnswer, graded}
+use Rattle.protocol.specs.Fleets.{Protocol, twoRound, started, steppedIn, ranIn, gradeAnswer, gradedIn}
 use Rattle.listing.specs.Listed.{listAnswer, listed}
 use Rattle.recordbytes.specs.Layout.{sizeFor, recordByte, unpacked}
 
@@ -107,8 +107,12 @@ gradeLeftAs (number, values) grades =
     (gradeLeft number (values ++ drop (length values) grades))
 
 -- 1 to 6, then 9
-unfoldable pub gradeCall : List ℕ → List ℕ → GradeLeft
-gradeCall bytes grades = gradeLeftAs (gradeAnswer (graded bytes)) grades
+unfoldable pub gradeCallIn : Protocol → List ℕ → List ℕ → GradeLeft
+gradeCallIn p bytes grades = gradeLeftAs (gradeAnswer (gradedIn p bytes)) grades
+
+-- by document 01's protocol
+abbrev pub gradeCall : List ℕ → List ℕ → GradeLeft
+gradeCall = gradeCallIn twoRound
 
 -- ---- fleet records as bytes
 
@@ -129,24 +133,30 @@ unfoldable pub storeCall : Answer → List ℕ → RecordLeft
 storeCall a d = recordAs (andThen (a .outcome) (refuse (ltb (length d) (sizeFor 32)) ShortBuffer Accepted)) 32 (a .fleet) d
 
 -- running a recording: 1 to 6, then 9
-unfoldable pub runCall : List ℕ → List ℕ → RecordLeft
-runCall bytes d = storeCall (ran bytes) d
+unfoldable pub runCallIn : Protocol → List ℕ → List ℕ → RecordLeft
+runCallIn p bytes d = storeCall (ranIn p bytes) d
+
+abbrev pub runCall : List ℕ → List ℕ → RecordLeft
+runCall = runCallIn twoRound
 
 -- starting a fleet: 2, 7, then 9
 unfoldable pub startCall : ℕ → List ℕ → List ℕ → RecordLeft
 startCall n openings d = storeCall (started n openings) d
 
 -- a step: 7 where the bytes are no record, then 7, 14, 8, 6; places n and above stay as they came
-unfoldable pub stepCall : List ℕ → List ℕ → RecordLeft
-stepCall d words =
+unfoldable pub stepCallIn : Protocol → List ℕ → List ℕ → RecordLeft
+stepCallIn p d words =
     let u = unpacked d in
-    let a = stepped (u .fleet) words in
+    let a = steppedIn p (u .fleet) words in
     recordAs (andThen (u .outcome) (a .outcome)) (a .fleet .n) (a .fleet) d
 
+abbrev pub stepCall : List ℕ → List ℕ → RecordLeft
+stepCall = stepCallIn twoRound
+
 -- the bytes after a list of steps, each on what the step before it left
-unfoldable pub bytesAfter : List ℕ → List (List ℕ) → List ℕ
-bytesAfter d [] = d
-bytesAfter d (w ∷ ws) = bytesAfter (stepCall d w .bytes) ws
+unfoldable pub bytesAfterIn : Protocol → List ℕ → List (List ℕ) → List ℕ
+bytesAfterIn p d [] = d
+bytesAfterIn p d (w ∷ ws) = bytesAfterIn p (stepCallIn p d w .bytes) ws
 
 -- ---- where an own loss bit is: the round and the truck that refusal 6 names, as one number; 0 where none is named
 

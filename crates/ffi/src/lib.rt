@@ -8,12 +8,15 @@ ghost use Rattle.refusals.specs.Locations.{outcomeLocation, locationNumber};
 ghost use Rattle.refusals.specs.declared.Outcome.the-variants.{Accepted};
 ghost use Rattle.recording.specs.Checks.{badTrucks};
 ghost use Rattle.ffi.specs.Calls.{openingLeft, openingCall, readLeft, readCall, writeLeft, writeCall};
-ghost use Rattle.ffi.specs.Calls.{recordLeft, storeCall, runCall, startCall, stepCall, listLeft, listCall, gradeLeft, gradeCall};
+ghost use Rattle.ffi.specs.Calls.{recordLeft, storeCall, runCallIn, runCall, startCall, stepCallIn, stepCall, listLeft, listCall};
+ghost use Rattle.ffi.specs.Calls.{gradeLeft, gradeLeftAs, gradeCallIn, gradeCall};
+ghost use Rattle.protocol.specs.Fleets.{sixRound, chosen, gradeAnswer};
 ghost use Rattle.ffi.specs.Calls.{recordingOwnLoss, writeOwnLoss, roundOwnLoss};
 use listing::Listed;
 use plain::ReadOutcome;
 use plain::WriteOutcome;
 use protocol::Answer;
+use protocol::Cycle;
 use protocol::Grading;
 use refusals::Outcome;
 use refusals::Refusal;
@@ -144,6 +147,15 @@ pub extern "C" fn rajvokshul_run(bytes: &[u8], fleet: &mut [u8]) -> u32
     store(a, fleet)
 }
 
+// The same in the six-round cycle.
+#[no_mangle]
+pub extern "C" fn rajvokshul_run_six(bytes: &[u8], fleet: &mut [u8]) -> u32
+    ensures { λ r. ⌜ recordLeft r (now (fleet .exit)) ≡ runCallIn sixRound (now (bytes .entry)) (now (fleet .entry)) ⌝ }
+{
+    let a = fleet::run_in(Cycle::SixRound, bytes);
+    store(a, fleet)
+}
+
 // Runs a recording to its listing.
 #[no_mangle]
 pub extern "C" fn rajvokshul_list(bytes: &[u8], text: &mut [u8], written: &mut usize) -> u32
@@ -159,12 +171,10 @@ pub extern "C" fn rajvokshul_list(bytes: &[u8], text: &mut [u8], written: &mut u
     }
 }
 
-// Grades a recording's marks.
-#[no_mangle]
-pub extern "C" fn rajvokshul_grade(bytes: &[u8], grades: &mut [u16]) -> u32
-    ensures { λ r. ⌜ gradeLeft r (now (grades .exit)) ≡ gradeCall (now (bytes .entry)) (now (grades .entry)) ⌝ }
+// Puts the grades of an answer into a lent buffer.
+fn put_grades(g: Grading, grades: &mut [u16]) -> u32
+    ensures { λ r. ⌜ gradeLeft r (now (grades .exit)) ≡ gradeLeftAs (gradeAnswer g) (now (grades .entry)) ⌝ }
 {
-    let g = fleet::grade(bytes);
     match g {
         Grading::Refused(r) => number(r),
         Grading::Graded(k) => {
@@ -180,6 +190,24 @@ pub extern "C" fn rajvokshul_grade(bytes: &[u8], grades: &mut [u16]) -> u32
     }
 }
 
+// Grades a recording's marks.
+#[no_mangle]
+pub extern "C" fn rajvokshul_grade(bytes: &[u8], grades: &mut [u16]) -> u32
+    ensures { λ r. ⌜ gradeLeft r (now (grades .exit)) ≡ gradeCall (now (bytes .entry)) (now (grades .entry)) ⌝ }
+{
+    let g = fleet::grade(bytes);
+    put_grades(g, grades)
+}
+
+// The same in the six-round cycle.
+#[no_mangle]
+pub extern "C" fn rajvokshul_grade_six(bytes: &[u8], grades: &mut [u16]) -> u32
+    ensures { λ r. ⌜ gradeLeft r (now (grades .exit)) ≡ gradeCallIn sixRound (now (bytes .entry)) (now (grades .entry)) ⌝ }
+{
+    let g = fleet::grade_in(Cycle::SixRound, bytes);
+    put_grades(g, grades)
+}
+
 // Starts a fleet.
 #[no_mangle]
 pub extern "C" fn rajvokshul_start(trucks: u32, openings: &[u8], fleet: &mut [u8]) -> u32
@@ -189,10 +217,9 @@ pub extern "C" fn rajvokshul_start(trucks: u32, openings: &[u8], fleet: &mut [u8
     store(a, fleet)
 }
 
-// Steps a fleet by a round in plain form.
-#[no_mangle]
-pub extern "C" fn rajvokshul_step(fleet: &mut [u8], words: &[u32]) -> u32
-    ensures { λ r. ⌜ recordLeft r (now (fleet .exit)) ≡ stepCall (now (fleet .entry)) (now (words .entry)) ⌝ }
+// A step of a record as bytes, in a cycle. Both exported steps go through it, so that the compiler makes one piece of it.
+fn step_bytes(cycle: Cycle, fleet: &mut [u8], words: &[u32]) -> u32
+    ensures { λ r. ⌜ recordLeft r (now (fleet .exit)) ≡ stepCallIn (chosen cycle) (now (fleet .entry)) (now (words .entry)) ⌝ }
 {
     let u = recordbytes::unpack(fleet);
     let whole = u.outcome;
@@ -200,7 +227,7 @@ pub extern "C" fn rajvokshul_step(fleet: &mut [u8], words: &[u32]) -> u32
         Outcome::Refused(r) => number(r),
         Outcome::Accepted => {
             let f = u.fleet;
-            let a = fleet::step(f, words);
+            let a = fleet::step_in(cycle, f, words);
             let taken = a.outcome;
             match taken {
                 Outcome::Refused(r) => number(r),
@@ -211,6 +238,22 @@ pub extern "C" fn rajvokshul_step(fleet: &mut [u8], words: &[u32]) -> u32
             }
         }
     }
+}
+
+// Steps a fleet by a round in plain form.
+#[no_mangle]
+pub extern "C" fn rajvokshul_step(fleet: &mut [u8], words: &[u32]) -> u32
+    ensures { λ r. ⌜ recordLeft r (now (fleet .exit)) ≡ stepCall (now (fleet .entry)) (now (words .entry)) ⌝ }
+{
+    step_bytes(Cycle::TwoRound, fleet, words)
+}
+
+// The same in the six-round cycle.
+#[no_mangle]
+pub extern "C" fn rajvokshul_step_six(fleet: &mut [u8], words: &[u32]) -> u32
+    ensures { λ r. ⌜ recordLeft r (now (fleet .exit)) ≡ stepCallIn sixRound (now (fleet .entry)) (now (words .entry)) ⌝ }
+{
+    step_bytes(Cycle::SixRound, fleet, words)
 }
 
 // Where the own loss bit is for which a recording is refused.

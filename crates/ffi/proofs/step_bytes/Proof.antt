@@ -1,11 +1,11 @@
--- `rajvokshul_step` meets its contract: a law for each return.
+-- `step_bytes` meets its contract: a law for each return.
 use borrow.Author.Needs.{needs}
 use Rattle.ffi.proofs.Records.{step-7, step-refused, step-0}
-use Rattle.ffi.proofs.rajvokshul_step.Statement.{statement}
-use Rattle.ffi.proofs.rajvokshul_step.Tie as tie
+use Rattle.ffi.proofs.step_bytes.Statement.{statement}
+use Rattle.ffi.proofs.step_bytes.Tie as tie
 
-pub rajvokshul-step-spec : {M : Type 1} → statement M
-rajvokshul-step-spec =
+pub step-bytes-spec : {M : Type 1} → statement M
+step-bytes-spec =
     tie.close
     (tie.spec
     (λ c κs. search needs)

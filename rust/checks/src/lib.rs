@@ -1,8 +1,9 @@
 //! The exported functions as they are.
 
-use oracle::OwnBit;
+use oracle::{Cycle, OwnBit};
 
 pub mod inputs;
+pub mod same;
 
 mod raw {
     extern "C" {
@@ -28,7 +29,19 @@ mod raw {
             record: *mut u8,
             record_len: usize,
         ) -> u32;
+        pub fn rajvokshul_run_six(
+            bytes: *const u8,
+            bytes_len: usize,
+            record: *mut u8,
+            record_len: usize,
+        ) -> u32;
         pub fn rajvokshul_grade(
+            bytes: *const u8,
+            bytes_len: usize,
+            grades: *mut u16,
+            grades_len: usize,
+        ) -> u32;
+        pub fn rajvokshul_grade_six(
             bytes: *const u8,
             bytes_len: usize,
             grades: *mut u16,
@@ -63,6 +76,12 @@ mod raw {
             record_len: usize,
         ) -> u32;
         pub fn rajvokshul_step(
+            record: *mut u8,
+            record_len: usize,
+            words: *const u32,
+            words_len: usize,
+        ) -> u32;
+        pub fn rajvokshul_step_six(
             record: *mut u8,
             record_len: usize,
             words: *const u32,
@@ -106,12 +125,34 @@ pub fn list(bytes: &[u8], text: &mut [u8], written: &mut usize) -> u32 {
     }
 }
 
+#[inline]
 pub fn run(bytes: &[u8], record: &mut [u8]) -> u32 {
-    unsafe { raw::rajvokshul_run(bytes.as_ptr(), bytes.len(), record.as_mut_ptr(), record.len()) }
+    run_in(Cycle::TwoRound, bytes, record)
 }
 
+/// The same by the call of either cycle.
+#[inline]
+pub fn run_in(cycle: Cycle, bytes: &[u8], record: &mut [u8]) -> u32 {
+    let call = match cycle {
+        Cycle::TwoRound => raw::rajvokshul_run,
+        Cycle::SixRound => raw::rajvokshul_run_six,
+    };
+    unsafe { call(bytes.as_ptr(), bytes.len(), record.as_mut_ptr(), record.len()) }
+}
+
+#[inline]
 pub fn grade(bytes: &[u8], grades: &mut [u16]) -> u32 {
-    unsafe { raw::rajvokshul_grade(bytes.as_ptr(), bytes.len(), grades.as_mut_ptr(), grades.len()) }
+    grade_in(Cycle::TwoRound, bytes, grades)
+}
+
+/// The same by the call of either cycle.
+#[inline]
+pub fn grade_in(cycle: Cycle, bytes: &[u8], grades: &mut [u16]) -> u32 {
+    let call = match cycle {
+        Cycle::TwoRound => raw::rajvokshul_grade,
+        Cycle::SixRound => raw::rajvokshul_grade_six,
+    };
+    unsafe { call(bytes.as_ptr(), bytes.len(), grades.as_mut_ptr(), grades.len()) }
 }
 
 pub fn read(
@@ -170,8 +211,19 @@ pub fn start(trucks: u32, openings: &[u8], record: &mut [u8]) -> u32 {
     }
 }
 
+#[inline]
 pub fn step(record: &mut [u8], words: &[u32]) -> u32 {
-    unsafe { raw::rajvokshul_step(record.as_mut_ptr(), record.len(), words.as_ptr(), words.len()) }
+    step_in(Cycle::TwoRound, record, words)
+}
+
+/// The same by the call of either cycle.
+#[inline]
+pub fn step_in(cycle: Cycle, record: &mut [u8], words: &[u32]) -> u32 {
+    let call = match cycle {
+        Cycle::TwoRound => raw::rajvokshul_step,
+        Cycle::SixRound => raw::rajvokshul_step_six,
+    };
+    unsafe { call(record.as_mut_ptr(), record.len(), words.as_ptr(), words.len()) }
 }
 
 pub fn recording_own_loss(bytes: &[u8]) -> u32 {

@@ -1,12 +1,10 @@
 //! The library compared with the independent reading, on inputs from fixed seeds.
 
+use checks::same::{self, FILL};
 use checks::{own_loss_number, times};
 use oracle::bytes::{self, place_of, record_bytes, RECORD};
 use oracle::gen::{self, Limits, Rng, FULL, SMALL, TINY};
-use oracle::{fleet, lists, marks, Header, State};
-
-/// What a buffer holds before a call, so that a stray write shows.
-const FILL: u8 = 0xA5;
+use oracle::{fleet, lists, marks, Cycle, Header, State};
 
 /// Mostly tiny recordings, some small ones, now and then one of any size.
 fn mixed(k: usize) -> Limits {
@@ -19,17 +17,7 @@ fn mixed(k: usize) -> Limits {
 
 /// Running, listing, grading and reading of any bytes, accepted or not, with the buffers around what is written.
 fn whole(bytes: &[u8]) {
-    let (number, record) = oracle::run(bytes);
-    let number = u32::from(number);
-
-    let mut d = [FILL; RECORD + 3];
-    assert_eq!(checks::run(bytes, &mut d), number);
-    if number == 0 {
-        assert_eq!(d[..RECORD], record_bytes(&record));
-        assert_eq!(d[RECORD..], [FILL; 3]);
-    } else {
-        assert_eq!(d, [FILL; RECORD + 3]);
-    }
+    let number = same::run(Cycle::TwoRound, bytes);
 
     let text = oracle::listing(bytes);
     let mut buf = [FILL; 1761];
@@ -46,12 +34,7 @@ fn whole(bytes: &[u8]) {
     assert_eq!(own_bit.is_some(), number == 6);
     assert_eq!(checks::recording_own_loss(bytes), own_loss_number(own_bit));
 
-    let mut grades = [999u16; 5];
-    let graded = checks::grade(bytes, &mut grades);
-    match oracle::grade(bytes) {
-        Ok(g) => assert_eq!((graded, &grades[..]), (0, &[g[0], g[1], g[2], g[3], 999][..])),
-        Err(k) => assert_eq!((graded, grades), (u32::from(k), [999; 5])),
-    }
+    same::grade(Cycle::TwoRound, bytes);
 
     read_into(bytes, 40, 420 * 35);
 }
@@ -266,18 +249,7 @@ fn a_round(rng: &mut Rng, n: usize, number: usize) -> Vec<u32> {
 
 /// One step on both sides, from the same record.
 fn step_both(f: &oracle::Fleet, words: &[u32]) -> oracle::Fleet {
-    let mut d = record_bytes(f);
-    let number = checks::step(&mut d, words);
-    let (expected, next) = oracle::step(f, words);
-    let own_bit = oracle::step_own_bit(f, words);
-    assert_eq!(own_bit.is_some(), expected == 6);
-    if own_bit.is_some() {
-        let own_loss = checks::round_own_loss(u32::from(f.n), u32::from(f.done) + 1, words);
-        assert_eq!(own_loss, own_loss_number(own_bit));
-    }
-    assert_eq!(number, u32::from(expected));
-    assert_eq!(d, record_bytes(&next));
-    next
+    same::step(Cycle::TwoRound, f, words).1
 }
 
 #[test]

@@ -26,12 +26,16 @@ fn truck_bytes(truck: &Truck) -> [u8; PLACE] {
     let [low, high] = round.to_le_bytes();
     let Sent { proposals, vetoes } = truck.sent;
     let mark = u8::from(truck.mark);
-    [truck.opening, truck.estimate, mark, heard, state, low, high, proposals, vetoes, 0]
+    let unwilling = u8::from(truck.unwilling);
+    [truck.opening, truck.estimate, mark, heard, state, low, high, proposals, vetoes, unwilling]
 }
 
 /// The truck that the bytes of a place hold, where they hold one.
 fn truck_of(place: &[u8; PLACE]) -> Option<Truck> {
-    let [opening, estimate, mark, heard, state, low, high, proposals, vetoes, free] = *place;
+    let [opening, estimate, mark, heard, state, low, high, proposals, vetoes, unwilling] = *place;
+    if mark > 1 || unwilling > 1 {
+        return None;
+    }
     let heard = match heard {
         0 => Heard::Nothing,
         1 => Heard::One,
@@ -46,8 +50,8 @@ fn truck_of(place: &[u8; PLACE]) -> Option<Truck> {
         _ => return None,
     };
     let sent = Sent { proposals, vetoes };
-    let truck = Truck { opening, estimate, mark: mark == 1, heard, state, sent };
-    (mark <= 1 && free == 0).then_some(truck)
+    let [mark, unwilling] = [mark == 1, unwilling == 1];
+    Some(Truck { opening, estimate, mark, heard, unwilling, state, sent })
 }
 
 /// A record as bytes, all places.
@@ -80,8 +84,8 @@ pub fn record_of(bytes: &[u8; RECORD]) -> Option<Fleet> {
     Some(fleet)
 }
 
-/// One step of a record lent as bytes, by either reading's step. Bytes that are
-/// no record are refused 7; a refused step changes no byte.
+/// One step of a record lent as bytes, by either reading's step in either cycle.
+/// Bytes that are no record are refused 7; a refused step changes no byte.
 pub fn step(lent: &mut [u8], words: &[u32], step: impl Fn(&Fleet, &[u32]) -> (u8, Fleet)) -> u8 {
     let Some(bytes) = lent.first_chunk_mut::<RECORD>() else {
         return 7;

@@ -1,5 +1,6 @@
 //! Fleet records, and refusal 7 of one.
 
+use crate::cycle::Cycle;
 use crate::recording::{MAX_CRUSHER, MAX_ROUNDS, MAX_TRUCKS};
 
 /// Places of a record, whatever its n.
@@ -43,6 +44,8 @@ pub struct Truck {
     pub mark: bool,
     /// Memory: values heard in the proposal round.
     pub heard: Heard,
+    /// Of the six-round cycle: it noticed something in a bit round in which it listened.
+    pub unwilling: bool,
     pub state: State,
     pub sent: Sent,
 }
@@ -55,6 +58,7 @@ impl Truck {
             estimate: opening,
             mark: false,
             heard: Heard::Nothing,
+            unwilling: false,
             state: State::Running,
             sent: Sent::default(),
         }
@@ -109,25 +113,44 @@ impl Fleet {
     }
 }
 
-/// Refusal 7 of a record. Places n and above are not read.
+/// Refusal 7 of a record, by the two-round cycle. Places n and above are not read.
 pub fn record_refused(fleet: &Fleet) -> bool {
+    record_refused_in(Cycle::TwoRound, fleet)
+}
+
+/// The same by either cycle.
+pub fn record_refused_in(cycle: Cycle, fleet: &Fleet) -> bool {
     if fleet.n == 0 || fleet.n as usize > MAX_TRUCKS || fleet.done as usize > MAX_ROUNDS {
         return true;
     }
-    fleet.trucks_below_n().iter().any(|truck| truck_refused(truck, fleet.done))
+    fleet.trucks_below_n().iter().any(|truck| truck_refused(cycle, truck, fleet.done))
 }
 
-fn truck_refused(truck: &Truck, done: u16) -> bool {
+fn truck_refused(cycle: Cycle, truck: &Truck, done: u16) -> bool {
     let crusher_too_high = truck.opening > MAX_CRUSHER || truck.estimate > MAX_CRUSHER;
     let round_wrong = match truck.state {
         State::Running => false,
         State::Stopped(round) => round == 0 || round > done,
-        State::Decided(round) => round == 0 || round % 2 == 1 || round > done,
+        State::Decided(round) => round == 0 || round % cycle.rounds() != 0 || round > done,
     };
-    let memory_wrong = !truck.memory_is_empty() && (done % 2 == 0 || !truck.is_running());
+    let own_part_wrong = match cycle {
+        Cycle::TwoRound => memory_refused(truck, done) || counts_refused(truck, done),
+        Cycle::SixRound => willingness_refused(truck, done),
+    };
+    crusher_too_high || round_wrong || own_part_wrong
+}
+
+fn memory_refused(truck: &Truck, done: u16) -> bool {
+    !truck.memory_is_empty() && (done % 2 == 0 || !truck.is_running())
+}
+
+fn counts_refused(truck: &Truck, done: u16) -> bool {
     // Of an odd number of rounds, the last one is odd.
     let [odd_rounds, even_rounds] = [done.div_ceil(2), done / 2];
-    let sent_too_often =
-        u16::from(truck.sent.proposals) > odd_rounds || u16::from(truck.sent.vetoes) > even_rounds;
-    crusher_too_high || round_wrong || memory_wrong || sent_too_often
+    u16::from(truck.sent.proposals) > odd_rounds || u16::from(truck.sent.vetoes) > even_rounds
+}
+
+/// A truck is unwilling only while it runs and 2 to 5 rounds of the cycle are done.
+fn willingness_refused(truck: &Truck, done: u16) -> bool {
+    truck.unwilling && !(truck.is_running() && (2..=5).contains(&(done % 6)))
 }

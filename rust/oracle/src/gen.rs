@@ -2,10 +2,11 @@
 //! machine or on the order of tests.
 
 use crate::bytes::{place_of, record_bytes, RECORD};
+use crate::cycle::{Cycle, Kind};
 use crate::fleet::{Fleet, Heard, Sent, State, Truck, PLACES};
 use crate::lists::List;
 use crate::recording::{bit, pack, set_bit, write, Header, Plain};
-use crate::steps::{air, follow, start};
+use crate::steps::{air_in, follow_in, start};
 
 // Chance
 
@@ -72,6 +73,8 @@ pub struct Limits {
 /// Small enough for many thousands of plays.
 pub const TINY: Limits = Limits { trucks: 4, rounds: 10 };
 pub const SMALL: Limits = Limits { trucks: 9, rounds: 30 };
+/// The same with rounds for some cycles of six.
+pub const TINY_SIX: Limits = Limits { trucks: 4, rounds: 26 };
 /// Up to the largest recording.
 pub const FULL: Limits = Limits { trucks: 32, rounds: 400 };
 
@@ -111,9 +114,9 @@ pub fn openings(rng: &mut Rng, n: usize) -> Vec<u8> {
 pub struct Habits {
     pub stop: u32,
     pub active: u32,
-    /// Marks in proposal rounds.
+    /// Marks in proposal rounds and in prepare. A fourth as many in bit rounds.
     pub mark: u32,
-    /// Marks in veto rounds: they hold single trucks back.
+    /// Marks in veto rounds and in accept: they hold single trucks back.
     pub veto_mark: u32,
     pub loss: u32,
     /// Each round may split the trucks in two groups that don't hear each other.
@@ -146,7 +149,16 @@ pub fn mild_habits(rng: &mut Rng) -> Habits {
 
 /// Round `number` in plain form; refusals 8 and 6 accept it.
 pub fn round(rng: &mut Rng, n: usize, number: usize, habits: &Habits) -> Vec<u32> {
-    let mark = if number % 2 == 1 { habits.mark } else { habits.veto_mark };
+    round_in(Cycle::TwoRound, rng, n, number, habits)
+}
+
+/// The same with the marks of either cycle.
+pub fn round_in(cycle: Cycle, rng: &mut Rng, n: usize, number: usize, habits: &Habits) -> Vec<u32> {
+    let mark = match cycle.kind(number as u16) {
+        Kind::Proposal | Kind::Prepare => habits.mark,
+        Kind::Veto | Kind::Accept => habits.veto_mark,
+        Kind::Bit(_) => habits.mark / 4,
+    };
     let mut words = vec![rng.bits(n, habits.stop), rng.bits(n, habits.active), rng.bits(n, mark)];
     let split = rng.chance(habits.split);
     let group = rng.bits(n, 128);
@@ -166,13 +178,24 @@ pub fn build(
     rng: &mut Rng,
     size: Header,
     openings: Vec<u8>,
+    make: impl FnMut(&mut Rng, &Fleet) -> Vec<u32>,
+) -> Plain {
+    build_in(Cycle::TwoRound, rng, size, openings, make)
+}
+
+/// The same in either cycle.
+pub fn build_in(
+    cycle: Cycle,
+    rng: &mut Rng,
+    size: Header,
+    openings: Vec<u8>,
     mut make: impl FnMut(&mut Rng, &Fleet) -> Vec<u32>,
 ) -> Plain {
     let (_, mut fleet) = start(size.n as u64, &openings);
     let mut words = Vec::new();
     for _ in 0..size.rounds {
         let round = make(rng, &fleet);
-        fleet = follow(&fleet, &round);
+        fleet = follow_in(cycle, &fleet, &round);
         words.extend(round);
     }
     Plain { n: size.n, rounds: size.rounds, openings, words }
@@ -186,12 +209,22 @@ pub fn bytes_of(plain: &Plain) -> Vec<u8> {
 /// A random accepted recording in plain form. Every fourth one changes its
 /// habits from round to round.
 pub fn plain(rng: &mut Rng, limits: Limits) -> Plain {
+    plain_in(Cycle::TwoRound, rng, limits)
+}
+
+/// The same with the marks of either cycle.
+pub fn plain_in(cycle: Cycle, rng: &mut Rng, limits: Limits) -> Plain {
     let size = size(rng, limits);
-    plain_of_size(rng, size)
+    plain_of_size_in(cycle, rng, size)
 }
 
 /// The same, of a given size.
 pub fn plain_of_size(rng: &mut Rng, size: Header) -> Plain {
+    plain_of_size_in(Cycle::TwoRound, rng, size)
+}
+
+/// The same with the marks of either cycle.
+pub fn plain_of_size_in(cycle: Cycle, rng: &mut Rng, size: Header) -> Plain {
     let openings = openings(rng, size.n);
     let changing = rng.chance(64);
     let mut habits_now = habits(rng);
@@ -200,7 +233,7 @@ pub fn plain_of_size(rng: &mut Rng, size: Header) -> Plain {
         if changing && rng.chance(96) {
             habits_now = habits(rng);
         }
-        words.extend(round(rng, size.n, number, &habits_now));
+        words.extend(round_in(cycle, rng, size.n, number, &habits_now));
     }
     Plain { n: size.n, rounds: size.rounds, openings, words }
 }
@@ -219,6 +252,8 @@ pub fn largest(rng: &mut Rng) -> Vec<u8> {
 /// with this number is to have a mark.
 pub type Asked = fn(number: usize, heard: usize, messages: usize) -> bool;
 
+/// Nothing is asked.
+pub const NONE: Asked = |_, _, _| false;
 /// What majority complete marks ask.
 pub const MAJORITY: Asked = |_, heard, messages| 2 * heard <= messages;
 /// What zero complete marks ask.
@@ -235,19 +270,24 @@ pub const ODD_MAJORITY: Asked =
 /// A plain form with the marks asked for in every round, and marks that nothing
 /// asks for among them.
 pub fn with_marks(rng: &mut Rng, limits: Limits, asked: Asked) -> Plain {
+    with_marks_in(Cycle::TwoRound, rng, limits, asked)
+}
+
+/// The same in either cycle.
+pub fn with_marks_in(cycle: Cycle, rng: &mut Rng, limits: Limits, asked: Asked) -> Plain {
     let size = size(rng, limits);
     let openings = openings(rng, size.n);
     let habits = mild_habits(rng);
-    build(rng, size, openings, |rng, fleet| {
-        let mut words = round(rng, size.n, fleet.done as usize + 1, &habits);
-        words[2] |= marks_asked(fleet, &words, asked);
+    build_in(cycle, rng, size, openings, |rng, fleet| {
+        let mut words = round_in(cycle, rng, size.n, fleet.done as usize + 1, &habits);
+        words[2] |= marks_asked(cycle, fleet, &words, asked);
         words
     })
 }
 
 /// The marks asked for in the next round.
-fn marks_asked(fleet: &Fleet, words: &[u32], asked: Asked) -> u32 {
-    let air = air(fleet, words);
+fn marks_asked(cycle: Cycle, fleet: &Fleet, words: &[u32], asked: Asked) -> u32 {
+    let air = air_in(cycle, fleet, words);
     let messages = air.messages();
     let mut marks = 0;
     for i in air.running_trucks() {
@@ -270,13 +310,20 @@ pub struct Calm {
 /// are majority complete in every round besides. Often no truck decides before
 /// S. With b of 0 every truck stops in the first proposal round from S on.
 pub fn calm(rng: &mut Rng, limits: Limits, majority: bool) -> Calm {
-    let size =
-        Header { n: rng.within(1, limits.trucks), rounds: rng.within(5, limits.rounds.max(5)) };
+    let asked: Asked = if majority { MAJORITY } else { NONE };
+    calm_in(Cycle::TwoRound, rng, limits, asked)
+}
+
+/// The same in either cycle, with the marks asked for in every round.
+pub fn calm_in(cycle: Cycle, rng: &mut Rng, limits: Limits, asked: Asked) -> Calm {
+    let span = cycle.calm_span() as usize;
+    let rounds = rng.within(span + 1, limits.rounds.max(span + 1));
+    let size = Header { n: rng.within(1, limits.trucks), rounds };
     let n = size.n;
     let s = match rng.below(4) {
         0 => 1,
-        1 => size.rounds - 4,
-        _ => rng.within(1, size.rounds - 4),
+        1 => size.rounds - span,
+        _ => rng.within(1, size.rounds - span),
     };
     let b = match rng.below(12) {
         0 => 0,
@@ -289,31 +336,37 @@ pub fn calm(rng: &mut Rng, limits: Limits, majority: bool) -> Calm {
     let before = habits(rng);
     let within = mild_habits(rng);
     let hold_back = rng.chance(160);
-    let plain = build(rng, size, openings, |rng, fleet| {
+    let plain = build_in(cycle, rng, size, openings, |rng, fleet| {
         let number = fleet.done as usize + 1;
-        if s <= number && number <= s + 4 {
-            return calm_round(rng, fleet, &within, b, majority);
+        if s <= number && number <= s + span {
+            return calm_round(cycle, rng, fleet, &within, b, asked);
         }
-        let mut words = round(rng, n, number, &before);
+        let mut words = round_in(cycle, rng, n, number, &before);
         if hold_back && number < s {
             words[0] = 0;
-            if number % 2 == 0 {
+            if number % cycle.rounds() as usize == 0 {
                 words[2] = low_bits(n);
             }
         }
-        if majority {
-            words[2] |= marks_asked(fleet, &words, MAJORITY);
-        }
+        words[2] |= marks_asked(cycle, fleet, &words, asked);
         words
     });
     Calm { plain, s: s as u64, b }
 }
 
-fn calm_round(rng: &mut Rng, fleet: &Fleet, habits: &Habits, b: u64, majority: bool) -> Vec<u32> {
+fn calm_round(
+    cycle: Cycle,
+    rng: &mut Rng,
+    fleet: &Fleet,
+    habits: &Habits,
+    b: u64,
+    asked: Asked,
+) -> Vec<u32> {
     let n = fleet.n as usize;
-    let mut words = round(rng, n, fleet.done as usize + 1, habits);
-    let running = air(fleet, &words).running_trucks();
-    if fleet.done % 2 == 0 && !running.is_empty() {
+    let mut words = round_in(cycle, rng, n, fleet.done as usize + 1, habits);
+    let begun = air_in(cycle, fleet, &words);
+    let running = begun.running_trucks();
+    if begun.is_proposal() && !running.is_empty() {
         if b == 0 {
             words[0] = low_bits(n);
         } else {
@@ -327,7 +380,7 @@ fn calm_round(rng: &mut Rng, fleet: &Fleet, habits: &Habits, b: u64, majority: b
             words[1] = words[1] & !running_bits | chosen;
         }
     }
-    let on_air = air(fleet, &words);
+    let on_air = air_in(cycle, fleet, &words);
     let senders = on_air.messages() as u64;
     if 1 <= senders && senders <= b {
         for i in on_air.running_trucks() {
@@ -338,15 +391,13 @@ fn calm_round(rng: &mut Rng, fleet: &Fleet, habits: &Habits, b: u64, majority: b
             }
         }
     }
-    let on_air = air(fleet, &words);
+    let on_air = air_in(cycle, fleet, &words);
     for i in on_air.running_trucks() {
         if on_air.missed(i) == 0 {
             words[2] &= !(1 << i);
         }
     }
-    if majority {
-        words[2] |= marks_asked(fleet, &words, MAJORITY);
-    }
+    words[2] |= marks_asked(cycle, fleet, &words, asked);
     words
 }
 
@@ -718,16 +769,26 @@ pub fn list_around(rng: &mut Rng, plain: &Plain, bad: u32) -> List {
 
 /// A random list of steps.
 pub fn list(rng: &mut Rng, limits: Limits) -> List {
-    let plain = plain(rng, limits);
+    list_in(Cycle::TwoRound, rng, limits)
+}
+
+/// The same with the marks of either cycle.
+pub fn list_in(cycle: Cycle, rng: &mut Rng, limits: Limits) -> List {
+    let plain = plain_in(cycle, rng, limits);
     let bad = rng.pick(&[0, 32, 100]);
     list_around(rng, &plain, bad)
 }
 
 /// A list with more than 400 rounds that could be taken, and bad ones after.
 pub fn long_list(rng: &mut Rng, trucks: usize) -> List {
+    long_list_in(Cycle::TwoRound, rng, trucks)
+}
+
+/// The same with the marks of either cycle.
+pub fn long_list_in(cycle: Cycle, rng: &mut Rng, trucks: usize) -> List {
     let rounds = rng.within(401, 410);
     let size = Header { n: rng.within(1, trucks), rounds };
-    let plain = plain_of_size(rng, size);
+    let plain = plain_of_size_in(cycle, rng, size);
     let mut list = list_around(rng, &plain, 16);
     for _ in 0..4 {
         list.steps.push(bad_round(rng, plain.n).0);
@@ -745,6 +806,7 @@ pub fn any_truck(rng: &mut Rng) -> Truck {
         estimate: rng.pick(&[0, 1, 15, 16, 255]),
         mark: rng.chance(128),
         heard: rng.pick(&[Heard::Nothing, Heard::One, Heard::Several]),
+        unwilling: rng.chance(128),
         state: rng.pick(&[State::Running, State::Stopped(round), State::Decided(round)]),
         sent: Sent {
             proposals: rng.pick(&[0, 1, 199, 200, 201, 255]),
@@ -758,23 +820,41 @@ pub fn most_sent(done: u16) -> Sent {
     Sent { proposals: done.div_ceil(2) as u8, vetoes: (done / 2) as u8 }
 }
 
-/// A truck that refusal 7 accepts after `done` rounds, in any state.
-pub fn good_truck(rng: &mut Rng, done: u16) -> Truck {
-    let mut truck = Truck::opened(rng.below(16) as u8);
+/// A truck that refusal 7 of these cycles accepts after `done` rounds, in any
+/// state. The part of another cycle is anything.
+fn good_truck(cycles: &[Cycle], rng: &mut Rng, done: u16) -> Truck {
+    let mut truck = any_truck(rng);
+    truck.opening = rng.below(16) as u8;
     truck.estimate = rng.below(16) as u8;
+    // A multiple of 6 is one of 2.
+    let length = cycles.iter().map(|cycle| cycle.rounds()).max().unwrap();
+    truck.state = match rng.below(4) {
+        0 if done >= 1 => State::Stopped(edge_or_any(rng, 1, done)),
+        1 if done >= length => State::Decided(length * edge_or_any(rng, 1, done / length)),
+        _ => State::Running,
+    };
+    for cycle in cycles {
+        match cycle {
+            Cycle::TwoRound => two_round_part(rng, &mut truck, done),
+            Cycle::SixRound => {
+                truck.unwilling = truck.is_running() && done % 6 >= 2 && rng.chance(128);
+            }
+        }
+    }
+    truck
+}
+
+/// Sets the memory and the counts so that refusal 7 of the two-round cycle
+/// accepts them.
+fn two_round_part(rng: &mut Rng, truck: &mut Truck, done: u16) {
     let most = most_sent(done);
     truck.sent.proposals = edge_or_any(rng, 0, most.proposals.into()) as u8;
     truck.sent.vetoes = edge_or_any(rng, 0, most.vetoes.into()) as u8;
-    match rng.below(4) {
-        0 if done >= 1 => truck.state = State::Stopped(edge_or_any(rng, 1, done)),
-        1 if done >= 2 => truck.state = State::Decided(2 * edge_or_any(rng, 1, done / 2)),
-        _ if done % 2 == 1 => {
-            truck.mark = rng.chance(100);
-            truck.heard = rng.pick(&[Heard::Nothing, Heard::One, Heard::One, Heard::Several]);
-        }
-        _ => {}
+    *truck = truck.with_empty_memory();
+    if truck.is_running() && done % 2 == 1 {
+        truck.mark = rng.chance(100);
+        truck.heard = rng.pick(&[Heard::Nothing, Heard::One, Heard::One, Heard::Several]);
     }
-    truck
 }
 
 fn edge_or_any(rng: &mut Rng, low: u16, high: u16) -> u16 {
@@ -787,20 +867,32 @@ fn edge_or_any(rng: &mut Rng, low: u16, high: u16) -> u16 {
 
 /// A record that refusal 7 accepts; places n and above hold anything.
 pub fn good_record(rng: &mut Rng, n: usize, done: u16) -> Fleet {
+    good_record_in(Cycle::TwoRound, rng, n, done)
+}
+
+/// The same by either cycle; every fourth one is a record by both.
+pub fn good_record_in(cycle: Cycle, rng: &mut Rng, n: usize, done: u16) -> Fleet {
+    let one = [cycle];
+    let cycles: &[Cycle] = if rng.chance(64) { &Cycle::BOTH } else { &one };
     let mut fleet = Fleet { n: n as u8, done, ..Fleet::blank() };
     for i in 0..PLACES {
-        fleet.trucks[i] = if i < n { good_truck(rng, done) } else { any_truck(rng) };
+        fleet.trucks[i] = if i < n { good_truck(cycles, rng, done) } else { any_truck(rng) };
     }
     fleet
 }
 
 /// A random record that refusal 7 accepts, with 400 rounds done at times.
 pub fn record(rng: &mut Rng) -> Fleet {
+    record_in(Cycle::TwoRound, rng)
+}
+
+/// The same by either cycle.
+pub fn record_in(cycle: Cycle, rng: &mut Rng) -> Fleet {
     let any = rng.within(1, 32);
     let n = rng.pick(&[1, 2, 3, 5, 8, 31, 32, any]);
     let any = rng.within(0, 400) as u16;
     let done = rng.pick(&[0, 1, 2, 3, 4, 5, 398, 399, 400, any, any]);
-    good_record(rng, n, done)
+    good_record_in(cycle, rng, n, done)
 }
 
 /// A record with one condition of refusal 7 broken at one place.
@@ -960,40 +1052,136 @@ const FAULTS: [Fault; 31] = [
     }),
 ];
 
+/// One cycle of six at least, and so many rounds of the next as named.
+fn six_done(rng: &mut Rng, of_it: &[u16]) -> u16 {
+    6 * rng.within(1, 65) as u16 + rng.pick(of_it)
+}
+
+fn late_done(rng: &mut Rng) -> u16 {
+    six_done(rng, &[0, 1, 2, 3, 4, 5])
+}
+
+/// Of the cycle at most prepare has been.
+fn willing_done(rng: &mut Rng) -> u16 {
+    six_done(rng, &[0, 1])
+}
+
+/// A bit round has been, and accept is yet to come.
+fn unwilling_done(rng: &mut Rng) -> u16 {
+    six_done(rng, &[2, 3, 4, 5])
+}
+
+/// Some round up to those done that is no multiple of 6, also an even one.
+fn no_accept(rng: &mut Rng, done: u16) -> u16 {
+    let cycle = rng.below(done as usize / 6) as u16;
+    6 * cycle + rng.pick(&[1, 2, 3, 4, 5])
+}
+
+/// The first round of accept after those done, or a later one.
+fn later_accept(rng: &mut Rng, done: u16) -> u16 {
+    done / 6 * 6 + rng.pick(&[6, 6, 12, 402, 60_000])
+}
+
+fn unwilling(truck: Truck) -> Truck {
+    Truck { unwilling: true, ..truck }
+}
+
+/// Faults by the six-round cycle.
+const SIX_FAULTS: [Fault; 17] = [
+    ("opening above 15, running", late_done, |r, t, _| Truck {
+        opening: high_crusher(r),
+        ..running(t.opening)
+    }),
+    ("opening above 15, stopped", late_done, |r, t, _| Truck {
+        opening: high_crusher(r),
+        ..with(t, State::Stopped(1))
+    }),
+    ("opening above 15, decided", late_done, |r, t, _| Truck {
+        opening: high_crusher(r),
+        ..with(t, State::Decided(6))
+    }),
+    ("estimate above 15, running", late_done, |r, t, _| Truck {
+        estimate: high_crusher(r),
+        ..running(t.opening)
+    }),
+    ("estimate above 15, stopped", late_done, |r, t, _| Truck {
+        estimate: high_crusher(r),
+        ..with(t, State::Stopped(1))
+    }),
+    ("estimate above 15, decided", late_done, |r, t, _| Truck {
+        estimate: high_crusher(r),
+        ..with(t, State::Decided(6))
+    }),
+    ("decided in round 0", any_done, |_, t, _| with(t, State::Decided(0))),
+    ("decided in a round that is no multiple of 6", late_done, |r, t, done| {
+        with(t, State::Decided(no_accept(r, done)))
+    }),
+    ("decided in a later round", any_done, |r, t, done| {
+        with(t, State::Decided(later_accept(r, done)))
+    }),
+    ("stopped in round 0", any_done, |_, t, _| with(t, State::Stopped(0))),
+    ("stopped in a later round", any_done, |r, t, done| {
+        with(t, State::Stopped(done + 1 + r.pick(&[0, 0, 1, 2, 400, 65_000])))
+    }),
+    ("unwilling before round 1", |_| 0, |_, t, _| unwilling(running(t.opening))),
+    ("unwilling before a bit round is done", willing_done, |_, t, _| unwilling(running(t.opening))),
+    ("unwilling and stopped, bit rounds done", unwilling_done, |r, t, done| {
+        unwilling(with(t, State::Stopped(edge_or_any(r, 1, done))))
+    }),
+    ("unwilling and stopped, none done", willing_done, |r, t, done| {
+        unwilling(with(t, State::Stopped(edge_or_any(r, 1, done))))
+    }),
+    ("unwilling and decided, bit rounds done", unwilling_done, |r, t, done| {
+        unwilling(with(t, State::Decided(6 * edge_or_any(r, 1, done / 6))))
+    }),
+    ("unwilling and decided, none done", willing_done, |r, t, done| {
+        unwilling(with(t, State::Decided(6 * edge_or_any(r, 1, done / 6))))
+    }),
+];
+
 /// Every condition of refusal 7, each broken alone: n, the rounds done, and
 /// each fault of a truck at truck 0, at truck n - 1, at place n and at the
 /// last place. Fewer than 400 rounds are done where the record is accepted.
 pub fn broken_records(rng: &mut Rng) -> Vec<Broken> {
+    broken_records_in(Cycle::TwoRound, rng)
+}
+
+/// The same by either cycle.
+pub fn broken_records_in(cycle: Cycle, rng: &mut Rng) -> Vec<Broken> {
+    let faults: &[Fault] = match cycle {
+        Cycle::TwoRound => &FAULTS,
+        Cycle::SixRound => &SIX_FAULTS,
+    };
     let mut list = Vec::new();
     for n in [0, 33, 64, 255] {
         let done = any_done(rng);
-        let fleet = Fleet { n, ..good_record(rng, PLACES, done) };
+        let fleet = Fleet { n, ..good_record_in(cycle, rng, PLACES, done) };
         list.push(Broken { fleet, condition: "n out of range", place: None, refused: true });
     }
     for done in [401, 402, 65_535] {
         let n = rng.within(1, 32);
-        let mut fleet = good_record(rng, n, 400);
+        let mut fleet = good_record_in(cycle, rng, n, 400);
         fleet.done = done;
         list.push(Broken { fleet, condition: "over 400 rounds done", place: None, refused: true });
     }
-    for (condition, done_for, fault) in FAULTS {
+    for &(condition, done_for, fault) in faults {
         let n = rng.within(1, 31);
         for place in [0, n - 1, n, PLACES - 1] {
             let done = done_for(rng);
-            let mut fleet = good_record(rng, n, done);
+            let mut fleet = good_record_in(cycle, rng, n, done);
             if place >= n {
                 // Nothing else is wrong above n.
                 for truck in &mut fleet.trucks[n..] {
                     *truck = Truck::opened(0);
                 }
             }
-            let before = good_truck(rng, done);
+            let before = good_truck(&[cycle], rng, done);
             fleet.trucks[place] = fault(rng, before, done);
             list.push(Broken { fleet, condition, place: Some(place), refused: place < n });
         }
         let done = done_for(rng);
-        let mut fleet = good_record(rng, PLACES, done);
-        let before = good_truck(rng, done);
+        let mut fleet = good_record_in(cycle, rng, PLACES, done);
+        let before = good_truck(&[cycle], rng, done);
         fleet.trucks[PLACES - 1] = fault(rng, before, done);
         list.push(Broken { fleet, condition, place: Some(PLACES - 1), refused: true });
     }
@@ -1015,9 +1203,14 @@ pub struct DamagedRecord {
 
 /// A record of fewer than 400 rounds done with a damaged byte.
 pub fn damaged_record(rng: &mut Rng) -> DamagedRecord {
+    damaged_record_in(Cycle::TwoRound, rng)
+}
+
+/// The same by either cycle.
+pub fn damaged_record_in(cycle: Cycle, rng: &mut Rng) -> DamagedRecord {
     let n = rng.pick(&[1, 2, 5, 31, 32]);
     let done = any_done(rng);
-    let mut fleet = good_record(rng, n, done);
+    let mut fleet = good_record_in(cycle, rng, n, done);
     let any = rng.below(PLACES);
     let place = rng.pick(&[0, n - 1, n.min(PLACES - 1), PLACES - 1, any]);
     let at = place_of(place);
@@ -1043,8 +1236,8 @@ pub fn damaged_record(rng: &mut Rng) -> DamagedRecord {
             }
         }
         _ => |r, truck| {
-            truck[9] = r.pick(&[1, 2, 128, 255]);
-            "the free byte not 0"
+            truck[9] = r.pick(&[2, 3, 128, 255]);
+            "willingness above 1"
         },
     };
     let mut bytes = record_bytes(&fleet);

@@ -1,9 +1,10 @@
 //! Whole lists of steps, and what demand 3 claims of the last record.
 
+use crate::cycle::Cycle;
 use crate::fleet::{Fleet, Sent, State};
 use crate::marks::airs;
 use crate::recording::{round_has_own_bit, round_misshapen, Plain, MAX_ROUNDS};
-use crate::steps::{start, step};
+use crate::steps::{start, step_in};
 
 /// A start that should be accepted, then any number of steps, each with a
 /// round of its own in plain form.
@@ -45,13 +46,18 @@ pub fn recording_of(list: &List) -> Plain {
 /// Plays a list: the number each step answered, and the record returned last.
 /// A start that is refused answers its number.
 pub fn play(list: &List) -> Result<(Vec<u8>, Fleet), u8> {
+    play_in(list, |_| Cycle::TwoRound)
+}
+
+/// The same with each step in a cycle of its own, by its place in the list.
+pub fn play_in(list: &List, cycle: impl Fn(usize) -> Cycle) -> Result<(Vec<u8>, Fleet), u8> {
     let (number, mut fleet) = start(list.n, &list.openings);
     if number != 0 {
         return Err(number);
     }
     let mut numbers = Vec::new();
-    for words in &list.steps {
-        let (number, next) = step(&fleet, words);
+    for (place, words) in list.steps.iter().enumerate() {
+        let (number, next) = step_in(cycle(place), &fleet, words);
         numbers.push(number);
         fleet = next;
     }

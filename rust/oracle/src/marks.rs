@@ -1,7 +1,8 @@
 //! What a mark is worth: the four classes, grading, and calm.
 
+use crate::cycle::Cycle;
 use crate::recording::{read, Plain};
-use crate::steps::{air, follow, start, Air};
+use crate::steps::{air_in, follow_in, start, Air};
 
 /// Whether a round keeps each of the four.
 #[derive(Clone, Copy, Debug, PartialEq, Eq)]
@@ -14,11 +15,16 @@ pub struct Classes {
 
 /// Every round of a plain form on the air, by the rules from its openings.
 pub fn airs(plain: &Plain) -> Vec<Air> {
+    airs_in(Cycle::TwoRound, plain)
+}
+
+/// The same in either cycle.
+pub fn airs_in(cycle: Cycle, plain: &Plain) -> Vec<Air> {
     let (_, mut fleet) = start(plain.n as u64, &plain.openings);
     let mut list = Vec::new();
     for round in 1..=plain.rounds {
-        list.push(air(&fleet, plain.round(round)));
-        fleet = follow(&fleet, plain.round(round));
+        list.push(air_in(cycle, &fleet, plain.round(round)));
+        fleet = follow_in(cycle, &fleet, plain.round(round));
     }
     list
 }
@@ -49,12 +55,22 @@ pub fn classes(air: &Air) -> Classes {
 
 /// The classes of each round, round 1 first.
 pub fn classes_of(plain: &Plain) -> Vec<Classes> {
-    airs(plain).iter().map(classes).collect()
+    classes_of_in(Cycle::TwoRound, plain)
+}
+
+/// The same in either cycle.
+pub fn classes_of_in(cycle: Cycle, plain: &Plain) -> Vec<Classes> {
+    airs_in(cycle, plain).iter().map(classes).collect()
 }
 
 /// Whether the marks are majority complete in every round.
 pub fn majority_complete(plain: &Plain) -> bool {
     classes_of(plain).iter().all(|c| c.majority)
+}
+
+/// Whether the marks are zero complete in every round of the six-round cycle.
+pub fn six_zero_complete(plain: &Plain) -> bool {
+    classes_of_in(Cycle::SixRound, plain).iter().all(|c| c.zero)
 }
 
 /// Whether the marks are mixed: majority complete in odd rounds and zero
@@ -75,7 +91,12 @@ pub fn first_not_mixed(plain: &Plain) -> Option<usize> {
 /// The first round that breaks each of complete, majority complete, zero
 /// complete and accurate, or 0.
 pub fn grade(bytes: &[u8]) -> Result<[u16; 4], u8> {
-    let kept = classes_of(&read(bytes)?);
+    grade_in(Cycle::TwoRound, bytes)
+}
+
+/// The same in either cycle.
+pub fn grade_in(cycle: Cycle, bytes: &[u8]) -> Result<[u16; 4], u8> {
+    let kept = classes_of_in(cycle, &read(bytes)?);
     let first = |keeps: fn(&Classes) -> bool| match kept.iter().position(|c| !keeps(c)) {
         Some(index) => index as u16 + 1,
         None => 0,
@@ -85,14 +106,19 @@ pub fn grade(bytes: &[u8]) -> Result<[u16; 4], u8> {
 
 /// Whether a recording is calm from S with b.
 pub fn calm(plain: &Plain, s: u64, b: u64) -> bool {
-    if !(1..=400).contains(&s) || s + 4 > plain.rounds as u64 {
-        return false;
-    }
-    let first = s as usize - 1;
-    airs(plain)[first..first + 5].iter().all(|air| round_is_calm(air, b))
+    calm_in(Cycle::TwoRound, plain, s, b)
 }
 
-/// What calm asks of each of its five rounds.
+/// The same in either cycle: for five rounds or for eleven.
+pub fn calm_in(cycle: Cycle, plain: &Plain, s: u64, b: u64) -> bool {
+    if !(1..=400).contains(&s) || s + cycle.calm_span() > plain.rounds as u64 {
+        return false;
+    }
+    let (first, last) = (s as usize - 1, (s + cycle.calm_span()) as usize - 1);
+    airs_in(cycle, plain)[first..=last].iter().all(|air| round_is_calm(air, b))
+}
+
+/// What calm asks of each of its rounds.
 pub fn round_is_calm(air: &Air, b: u64) -> bool {
     let running = air.running_trucks();
     let senders = air.messages() as u64;

@@ -2,7 +2,8 @@
 
 use std::collections::BTreeSet;
 
-use crate::fleet::{record_refused, Fleet, Heard, Sent, State, Truck};
+use crate::cycle::{Cycle, Kind};
+use crate::fleet::{record_refused_in, Fleet, Heard, Sent, State, Truck};
 use crate::recording::{
     openings_refused, read, round_has_own_bit, round_misshapen, words_own_bit, OwnBit, MAX_ROUNDS,
     MAX_TRUCKS,
@@ -28,6 +29,7 @@ pub fn start(n: u64, openings: &[u8]) -> (u8, Fleet) {
 #[derive(Clone, Debug, PartialEq, Eq)]
 pub struct Air {
     pub round: u16,
+    pub kind: Kind,
     pub running: Vec<bool>,
     pub sends: Vec<bool>,
     pub mark_bit: Vec<bool>,
@@ -35,8 +37,10 @@ pub struct Air {
 }
 
 impl Air {
+    /// Whether active trucks send their estimates; in the six-round cycle that
+    /// is prepare.
     pub fn is_proposal(&self) -> bool {
-        self.round % 2 == 1
+        matches!(self.kind, Kind::Proposal | Kind::Prepare)
     }
 
     /// M, the number of messages sent.
@@ -54,13 +58,14 @@ impl Air {
         (0..self.sends.len()).filter(|j| self.sends[*j] && !self.hears[truck][*j]).count()
     }
 
-    /// What a truck sends in this round: at most one message, of the round's kind.
+    /// What is counted of what a truck sends in this round: at most one message,
+    /// of the round's kind, and none in the six-round cycle.
     pub fn sent(&self, truck: usize) -> Sent {
         let one = u8::from(self.sends[truck]);
-        if self.is_proposal() {
-            Sent { proposals: one, vetoes: 0 }
-        } else {
-            Sent { proposals: 0, vetoes: one }
+        match self.kind {
+            Kind::Proposal => Sent { proposals: one, vetoes: 0 },
+            Kind::Veto => Sent { proposals: 0, vetoes: one },
+            Kind::Prepare | Kind::Bit(_) | Kind::Accept => Sent::default(),
         }
     }
 
@@ -72,8 +77,14 @@ impl Air {
 
 /// The next round on the air, from an accepted record and an accepted round.
 pub fn air(fleet: &Fleet, words: &[u32]) -> Air {
+    air_in(Cycle::TwoRound, fleet, words)
+}
+
+/// The same in either cycle.
+pub fn air_in(cycle: Cycle, fleet: &Fleet, words: &[u32]) -> Air {
     let n = fleet.n as usize;
     let round = fleet.done + 1;
+    let kind = cycle.kind(round);
     let flag = |word: usize, truck: usize| words[word] >> truck & 1 == 1;
     let mut running = Vec::new();
     let mut sends = Vec::new();
@@ -81,8 +92,12 @@ pub fn air(fleet: &Fleet, words: &[u32]) -> Air {
     for i in 0..n {
         let truck = &fleet.trucks[i];
         let runs = truck.is_running() && !flag(0, i);
-        let wants_to_send =
-            if round % 2 == 1 { flag(1, i) } else { truck.mark || truck.heard == Heard::Several };
+        let wants_to_send = match kind {
+            Kind::Proposal | Kind::Prepare => flag(1, i),
+            Kind::Veto => truck.mark || truck.heard == Heard::Several,
+            Kind::Bit(worth) => has_bit(truck.estimate, worth),
+            Kind::Accept => truck.unwilling,
+        };
         running.push(runs);
         sends.push(runs && wants_to_send);
         mark_bit.push(flag(2, i));
@@ -96,12 +111,22 @@ pub fn air(fleet: &Fleet, words: &[u32]) -> Air {
         }
         hears.push(row);
     }
-    Air { round, running, sends, mark_bit, hears }
+    Air { round, kind, running, sends, mark_bit, hears }
+}
+
+/// Whether the bit of this worth is 1 in a crusher's number.
+fn has_bit(crusher: u8, worth: u8) -> bool {
+    crusher / worth % 2 == 1
 }
 
 /// The record after the next round, from an accepted record and round.
 pub fn follow(fleet: &Fleet, words: &[u32]) -> Fleet {
-    let air = air(fleet, words);
+    follow_in(Cycle::TwoRound, fleet, words)
+}
+
+/// The same in either cycle.
+pub fn follow_in(cycle: Cycle, fleet: &Fleet, words: &[u32]) -> Fleet {
+    let air = air_in(cycle, fleet, words);
     let mut next = *fleet;
     next.done = air.round;
     for i in 0..fleet.n as usize {
@@ -109,24 +134,33 @@ pub fn follow(fleet: &Fleet, words: &[u32]) -> Fleet {
         let after = if !before.is_running() {
             before
         } else if !air.running[i] {
-            Truck { state: State::Stopped(air.round), ..before }.with_empty_memory()
-        } else if air.is_proposal() {
-            after_proposal(fleet, &air, i)
+            let stopped = Truck { state: State::Stopped(air.round), ..before };
+            match cycle {
+                Cycle::TwoRound => stopped.with_empty_memory(),
+                Cycle::SixRound => Truck { unwilling: false, ..stopped },
+            }
         } else {
-            after_veto(before, &air, i)
+            match air.kind {
+                Kind::Proposal => after_proposal(fleet, &air, i),
+                Kind::Veto => after_veto(before, &air, i),
+                Kind::Prepare => after_prepare(fleet, &air, i),
+                Kind::Bit(worth) => after_bit(before, &air, i, worth),
+                Kind::Accept => after_accept(before, &air, i),
+            }
         };
         next.trucks[i] = Truck { sent: before.sent.plus(air.sent(i)), ..after };
     }
     next
 }
 
+/// The different values that a truck hears.
+fn values_heard(fleet: &Fleet, air: &Air, i: usize) -> BTreeSet<u8> {
+    let heard = (0..air.sends.len()).filter(|j| air.hears[i][*j]);
+    heard.map(|j| fleet.trucks[j].estimate).collect()
+}
+
 fn after_proposal(fleet: &Fleet, air: &Air, i: usize) -> Truck {
-    let mut values = BTreeSet::new();
-    for j in 0..air.sends.len() {
-        if air.hears[i][j] {
-            values.insert(fleet.trucks[j].estimate);
-        }
-    }
+    let values = values_heard(fleet, air, i);
     let mark = air.mark_bit[i];
     let mut truck = fleet.trucks[i];
     truck.mark = mark;
@@ -147,9 +181,45 @@ fn after_veto(before: Truck, air: &Air, i: usize) -> Truck {
     Truck { state, ..before }.with_empty_memory()
 }
 
+/// A truck with no mark that heard something takes the least value, and every
+/// truck starts the cycle willing.
+fn after_prepare(fleet: &Fleet, air: &Air, i: usize) -> Truck {
+    let before = fleet.trucks[i];
+    let least = values_heard(fleet, air, i).first().copied();
+    let estimate = match least {
+        Some(value) if !air.mark_bit[i] => value,
+        _ => before.estimate,
+    };
+    Truck { estimate, unwilling: false, ..before }
+}
+
+/// A truck whose bit is 0 listens, and becomes unwilling on any message or mark.
+fn after_bit(before: Truck, air: &Air, i: usize, worth: u8) -> Truck {
+    let listens = !has_bit(before.estimate, worth);
+    let notices = air.heard(i) > 0 || air.mark_bit[i];
+    if listens && notices {
+        Truck { unwilling: true, ..before }
+    } else {
+        before
+    }
+}
+
+/// A willing truck that hears no veto and has no mark decides. Every truck is
+/// willing again.
+fn after_accept(before: Truck, air: &Air, i: usize) -> Truck {
+    let decides = !before.unwilling && air.heard(i) == 0 && !air.mark_bit[i];
+    let state = if decides { State::Decided(air.round) } else { State::Running };
+    Truck { state, unwilling: false, ..before }
+}
+
 /// One step: refusals 7, 14, 8, 6. A refused step returns the record as given.
 pub fn step(fleet: &Fleet, words: &[u32]) -> (u8, Fleet) {
-    if record_refused(fleet) {
+    step_in(Cycle::TwoRound, fleet, words)
+}
+
+/// The same in either cycle.
+pub fn step_in(cycle: Cycle, fleet: &Fleet, words: &[u32]) -> (u8, Fleet) {
+    if record_refused_in(cycle, fleet) {
         return (7, *fleet);
     }
     if fleet.done as usize == MAX_ROUNDS {
@@ -162,13 +232,18 @@ pub fn step(fleet: &Fleet, words: &[u32]) -> (u8, Fleet) {
     if round_has_own_bit(n, words) {
         return (6, *fleet);
     }
-    (0, follow(fleet, words))
+    (0, follow_in(cycle, fleet, words))
 }
 
 /// Where refusal 6 finds an own loss bit of a step's round, which is the round
 /// after those done; nothing where the step is taken or refused otherwise.
 pub fn step_own_bit(fleet: &Fleet, words: &[u32]) -> Option<OwnBit> {
-    if step(fleet, words).0 != 6 {
+    step_own_bit_in(Cycle::TwoRound, fleet, words)
+}
+
+/// The same in either cycle.
+pub fn step_own_bit_in(cycle: Cycle, fleet: &Fleet, words: &[u32]) -> Option<OwnBit> {
+    if step_in(cycle, fleet, words).0 != 6 {
         return None;
     }
     let least = words_own_bit(fleet.n as usize, words)?;
@@ -177,12 +252,17 @@ pub fn step_own_bit(fleet: &Fleet, words: &[u32]) -> Option<OwnBit> {
 
 /// Runs a recording: refusals 1 to 6. A refused run holds the blank record.
 pub fn run(bytes: &[u8]) -> (u8, Fleet) {
+    run_in(Cycle::TwoRound, bytes)
+}
+
+/// The same in either cycle.
+pub fn run_in(cycle: Cycle, bytes: &[u8]) -> (u8, Fleet) {
     match read(bytes) {
         Err(refusal) => (refusal, Fleet::blank()),
         Ok(plain) => {
             let (_, mut fleet) = start(plain.n as u64, &plain.openings);
             for round in 1..=plain.rounds {
-                fleet = follow(&fleet, plain.round(round));
+                fleet = follow_in(cycle, &fleet, plain.round(round));
             }
             (0, fleet)
         }

@@ -20,7 +20,7 @@ fn after(openings: &[u8], rounds: &[&[u32]]) -> Fleet {
 }
 
 fn truck(opening: u8, estimate: u8, mark: bool, heard: Heard, state: State) -> Truck {
-    Truck { opening, estimate, mark, heard, state, sent: Sent::default() }
+    Truck { opening, estimate, mark, heard, unwilling: false, state, sent: Sent::default() }
 }
 
 /// The same truck, having sent so many proposals and vetoes.

@@ -218,6 +218,7 @@ fn a_record_as_bytes() {
         estimate: 4,
         mark: true,
         heard: Heard::Several,
+        unwilling: true,
         state: State::Running,
         sent: Sent { proposals: 130, vetoes: 129 },
     };
@@ -227,7 +228,7 @@ fn a_record_as_bytes() {
     fleet.trucks[2].heard = Heard::One;
     fleet.trucks[2].sent.proposals = 4;
     let mut expected = vec![3, 0x03, 0x01];
-    expected.extend([3, 4, 1, 2, 0, 0, 0, 130, 129, 0]);
+    expected.extend([3, 4, 1, 2, 0, 0, 0, 130, 129, 1]);
     expected.extend([5, 5, 0, 0, 1, 0x02, 0x01, 0, 6, 0]);
     expected.extend([7, 7, 0, 1, 2, 8, 0, 4, 0, 0]);
     expected.resize(323, 0);

@@ -1,0 +1,50 @@
+//! One call on both sides: the library answers as the independent reading does, and leaves what is around its buffers.
+
+use oracle::bytes::{record_bytes, RECORD};
+use oracle::{Cycle, Fleet};
+
+use crate::own_loss_number;
+
+/// What a buffer holds before a call, so that a stray write shows.
+pub const FILL: u8 = 0xA5;
+
+/// Running any bytes, accepted or not. The number answered.
+pub fn run(cycle: Cycle, bytes: &[u8]) -> u32 {
+    let (number, record) = oracle::run_in(cycle, bytes);
+    let number = u32::from(number);
+    let mut d = [FILL; RECORD + 3];
+    assert_eq!(crate::run_in(cycle, bytes, &mut d), number);
+    if number == 0 {
+        assert_eq!(d[..RECORD], record_bytes(&record));
+        assert_eq!(d[RECORD..], [FILL; 3]);
+    } else {
+        assert_eq!(d, [FILL; RECORD + 3]);
+    }
+    number
+}
+
+/// Grading any bytes, accepted or not.
+pub fn grade(cycle: Cycle, bytes: &[u8]) {
+    let mut grades = [999u16; 5];
+    let graded = crate::grade_in(cycle, bytes, &mut grades);
+    match oracle::grade_in(cycle, bytes) {
+        Ok(g) => assert_eq!((graded, &grades[..]), (0, &[g[0], g[1], g[2], g[3], 999][..])),
+        Err(k) => assert_eq!((graded, grades), (u32::from(k), [999; 5])),
+    }
+}
+
+/// One step of a record. The number answered and the record that it leaves.
+pub fn step(cycle: Cycle, f: &Fleet, words: &[u32]) -> (u32, Fleet) {
+    let mut d = record_bytes(f);
+    let number = crate::step_in(cycle, &mut d, words);
+    let (expected, next) = oracle::step_in(cycle, f, words);
+    let own_bit = oracle::step_own_bit_in(cycle, f, words);
+    assert_eq!(own_bit.is_some(), expected == 6);
+    if own_bit.is_some() {
+        let own_loss = crate::round_own_loss(u32::from(f.n), u32::from(f.done) + 1, words);
+        assert_eq!(own_loss, own_loss_number(own_bit));
+    }
+    assert_eq!(number, u32::from(expected));
+    assert_eq!(d, record_bytes(&next));
+    (number, next)
+}

@@ -1,6 +1,6 @@
 /*
- * Runs a recording to its listing, follows the same rounds as a live fleet, finds what is wrong with another recording,
- * and picks an opening crusher.
+ * Runs a recording to its listing, follows the same rounds as a live fleet, steps a fleet in the six-round cycle, finds what
+ * is wrong with another recording, and picks an opening crusher.
  *
  *   rt staticlib ffi
  *   cc -std=c99 -Wall -Wextra -Ic c/example.c target/staticlib/libffi.a -o example
@@ -55,6 +55,20 @@ int main(void) {
         }
         print_fleet(record);
     }
+
+    /* Radios that mark a round only where every message of it was missed take the cycle of six rounds. Both send in its first,
+     * prepare. */
+    if (refused("start", rajvokshul_start(trucks, openings, trucks, record, sizeof record))) {
+        return 1;
+    }
+    for (uint32_t k = 0; k < 6; k++) {
+        const uint32_t round[5] = {0, k == 0 ? 3 : 0, 0, 0, 0};
+        if (refused("step in six rounds", rajvokshul_step_six(record, sizeof record, round, 5))) {
+            return 1;
+        }
+    }
+    printf("six rounds, ");
+    print_fleet(record);
 
     /* The radio of truck 0 claims to have missed itself in round 1. A refused call says that such a bit is 1, and
      * rajvokshul_recording_own_loss where it is. */

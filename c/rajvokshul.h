@@ -125,8 +125,9 @@ static inline size_t rajvokshul_words(uint32_t trucks, uint32_t rounds) {
 
 /* ---- Stack ----------------------------------------------------------------------------------------------------------
  * Every call takes fewer bytes of stack than these, also on inputs of the largest size; there is no other memory behind a
- * call. Measured on x86-64: list 67 KiB, run and grade 65 KiB, a step 1.4 KiB, a start 1.1 KiB, the others below 1 KiB. */
-#define RAJVOKSHUL_RUN_STACK 131072 /* run, grade and list */
+ * call. Measured on x86-64: list 67 KiB, run and grade 65 KiB, those of six rounds 4 KiB, a step 2 KiB, a start 1.1 KiB, the
+ * others below 1 KiB. */
+#define RAJVOKSHUL_RUN_STACK 131072 /* run, grade and list, in either cycle */
 #define RAJVOKSHUL_STACK 4096       /* every other call */
 
 /* ---- Recordings ---------------------------------------------------------------------------------------------------
@@ -137,25 +138,36 @@ static inline size_t rajvokshul_words(uint32_t trucks, uint32_t rounds) {
 #define RAJVOKSHUL_WORD_MARK 2
 #define RAJVOKSHUL_WORD_LOST 3 /* the row of truck 0; that of truck i is i words further */
 
-/* Runs a recording and writes its listing: the numbers of trucks and rounds, a line for each truck, which ends with how many
- * proposals and vetoes it sent, and a line with how many all of them sent. *written becomes the number of bytes. Refusals:
- * 1 to 6, 9. */
+/* A recording does not say by which cycle of rounds it is to be run: the caller does, by the name of the call.
+ * - Two rounds, which are proposals and vetoes: rajvokshul_run, rajvokshul_grade, rajvokshul_step, and rajvokshul_list.
+ * - Six rounds, which are prepare, four bit rounds and accept: rajvokshul_run_six, rajvokshul_grade_six, rajvokshul_step_six. */
+
+/* Runs a recording in the two-round cycle and writes its listing: the numbers of trucks and rounds, a line for each truck,
+ * which ends with how many proposals and vetoes it sent, and a line with how many all of them sent. *written becomes the
+ * number of bytes. Refusals: 1 to 6, 9. */
 RAJVOKSHUL_NODISCARD
 uint32_t rajvokshul_list(const uint8_t *bytes, size_t bytes_len, uint8_t *text, size_t text_len, size_t *written);
 
 /* Runs a recording and writes the fleet record that it leaves. Refusals: 1 to 6, 9. */
 RAJVOKSHUL_NODISCARD
 uint32_t rajvokshul_run(const uint8_t *bytes, size_t bytes_len, uint8_t *record, size_t record_len);
+RAJVOKSHUL_NODISCARD
+uint32_t rajvokshul_run_six(const uint8_t *bytes, size_t bytes_len, uint8_t *record, size_t record_len);
 
 /* Grades a recording: for each class of marks the first round that breaks it, or 0. Four numbers: complete, majority
- * complete, zero complete, accurate. Where marks are majority complete in odd rounds and zero complete in even ones, so
- * wherever the second number is 0, no two trucks decide different crushers. Refusals: 1 to 6, 9. */
+ * complete, zero complete, accurate. No two trucks decide different crushers
+ * - in two rounds, where marks are majority complete in odd rounds and zero complete in even ones, so wherever the second
+ *   number is 0;
+ * - in six rounds, where marks are zero complete, so wherever the third number is 0.
+ * Refusals: 1 to 6, 9. */
 #define RAJVOKSHUL_GRADE_COMPLETE 0
 #define RAJVOKSHUL_GRADE_MAJORITY 1
 #define RAJVOKSHUL_GRADE_ZERO 2
 #define RAJVOKSHUL_GRADE_ACCURATE 3
 RAJVOKSHUL_NODISCARD
 uint32_t rajvokshul_grade(const uint8_t *bytes, size_t bytes_len, uint16_t *grades, size_t grades_len);
+RAJVOKSHUL_NODISCARD
+uint32_t rajvokshul_grade_six(const uint8_t *bytes, size_t bytes_len, uint16_t *grades, size_t grades_len);
 
 /* Reads a recording to plain form: n openings, and the words of all rounds one after the other. *trucks becomes n,
  * *rounds the number of rounds. Refusals: 1 to 6, 9. */
@@ -179,12 +191,23 @@ uint32_t rajvokshul_write(uint32_t trucks, uint32_t rounds, const uint8_t *openi
  *   + 3      what it heard there: 0 no value, 1 one value, 2 several different values
  *   + 4      state: 0 running, 1 stopped, 2 decided
  *   + 5, 6   the round of its stop or decision, low byte first; 0 for a running truck
- *   + 7      how many proposals it has sent: at most as many as odd rounds are done
- *   + 8      how many vetoes it has sent: at most as many as even rounds are done
- *   + 9      0; bytes with anything else there are no record
+ *   + 7      how many proposals it has sent
+ *   + 8      how many vetoes it has sent
+ *   + 9      1 where it is unwilling, else 0; bytes with anything else there are no record
  * A start and a run write all 32 places; those of trucks n and above are 0. Nothing reads them, and a step leaves them as
  * they are. The inline functions read the fields of a record of 323 bytes; i counts trucks from 0, and of a number of 32
- * or above 0 is answered. */
+ * or above 0 is answered.
+ *
+ * What was heard (+ 2, + 3) and sent (+ 7, + 8) belongs to the two-round cycle, willingness (+ 9) to the six-round one. A
+ * step of either cycle neither reads nor changes what belongs to the other. A fleet is started in no cycle, and a record
+ * may be stepped by one and then by the other; what is promised of whole lists of steps holds of those in one cycle.
+ *
+ * Refusal 7 of a record: both steps refuse bytes that are no record, n of 0 or above 32, a crusher above 15, more than 400
+ * rounds done, and a stop or a decision in round 0 or in a later round than those done. Besides,
+ * - rajvokshul_step refuses a decision in an odd round; anything heard where the rounds done are even or the truck is not
+ *   running; more proposals than odd rounds are done, or more vetoes than even ones;
+ * - rajvokshul_step_six refuses a decision in a round that is no multiple of 6; and an unwilling truck that is not running,
+ *   or where the rounds done leave 0 or 1 when divided by 6. */
 #define RAJVOKSHUL_HEARD_NOTHING 0
 #define RAJVOKSHUL_HEARD_ONE 1
 #define RAJVOKSHUL_HEARD_SEVERAL 2
@@ -237,13 +260,19 @@ static inline uint8_t rajvokshul_truck_vetoes(const uint8_t *record, uint32_t i)
     return rajvokshul_truck_byte(record, i, 8);
 }
 
-/* Starts a fleet with an opening for each of its trucks. Refusals: 2, 7, 9. */
+static inline uint8_t rajvokshul_truck_unwilling(const uint8_t *record, uint32_t i) {
+    return rajvokshul_truck_byte(record, i, 9);
+}
+
+/* Starts a fleet with an opening for each of its trucks, which are willing. Refusals: 2, 7, 9. */
 RAJVOKSHUL_NODISCARD
 uint32_t rajvokshul_start(uint32_t trucks, const uint8_t *openings, size_t openings_len, uint8_t *record, size_t record_len);
 
 /* Steps a fleet by one round in plain form, 3 + n words. A refused step leaves the record as it was. Refusals: 7, 14, 8, 6. */
 RAJVOKSHUL_NODISCARD
 uint32_t rajvokshul_step(uint8_t *record, size_t record_len, const uint32_t *words, size_t words_len);
+RAJVOKSHUL_NODISCARD
+uint32_t rajvokshul_step_six(uint8_t *record, size_t record_len, const uint32_t *words, size_t words_len);
 
 /* ---- Where an own loss bit is -----------------------------------------------------------------------------------------
  * Refusal 6 names the earliest round in which a truck's own loss bit is 1 and, in that round, the lowest such truck. These
@@ -257,7 +286,7 @@ static inline uint32_t rajvokshul_own_loss_truck(uint32_t own_loss) {
     return own_loss % 256;
 }
 
-/* Of a recording that list, run, grade or read refuses. */
+/* Of a recording that list, read, or run or grade of either cycle refuses. */
 RAJVOKSHUL_NODISCARD
 uint32_t rajvokshul_recording_own_loss(const uint8_t *bytes, size_t bytes_len);
 

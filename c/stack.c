@@ -22,13 +22,15 @@
 
 enum { N = RAJVOKSHUL_MAX_TRUCKS, ROUNDS = RAJVOKSHUL_MAX_ROUNDS, ROUND = 3 + N };
 
-/* ---- The recording: in each veto round every truck has a mark, so that none decides and all run on to the last. ---- */
+/* ---- The recording: in each even round every truck has a mark, so that in neither cycle one decides and all run on to the
+ * last. ---- */
 
 static uint8_t openings[N];
 static uint32_t words[RAJVOKSHUL_MAX_WORDS];
 static uint8_t bytes[RAJVOKSHUL_MAX_RECORDING];
 static size_t length;
 static uint8_t begun[RAJVOKSHUL_RECORD_SIZE], proposed[RAJVOKSHUL_RECORD_SIZE]; /* before round 1, and after it */
+static uint8_t prepared[RAJVOKSHUL_RECORD_SIZE], heard[RAJVOKSHUL_RECORD_SIZE]; /* after rounds 1 and 5 of six */
 
 /* Any word (xorshift). */
 static uint32_t noise(void) {
@@ -39,10 +41,10 @@ static uint32_t noise(void) {
     return state;
 }
 
-static void fill_round(uint32_t *round, int vetoes) {
+static void fill_round(uint32_t *round, int marked) {
     round[0] = 0;
     round[1] = noise();
-    round[2] = vetoes ? UINT32_MAX : noise() & noise();
+    round[2] = marked ? UINT32_MAX : noise() & noise();
     for (int i = 0; i < N; i++) {
         round[3 + i] = noise() & noise() & ~(UINT32_C(1) << i);
     }
@@ -57,9 +59,18 @@ static int all_run(const uint8_t *record, int done) {
     return rajvokshul_trucks(record) == N && rajvokshul_rounds_done(record) == done && running == N;
 }
 
+/* Steps a record by rounds of six from the first on. */
+static int step_six(uint8_t *record, int rounds) {
+    int good = 1;
+    for (int k = 0; k < rounds; k++) {
+        good = good && rajvokshul_step_six(record, RAJVOKSHUL_RECORD_SIZE, words + ROUND * k, ROUND) == 0;
+    }
+    return good;
+}
+
 /* Makes the inputs; whether they are what they should be. */
 static int make(void) {
-    uint8_t end[RAJVOKSHUL_RECORD_SIZE];
+    uint8_t end[RAJVOKSHUL_RECORD_SIZE], end_of_six[RAJVOKSHUL_RECORD_SIZE];
     for (int i = 0; i < N; i++) {
         openings[i] = noise() % 16;
     }
@@ -67,12 +78,17 @@ static int make(void) {
         fill_round(words + ROUND * k, k % 2 == 1);
     }
     if (rajvokshul_write(N, ROUNDS, openings, N, words, RAJVOKSHUL_MAX_WORDS, bytes, sizeof bytes, &length) != 0 ||
-        rajvokshul_run(bytes, length, end, sizeof end) != 0 || rajvokshul_start(N, openings, N, begun, sizeof begun) != 0) {
+        rajvokshul_run(bytes, length, end, sizeof end) != 0 ||
+        rajvokshul_run_six(bytes, length, end_of_six, sizeof end_of_six) != 0 ||
+        rajvokshul_start(N, openings, N, begun, sizeof begun) != 0) {
         return 0;
     }
     memcpy(proposed, begun, sizeof begun);
-    return rajvokshul_step(proposed, sizeof proposed, words, ROUND) == 0 && length == sizeof bytes && all_run(end, ROUNDS) &&
-           all_run(begun, 0) && all_run(proposed, 1);
+    memcpy(prepared, begun, sizeof begun);
+    memcpy(heard, begun, sizeof begun);
+    return rajvokshul_step(proposed, sizeof proposed, words, ROUND) == 0 && step_six(prepared, 1) && step_six(heard, 5) &&
+           length == sizeof bytes && all_run(end, ROUNDS) && all_run(end_of_six, ROUNDS) && all_run(begun, 0) &&
+           all_run(proposed, 1) && all_run(prepared, 1) && all_run(heard, 5);
 }
 
 /* ---- The calls: each answers what the library does. ---- */
@@ -89,17 +105,44 @@ static uint32_t grade(void) {
     return rajvokshul_grade(bytes, length, grades, RAJVOKSHUL_GRADES);
 }
 
+static uint32_t run_six(void) {
+    return rajvokshul_run_six(bytes, length, record, sizeof record);
+}
+
+static uint32_t grade_six(void) {
+    static uint16_t grades[RAJVOKSHUL_GRADES];
+    return rajvokshul_grade_six(bytes, length, grades, RAJVOKSHUL_GRADES);
+}
+
 static uint32_t list(void) {
     static uint8_t text[RAJVOKSHUL_MAX_TEXT];
     return rajvokshul_list(bytes, length, text, sizeof text, &written);
 }
 
+/* A step of a copy, so that each is taken from the rounds done that it is named for. */
+static uint32_t step_of(uint32_t (*step)(uint8_t *, size_t, const uint32_t *, size_t), const uint8_t *before) {
+    memcpy(record, before, sizeof record);
+    return step(record, sizeof record, words + ROUND * rajvokshul_rounds_done(before), ROUND);
+}
+
 static uint32_t step_proposals(void) {
-    return rajvokshul_step(begun, sizeof begun, words, ROUND);
+    return step_of(rajvokshul_step, begun);
 }
 
 static uint32_t step_vetoes(void) {
-    return rajvokshul_step(proposed, sizeof proposed, words + ROUND, ROUND);
+    return step_of(rajvokshul_step, proposed);
+}
+
+static uint32_t step_prepare(void) {
+    return step_of(rajvokshul_step_six, begun);
+}
+
+static uint32_t step_bit(void) {
+    return step_of(rajvokshul_step_six, prepared);
+}
+
+static uint32_t step_accept(void) {
+    return step_of(rajvokshul_step_six, heard);
 }
 
 static uint32_t read_plain(void) {
@@ -199,8 +242,13 @@ static const struct {
     {"run", run, RAJVOKSHUL_RUN_STACK},
     {"grade", grade, RAJVOKSHUL_RUN_STACK},
     {"list", list, RAJVOKSHUL_RUN_STACK},
+    {"run of six", run_six, RAJVOKSHUL_RUN_STACK},
+    {"grade of six", grade_six, RAJVOKSHUL_RUN_STACK},
     {"step, proposals", step_proposals, RAJVOKSHUL_STACK},
     {"step, vetoes", step_vetoes, RAJVOKSHUL_STACK},
+    {"step of six, prepare", step_prepare, RAJVOKSHUL_STACK},
+    {"step of six, bit", step_bit, RAJVOKSHUL_STACK},
+    {"step of six, accept", step_accept, RAJVOKSHUL_STACK},
     {"read", read_plain, RAJVOKSHUL_STACK},
     {"write", write_plain, RAJVOKSHUL_STACK},
     {"start", start, RAJVOKSHUL_STACK},

@@ -15,7 +15,19 @@ extern "C" {
         record: *mut u8,
         record_len: usize,
     ) -> u32;
+    pub fn rajvokshul_run_six(
+        bytes: *const u8,
+        bytes_len: usize,
+        record: *mut u8,
+        record_len: usize,
+    ) -> u32;
     pub fn rajvokshul_grade(
+        bytes: *const u8,
+        bytes_len: usize,
+        grades: *mut u16,
+        grades_len: usize,
+    ) -> u32;
+    pub fn rajvokshul_grade_six(
         bytes: *const u8,
         bytes_len: usize,
         grades: *mut u16,
@@ -50,6 +62,12 @@ extern "C" {
         record_len: usize,
     ) -> u32;
     pub fn rajvokshul_step(
+        record: *mut u8,
+        record_len: usize,
+        words: *const u32,
+        words_len: usize,
+    ) -> u32;
+    pub fn rajvokshul_step_six(
         record: *mut u8,
         record_len: usize,
         words: *const u32,

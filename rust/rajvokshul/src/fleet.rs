@@ -3,7 +3,7 @@
 use std::fmt;
 
 use crate::recording::own_loss;
-use crate::{ffi, Refusal};
+use crate::{ffi, Cycle, Refusal};
 
 /// The most trucks of a fleet.
 pub const MAX_TRUCKS: usize = 32;
@@ -34,7 +34,8 @@ pub enum State {
     Decided(u16),
 }
 
-/// How many messages a truck has sent. A truck sends at most one in a round, so that each count is at most 200.
+/// How many messages a truck has sent in the two-round cycle; the six-round one counts none. A truck sends at most one in a
+/// round, so that each count is at most 200.
 #[derive(Clone, Copy, Debug, PartialEq, Eq, Hash)]
 pub struct Sent {
     /// Proposals: the odd rounds in which it sent.
@@ -43,7 +44,8 @@ pub struct Sent {
     pub vetoes: u8,
 }
 
-/// One truck of a fleet.
+/// One truck of a fleet. What it heard and sent belongs to the two-round cycle, willingness to the six-round one: a step of
+/// either cycle neither reads nor changes what belongs to the other.
 #[derive(Clone, Copy, Debug, PartialEq, Eq, Hash)]
 pub struct Truck {
     /// The crusher that it opened with.
@@ -54,6 +56,8 @@ pub struct Truck {
     pub mark: bool,
     /// What it heard in the proposal round before.
     pub heard: Heard,
+    /// Whether it is unwilling to decide in this cycle of six rounds: it vetoes in accept.
+    pub unwilling: bool,
     /// Whether it is running, stopped or decided.
     pub state: State,
     /// How much it has sent; what a stopped or a decided truck had sent before.
@@ -111,8 +115,9 @@ impl Fleet {
         Ok(Fleet { bytes })
     }
 
-    /// Steps the fleet by one round: a [`Round`](crate::Round), or its 3 + n words in plain form. A refused step changes
-    /// nothing. Refusals: 7, 14, 8, 6; 7 only where the fleet was made [`from_bytes`](Fleet::from_bytes).
+    /// Steps the fleet by one round of the two-round cycle: a [`Round`](crate::Round), or its 3 + n words in plain form. A
+    /// refused step changes nothing. Refusals: 7, 14, 8, 6; 7 only where the fleet was made
+    /// [`from_bytes`](Fleet::from_bytes) or stepped in the other cycle.
     ///
     /// ```
     /// # use rajvokshul::{Fleet, Refusal, Round, State};
@@ -125,16 +130,32 @@ impl Fleet {
     /// # Ok::<(), Refusal>(())
     /// ```
     pub fn step(&mut self, round: impl AsRef<[u32]>) -> Result<(), Refusal> {
+        self.step_in(Cycle::TwoRound, round)
+    }
+
+    /// [`step`](Fleet::step) in a cycle. A fleet may be stepped in one cycle and then in the other, but what is promised of
+    /// whole lists of steps holds of those in one cycle, and 7 by the one cycle may refuse what the other left.
+    ///
+    /// ```
+    /// # use rajvokshul::{Cycle, Fleet, Refusal, Round};
+    /// // 3 is 0011 and 5 is 0101. Nobody is active in prepare; in round 3, for the bit worth 4, truck 0 hears truck 1.
+    /// let mut fleet = Fleet::start(2, &[3, 5])?;
+    /// for _ in 1..=3 {
+    ///     fleet.step_in(Cycle::SixRound, Round::new(2)?)?;
+    /// }
+    /// let unwilling: Vec<bool> = fleet.iter().map(|truck| truck.unwilling).collect();
+    /// assert_eq!(unwilling, [true, false]);
+    /// # Ok::<(), Refusal>(())
+    /// ```
+    pub fn step_in(&mut self, cycle: Cycle, round: impl AsRef<[u32]>) -> Result<(), Refusal> {
         let words = round.as_ref();
-        // SAFETY: as above.
-        let answer = unsafe {
-            ffi::rajvokshul_step(
-                self.bytes.as_mut_ptr(),
-                self.bytes.len(),
-                words.as_ptr(),
-                words.len(),
-            )
+        let step = match cycle {
+            Cycle::TwoRound => ffi::rajvokshul_step,
+            Cycle::SixRound => ffi::rajvokshul_step_six,
         };
+        // SAFETY: as above.
+        let answer =
+            unsafe { step(self.bytes.as_mut_ptr(), self.bytes.len(), words.as_ptr(), words.len()) };
         Refusal::check(answer, || {
             let round = u32::from(self.rounds_done()) + 1;
             // SAFETY: as above.
@@ -149,7 +170,7 @@ impl Fleet {
         })
     }
 
-    /// Runs a recording, all its rounds. Refusals: 1 to 6.
+    /// Runs a recording in the two-round cycle, all its rounds. Refusals: 1 to 6.
     ///
     /// ```
     /// # use rajvokshul::{Fleet, Refusal, State};
@@ -158,22 +179,34 @@ impl Fleet {
     /// # Ok::<(), Refusal>(())
     /// ```
     pub fn run(recording: &[u8]) -> Result<Fleet, Refusal> {
+        Fleet::run_in(Cycle::TwoRound, recording)
+    }
+
+    /// [`run`](Fleet::run) in a cycle.
+    ///
+    /// ```
+    /// # use rajvokshul::{Cycle, Fleet, Refusal, State};
+    /// // One truck, which opens with crusher 7 and is never active, in six rounds: nobody speaks against it.
+    /// let fleet = Fleet::run_in(Cycle::SixRound, &[0x04, 0x06, 0x70, 0x00, 0x00, 0x00])?;
+    /// assert_eq!(fleet.truck(0).unwrap().state, State::Decided(6));
+    /// # Ok::<(), Refusal>(())
+    /// ```
+    pub fn run_in(cycle: Cycle, recording: &[u8]) -> Result<Fleet, Refusal> {
+        let run = match cycle {
+            Cycle::TwoRound => ffi::rajvokshul_run,
+            Cycle::SixRound => ffi::rajvokshul_run_six,
+        };
         let mut bytes = [0; RECORD_SIZE];
         // SAFETY: as above.
-        let answer = unsafe {
-            ffi::rajvokshul_run(
-                recording.as_ptr(),
-                recording.len(),
-                bytes.as_mut_ptr(),
-                bytes.len(),
-            )
-        };
+        let answer =
+            unsafe { run(recording.as_ptr(), recording.len(), bytes.as_mut_ptr(), bytes.len()) };
         Refusal::check(answer, || own_loss(recording))?;
         Ok(Fleet { bytes })
     }
 
     /// A record that was kept as bytes, not judged until the fleet is stepped: bytes that are no record, or one outside
-    /// the limits, are then refused with 7. `Fleet::try_from(bytes)` judges them at once.
+    /// the limits, are then refused with 7. [`from_bytes_in`](Fleet::from_bytes_in) judges them at once, and so does
+    /// `Fleet::try_from(bytes)`, by the two-round cycle.
     ///
     /// ```
     /// # use rajvokshul::{Fleet, Refusal};
@@ -186,9 +219,45 @@ impl Fleet {
         Fleet { bytes }
     }
 
+    /// A record that was kept as bytes, judged as a step in a cycle would judge it. Refusal: 7.
+    ///
+    /// In both cycles that is n of 0 or above 32, a crusher above 15, more than 400 rounds done, or a stop or a decision in round
+    /// 0 or in a later round than those done. Besides, in two rounds: a decision in an odd round; a mark or something heard where
+    /// the rounds done are even or the truck isn't running; more proposals than odd rounds done, or more vetoes than even ones.
+    /// In six rounds: a decision in a round that is no multiple of 6; an unwilling truck that isn't running, or where fewer than
+    /// two rounds of the cycle are done.
+    ///
+    /// The proved library judges: it is asked for a step without any words. A step looks for 7 first; to a record that
+    /// passes it then answers 14 or 8, since no round has 0 words, and it changes nothing.
+    ///
+    /// ```
+    /// # use rajvokshul::{Cycle, Fleet, Refusal};
+    /// // A mark makes the truck unwilling in round 2 of six. Then it is stepped in two rounds, which do not look at that. With
+    /// // five rounds done it may be unwilling, with six done it may not.
+    /// let mut fleet = Fleet::start(1, &[7])?;
+    /// fleet.step_in(Cycle::SixRound, [0, 0, 0, 0])?;
+    /// fleet.step_in(Cycle::SixRound, [0, 0, 1, 0])?;
+    /// for _ in 3..=5 {
+    ///     fleet.step([0; 4])?;
+    /// }
+    /// assert_eq!(Fleet::from_bytes_in(Cycle::SixRound, *fleet.as_bytes()), Ok(fleet.clone()));
+    /// fleet.step([0; 4])?;
+    /// assert_eq!(Fleet::from_bytes_in(Cycle::TwoRound, *fleet.as_bytes()), Ok(fleet.clone()));
+    /// assert_eq!(Fleet::from_bytes_in(Cycle::SixRound, *fleet.as_bytes()), Err(Refusal::Record));
+    /// # Ok::<(), Refusal>(())
+    /// ```
+    pub fn from_bytes_in(cycle: Cycle, bytes: [u8; RECORD_SIZE]) -> Result<Fleet, Refusal> {
+        let mut fleet = Fleet { bytes };
+        match fleet.step_in(cycle, []) {
+            Err(Refusal::Record) => Err(Refusal::Record),
+            _ => Ok(fleet),
+        }
+    }
+
     /// The record as bytes: n; the rounds done, low byte first; then ten bytes for each of 32 places, which are opening,
     /// estimate, mark (0 or 1), what was heard (0 to 2 as in [`Heard`]), state (0 to 2 as in [`State`]), the round of the
-    /// stop or the decision, low byte first, the numbers of proposals and of vetoes sent, and 0.
+    /// stop or the decision, low byte first, the numbers of proposals and of vetoes sent, and 1 where the truck is unwilling,
+    /// else 0.
     ///
     /// ```
     /// # use rajvokshul::{Fleet, Refusal};
@@ -250,25 +319,28 @@ impl Fleet {
             return None;
         }
         let place = self.bytes[3..].chunks_exact(PLACE_SIZE).nth(i)?;
-        let &[opening, estimate, mark, heard, state, low, high, proposals, vetoes, 0] = place
+        let &[opening, estimate, mark, heard, state, low, high, proposals, vetoes, unwilling] =
+            place
         else {
             return None;
+        };
+        let flag = |byte| match byte {
+            0 => Some(false),
+            1 => Some(true),
+            _ => None,
         };
         let round = u16::from_le_bytes([low, high]);
         Some(Truck {
             opening,
             estimate,
-            mark: match mark {
-                0 => false,
-                1 => true,
-                _ => return None,
-            },
+            mark: flag(mark)?,
             heard: match heard {
                 0 => Heard::Nothing,
                 1 => Heard::One,
                 2 => Heard::Several,
                 _ => return None,
             },
+            unwilling: flag(unwilling)?,
             state: match (state, round) {
                 (0, 0) => State::Running,
                 (1, _) => State::Stopped(round),
@@ -283,10 +355,8 @@ impl Fleet {
 impl TryFrom<[u8; RECORD_SIZE]> for Fleet {
     type Error = Refusal;
 
-    /// A record that was kept as bytes, judged as a step would judge it. Refusal: 7.
-    ///
-    /// The proved library judges: it is asked for a step without any words. A step looks for 7 first; to a record that
-    /// passes it then answers 14 or 8, since no round has 0 words, and it changes nothing.
+    /// A record that was kept as bytes, judged as a step in the two-round cycle would judge it, by
+    /// [`Fleet::from_bytes_in`]. Refusal: 7.
     ///
     /// ```
     /// # use rajvokshul::{Fleet, Refusal};
@@ -297,11 +367,7 @@ impl TryFrom<[u8; RECORD_SIZE]> for Fleet {
     /// # Ok::<(), Refusal>(())
     /// ```
     fn try_from(bytes: [u8; RECORD_SIZE]) -> Result<Fleet, Refusal> {
-        let mut fleet = Fleet { bytes };
-        match fleet.step([]) {
-            Err(Refusal::Record) => Err(Refusal::Record),
-            _ => Ok(fleet),
-        }
+        Fleet::from_bytes_in(Cycle::TwoRound, bytes)
     }
 }
 

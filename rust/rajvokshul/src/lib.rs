@@ -3,7 +3,8 @@
 //! This crate calls the proved library through its exported functions and adds no rules of its own. [`Fleet`] starts,
 //! steps and runs a fleet, [`Recorder`] does so and keeps the rounds, which [`Round`] builds by naming trucks; [`list`],
 //! [`grade`], [`read`] and [`write`](fn@write) work on recordings; [`opening`] picks a truck's first crusher. Whatever is
-//! refused answers a [`Refusal`] and changes nothing.
+//! refused answers a [`Refusal`] and changes nothing. Functions whose names end in `_in` take the [`Cycle`] of rounds; the
+//! others are for the two-round one.
 //!
 //! The archive of the library is looked for in the folder that the environment variable `RAJVOKSHUL_LIB_DIR` names when
 //! this crate is built, else where it stands beside this crate: in `target/staticlib` of the repository, where
@@ -12,8 +13,8 @@
 //! # Stack
 //!
 //! A call takes no memory but stack, and what this crate allocates for an answer. [`Fleet::run`], [`list`] and [`grade`]
-//! take less than 128 KiB of stack on recordings of the largest size (67 KiB were measured), every other call less than
-//! 4 KiB. Threads with stacks of their own should have that much to spare.
+//! take less than 128 KiB of stack on recordings of the largest size, in either cycle (67 KiB were measured), every other
+//! call less than 4 KiB. Threads with stacks of their own should have that much to spare.
 //!
 //! # A first run
 //!
@@ -39,6 +40,7 @@
 #![deny(missing_docs)]
 #![deny(unsafe_op_in_unsafe_fn)]
 
+mod cycle;
 mod ffi;
 mod fleet;
 mod recorder;
@@ -47,10 +49,11 @@ mod refusal;
 mod roads;
 mod round;
 
+pub use cycle::{Cycle, RoundKind};
 pub use fleet::{Fleet, Heard, Sent, State, Truck, Trucks, MAX_TRUCKS, RECORD_SIZE};
 pub use recorder::Recorder;
 pub use recording::{
-    grade, list, list_into, read, read_into, write, write_into, Class, Grades, Plain,
+    grade, grade_in, list, list_into, read, read_into, write, write_into, Class, Grades, Plain,
     MAX_RECORDING, MAX_ROUNDS, MAX_TEXT, MAX_WORDS,
 };
 pub use refusal::Refusal;

@@ -1,11 +1,11 @@
 //! A live fleet that keeps its rounds.
 
-use crate::{write, Fleet, Plain, Refusal};
+use crate::{write, Cycle, Fleet, Plain, Refusal};
 
 /// A live fleet with the rounds that it has taken, so that there is a recording of them at any time.
 ///
-/// Running that recording leaves the record that the fleet has: this is proved of every list of steps, refused ones
-/// included.
+/// Running that recording in the same cycle leaves the record that the fleet has: this is proved of every list of steps,
+/// refused ones included.
 ///
 /// ```
 /// use rajvokshul::{list, Fleet, Recorder, Refusal, Round};
@@ -27,12 +27,13 @@ use crate::{write, Fleet, Plain, Refusal};
 /// ```
 #[derive(Clone, Debug, PartialEq, Eq, Hash)]
 pub struct Recorder {
+    cycle: Cycle,
     plain: Plain,
     fleet: Fleet,
 }
 
 impl Recorder {
-    /// Starts a fleet with an opening crusher for each truck. Refusals: 2, 7.
+    /// Starts a fleet with an opening crusher for each truck, which is stepped in the two-round cycle. Refusals: 2, 7.
     ///
     /// ```
     /// # use rajvokshul::{Recorder, Refusal};
@@ -40,15 +41,43 @@ impl Recorder {
     /// assert_eq!(Recorder::start(&[]), Err(Refusal::TruckCount));
     /// ```
     pub fn start(openings: &[u8]) -> Result<Recorder, Refusal> {
+        Recorder::start_in(Cycle::TwoRound, openings)
+    }
+
+    /// [`start`](Recorder::start) of a fleet that is stepped in a cycle. Its recording does not say which.
+    ///
+    /// ```
+    /// # use rajvokshul::{Cycle, Fleet, Recorder, Refusal, State};
+    /// let mut recorder = Recorder::start_in(Cycle::SixRound, &[7])?;
+    /// for _ in 1..=6 {
+    ///     recorder.step([0; 4])?;
+    /// }
+    /// assert_eq!(recorder.fleet().truck(0).unwrap().state, State::Decided(6));
+    /// assert_eq!(&Fleet::run_in(Cycle::SixRound, &recorder.recording())?, recorder.fleet());
+    /// # Ok::<(), Refusal>(())
+    /// ```
+    pub fn start_in(cycle: Cycle, openings: &[u8]) -> Result<Recorder, Refusal> {
         // More than 32 bits hold are more than 32 trucks, too.
         let trucks = u32::try_from(openings.len()).unwrap_or(u32::MAX);
         let fleet = Fleet::start(trucks, openings)?;
         let plain = Plain { rounds: 0, openings: openings.to_vec(), words: Vec::new() };
-        Ok(Recorder { plain, fleet })
+        Ok(Recorder { cycle, plain, fleet })
     }
 
-    /// Steps the fleet by a round, or by its words in plain form, and keeps it. A refused step changes nothing.
-    /// Refusals: 14, 8, 6.
+    /// The cycle in which the fleet is stepped.
+    ///
+    /// ```
+    /// # use rajvokshul::{Cycle, Recorder, Refusal};
+    /// assert_eq!(Recorder::start(&[7])?.cycle(), Cycle::TwoRound);
+    /// assert_eq!(Recorder::start_in(Cycle::SixRound, &[7])?.cycle(), Cycle::SixRound);
+    /// # Ok::<(), Refusal>(())
+    /// ```
+    pub fn cycle(&self) -> Cycle {
+        self.cycle
+    }
+
+    /// Steps the fleet by a round of its cycle, or by the round's words in plain form, and keeps it. A refused step changes
+    /// nothing. Refusals: 14, 8, 6.
     ///
     /// ```
     /// # use rajvokshul::{Recorder, Refusal, Round};
@@ -59,7 +88,7 @@ impl Recorder {
     /// ```
     pub fn step(&mut self, round: impl AsRef<[u32]>) -> Result<&Fleet, Refusal> {
         let words = round.as_ref();
-        self.fleet.step(words)?;
+        self.fleet.step_in(self.cycle, words)?;
         self.plain.words.extend_from_slice(words);
         self.plain.rounds += 1;
         Ok(&self.fleet)

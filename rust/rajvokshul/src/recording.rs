@@ -3,7 +3,7 @@
 use std::fmt;
 use std::slice::ChunksExact;
 
-use crate::{ffi, Refusal, Round, MAX_TRUCKS};
+use crate::{ffi, Cycle, Refusal, Round, MAX_TRUCKS};
 
 /// The most rounds of a recording, and of a fleet.
 pub const MAX_ROUNDS: usize = 400;
@@ -34,9 +34,12 @@ impl Class {
 
 /// For each class of marks the first round that breaks it, or 0.
 ///
-/// It is proved that no two trucks decide different crushers where marks are majority complete in odd rounds and zero complete
-/// in even ones. So `majority` 0 guarantees agreement, and so does an even `majority` with `zero` 0 where no odd round breaks
-/// [`Class::Majority`] later, which these numbers do not tell: each is the first round alone.
+/// It is proved that no two trucks decide different crushers
+///
+/// - in the two-round cycle where marks are majority complete in odd rounds and zero complete in even ones. So `majority` 0
+///   guarantees agreement, and so does an even `majority` with `zero` 0 where no odd round breaks [`Class::Majority`] later,
+///   which these numbers do not tell: each is the first round alone;
+/// - in the six-round cycle where marks are zero complete, so wherever `zero` is 0.
 ///
 /// ```
 /// use rajvokshul::{grade, Class};
@@ -153,7 +156,7 @@ impl fmt::Debug for Plain {
     }
 }
 
-/// Runs a recording to its listing: the numbers of trucks and rounds, a line for each truck, which ends with how many
+/// Runs a recording in the two-round cycle to its listing: the numbers of trucks and rounds, a line for each truck, which ends with how many
 /// proposals and vetoes it sent, and a line with how many all of them sent. Refusals: 1 to 6.
 ///
 /// ```
@@ -200,7 +203,7 @@ pub(crate) fn own_loss(recording: &[u8]) -> u32 {
     unsafe { ffi::rajvokshul_recording_own_loss(recording.as_ptr(), recording.len()) }
 }
 
-/// Grades the marks of a recording. Refusals: 1 to 6.
+/// Grades the marks of a recording in the two-round cycle. Refusals: 1 to 6.
 ///
 /// ```
 /// use rajvokshul::{grade, Grades};
@@ -209,16 +212,31 @@ pub(crate) fn own_loss(recording: &[u8]) -> u32 {
 /// assert_eq!(graded, Ok(Grades { complete: 1, majority: 1, zero: 0, accurate: 0 }));
 /// ```
 pub fn grade(recording: &[u8]) -> Result<Grades, Refusal> {
+    grade_in(Cycle::TwoRound, recording)
+}
+
+/// [`grade`] in a cycle.
+///
+/// ```
+/// use rajvokshul::{grade_in, write, Class, Cycle};
+///
+/// // Trucks of crushers 3 and 5, which are 0011 and 0101, never hear each other. In round 3, for the bit worth 4, truck 1
+/// // sends alone, and truck 0 misses that without a mark.
+/// let recording = write(2, 6, &[3, 5], &[0, 0b11, 0, 0b10, 0b01].repeat(6))?;
+/// let grades = grade_in(Cycle::SixRound, &recording)?;
+/// assert_eq!(grades.first_break(Class::Majority), Some(1));
+/// assert_eq!(grades.first_break(Class::Zero), Some(3));
+/// # Ok::<(), rajvokshul::Refusal>(())
+/// ```
+pub fn grade_in(cycle: Cycle, recording: &[u8]) -> Result<Grades, Refusal> {
+    let grade = match cycle {
+        Cycle::TwoRound => ffi::rajvokshul_grade,
+        Cycle::SixRound => ffi::rajvokshul_grade_six,
+    };
     let mut grades = [0; 4];
     // SAFETY: as above.
-    let answer = unsafe {
-        ffi::rajvokshul_grade(
-            recording.as_ptr(),
-            recording.len(),
-            grades.as_mut_ptr(),
-            grades.len(),
-        )
-    };
+    let answer =
+        unsafe { grade(recording.as_ptr(), recording.len(), grades.as_mut_ptr(), grades.len()) };
     Refusal::check(answer, || own_loss(recording))?;
     let [complete, majority, zero, accurate] = grades;
     Ok(Grades { complete, majority, zero, accurate })

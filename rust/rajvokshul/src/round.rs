@@ -66,7 +66,8 @@ impl Round {
         self.with(STOP, truck)
     }
 
-    /// With the active bit of a truck: if it is running and the round is for proposals, it sends its estimate. Refusal: 8.
+    /// With the active bit of a truck: if it is running and the round is for proposals, or prepare in the six-round cycle, it
+    /// sends its estimate. Refusal: 8.
     ///
     /// ```
     /// # use rajvokshul::{Refusal, Round};

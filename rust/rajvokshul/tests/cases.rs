@@ -284,8 +284,8 @@ fn bytes_that_are_no_record() {
     let mut fleet = Fleet::from_bytes(bytes);
     fleet.step([0; 5]).unwrap();
     assert_eq!(fleet.as_bytes()[23..], bytes[23..]);
-    // A state that no truck has, and a last byte of a place that is not 0.
-    for (at, value) in [(7, 3), (12, 1)] {
+    // A state that no truck has, and a last byte of a place that is above 1.
+    for (at, value) in [(7, 3), (12, 2)] {
         let mut wrong = bytes;
         wrong[at] = value;
         let mut fleet = Fleet::from_bytes(wrong);

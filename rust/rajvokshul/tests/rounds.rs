@@ -1,9 +1,17 @@
 //! Rounds by trucks, fleets from bytes, and recorders, held against words written by hand and the independent reading.
 
 use oracle::bytes::record_bytes;
-use oracle::gen::{self, Rng, SMALL, TINY};
-use oracle::{fleet::record_refused, lists, recording};
+use oracle::gen::{self, Rng, SMALL, TINY, TINY_SIX};
+use oracle::{fleet::record_refused_in, lists, recording};
 use rajvokshul::*;
+
+/// A cycle as the independent reading names it.
+fn read_as(cycle: Cycle) -> oracle::Cycle {
+    match cycle {
+        Cycle::TwoRound => oracle::Cycle::TwoRound,
+        Cycle::SixRound => oracle::Cycle::SixRound,
+    }
+}
 
 /// A refusal by its number; 0 is none.
 fn number<T>(answer: Result<T, Refusal>) -> u8 {
@@ -124,33 +132,45 @@ fn by_names(round: &Round) -> Round {
 
 #[test]
 fn records_are_judged_by_refusal_7_and_no_other() {
+    Cycle::ALL.into_iter().for_each(records_are_judged_in);
+}
+
+fn records_are_judged_in(cycle: Cycle) {
     let mut rng = Rng::new(0x7EC0);
     let mut refused = [0; 2];
-    let mut records: Vec<_> = (0..2_000).map(|_| gen::record(&mut rng)).collect();
-    for _ in 0..100 {
-        records.extend(gen::broken_records(&mut rng).iter().map(|broken| broken.fleet));
+    let mut records = Vec::new();
+    for made in oracle::Cycle::BOTH {
+        records.extend((0..1_000).map(|_| gen::record_in(made, &mut rng)));
+        for _ in 0..50 {
+            let broken = gen::broken_records_in(made, &mut rng);
+            records.extend(broken.iter().map(|broken| broken.fleet));
+        }
     }
     for record in records {
         let bytes = record_bytes(&record);
-        let expected = if record_refused(&record) { Err(Refusal::Record) } else { Ok(()) };
-        let fleet = Fleet::try_from(bytes);
+        let refuses = record_refused_in(read_as(cycle), &record);
+        let expected = if refuses { Err(Refusal::Record) } else { Ok(()) };
+        let fleet = Fleet::from_bytes_in(cycle, bytes);
         assert_eq!(fleet.as_ref().map(|_| ()).map_err(|r| *r), expected, "{record:?}");
-        assert_eq!(Fleet::try_from(&bytes[..]), fleet);
+        if cycle == Cycle::TwoRound {
+            assert_eq!(Fleet::try_from(bytes), fleet);
+            assert_eq!(Fleet::try_from(&bytes[..]), fleet);
+        }
         if let Ok(fleet) = fleet {
             assert_eq!(fleet.as_bytes(), &bytes);
             assert_eq!(fleet.iter().count(), usize::from(record.n));
-            let sent = fleet.iter().map(|truck| (truck.sent.proposals, truck.sent.vetoes));
-            let expected =
-                record.trucks_below_n().iter().map(|t| (t.sent.proposals, t.sent.vetoes));
-            assert!(sent.eq(expected));
+            let part = fleet.iter().map(|t| (t.sent.proposals, t.sent.vetoes, t.unwilling));
+            let trucks = record.trucks_below_n().iter();
+            assert!(part.eq(trucks.map(|t| (t.sent.proposals, t.sent.vetoes, t.unwilling))));
         }
         refused[usize::from(expected.is_err())] += 1;
     }
     assert!(refused[0] > 500 && refused[1] > 500, "{refused:?}");
     for _ in 0..1_000 {
-        let damaged = gen::damaged_record(&mut rng);
+        let damaged = gen::damaged_record_in(read_as(cycle), &mut rng);
         let expected = if damaged.refused { Err(Refusal::Record) } else { Ok(()) };
-        assert_eq!(Fleet::try_from(damaged.bytes).map(|_| ()), expected, "{}", damaged.how);
+        let judged = Fleet::from_bytes_in(cycle, damaged.bytes);
+        assert_eq!(judged.map(|_| ()), expected, "{}", damaged.how);
         let holds_a_truck = Fleet::from_bytes(damaged.bytes).truck(damaged.place).is_some();
         assert!(!holds_a_truck, "{}", damaged.how);
     }
@@ -208,7 +228,7 @@ fn what_is_shown_names_trucks() {
     );
     assert_eq!(
         format!("{:?}", Fleet::start(1, &[7]).unwrap()),
-        "Fleet { rounds_done: 0, trucks: [Truck { opening: 7, estimate: 7, mark: false, heard: Nothing, state: Running, sent: Sent { proposals: 0, vetoes: 0 } }] }"
+        "Fleet { rounds_done: 0, trucks: [Truck { opening: 7, estimate: 7, mark: false, heard: Nothing, unwilling: false, state: Running, sent: Sent { proposals: 0, vetoes: 0 } }] }"
     );
     assert!(format!("{:?}", Fleet::from_bytes([2; RECORD_SIZE])).contains("trucks: [None, None]"));
     let plain = read(&[0x04, 0x01, 0x74]).unwrap();
@@ -223,9 +243,10 @@ fn what_is_shown_names_trucks() {
 }
 
 /// Plays a list with a recorder and with the independent reading. Answers how often each refusal was met.
-fn hold_list(list: &lists::List) -> [usize; 15] {
-    let (numbers, last) = lists::play(list).unwrap();
-    let mut recorder = Recorder::start(&list.openings).unwrap();
+fn hold_list(cycle: Cycle, list: &lists::List) -> [usize; 15] {
+    let (numbers, last) = lists::play_in(list, |_| read_as(cycle)).unwrap();
+    let mut recorder = Recorder::start_in(cycle, &list.openings).unwrap();
+    assert_eq!(recorder.cycle(), cycle);
     let mut met = [0; 15];
     for (words, expected) in list.steps.iter().zip(numbers) {
         let before = recorder.clone();
@@ -241,7 +262,7 @@ fn hold_list(list: &lists::List) -> [usize; 15] {
     let expected = lists::recording_of(list);
     let recorded = recorder.recording();
     assert_eq!(recorded, gen::bytes_of(&expected));
-    assert_eq!(&Fleet::run(&recorded).unwrap(), recorder.fleet());
+    assert_eq!(&Fleet::run_in(cycle, &recorded).unwrap(), recorder.fleet());
     assert_eq!(&read(&recorded).unwrap(), recorder.plain());
     assert_eq!(recorder.plain().rounds().len(), expected.rounds);
     met
@@ -251,16 +272,20 @@ fn hold_list(list: &lists::List) -> [usize; 15] {
 fn the_recording_of_a_recorder_runs_to_its_fleet() {
     let mut rng = Rng::new(0x4EC0);
     let mut met = [0; 15];
-    let mut hold = |list: lists::List| {
-        for (all, one) in met.iter_mut().zip(hold_list(&list)) {
+    let mut hold = |cycle, list: lists::List| {
+        for (all, one) in met.iter_mut().zip(hold_list(cycle, &list)) {
             *all += one;
         }
     };
     for k in 0..3_000 {
-        hold(gen::list(&mut rng, if k % 10 == 0 { SMALL } else { TINY }));
+        hold(Cycle::TwoRound, gen::list(&mut rng, if k % 10 == 0 { SMALL } else { TINY }));
     }
-    for trucks in [1, 3, 32] {
-        hold(gen::long_list(&mut rng, trucks));
+    for k in 0..1_000 {
+        let limits = if k % 10 == 0 { SMALL } else { TINY_SIX };
+        hold(Cycle::SixRound, gen::list_in(oracle::Cycle::SixRound, &mut rng, limits));
+    }
+    for (cycle, trucks) in Cycle::ALL.into_iter().flat_map(|c| [1, 3, 32].map(|n| (c, n))) {
+        hold(cycle, gen::long_list_in(read_as(cycle), &mut rng, trucks));
     }
     assert!([0, 6, 8, 14].iter().all(|&k: &usize| met[k] > 0), "{met:?}");
 }
@@ -271,4 +296,9 @@ fn a_recorder_starts_as_a_fleet_does() {
     assert_eq!(Recorder::start(&[0; 33]), Err(Refusal::TruckCount));
     assert_eq!(Recorder::start(&[3, 16]), Err(Refusal::Record));
     assert_eq!(Recorder::start(&[0; 32]).unwrap().fleet(), &Fleet::start(32, &[0; 32]).unwrap());
+    for cycle in Cycle::ALL {
+        assert_eq!(Recorder::start_in(cycle, &[3, 16]), Err(Refusal::Record));
+        let fleet = Recorder::start_in(cycle, &[3, 5]).unwrap().fleet().clone();
+        assert_eq!(fleet, Fleet::start(2, &[3, 5]).unwrap());
+    }
 }

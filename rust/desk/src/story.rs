@@ -207,8 +207,15 @@ impl Answers {
 
 /// A truck before round 1.
 fn opened(opening: u8) -> Truck {
-    let (state, sent) = (State::Running, Sent { proposals: 0, vetoes: 0 });
-    Truck { opening, estimate: opening, mark: false, heard: Heard::Nothing, state, sent }
+    Truck {
+        opening,
+        estimate: opening,
+        mark: false,
+        heard: Heard::Nothing,
+        unwilling: false,
+        state: State::Running,
+        sent: Sent { proposals: 0, vetoes: 0 },
+    }
 }
 
 /// Holds the trucks that were derived after round `number` against a record.

@@ -1,8 +1,9 @@
 //! The recordings and rounds that are measured, made from fixed seeds. The independent reading holds each to its name as it is made.
 
 use oracle::gen::{self, Habits, Rng};
-use oracle::steps::{air, follow};
-use oracle::{Fleet, Header, Plain, State};
+use oracle::steps::{air_in, follow_in};
+use oracle::{Cycle, Fleet, Header, Plain, State};
+use Cycle::{SixRound, TwoRound};
 
 /// A recording and its name.
 pub struct Input {
@@ -10,9 +11,10 @@ pub struct Input {
     pub bytes: Vec<u8>,
 }
 
-/// A record, the round that it is stepped by, and their name.
+/// A record, the round that it is stepped by, the cycle of that round, and their name.
 pub struct Step {
     pub what: String,
+    pub cycle: Cycle,
     pub fleet: Fleet,
     pub words: Vec<u32>,
 }
@@ -47,30 +49,38 @@ fn running(fleet: &Fleet) -> usize {
 }
 
 /// What each round came to, the first round first.
-fn course(plain: &Plain) -> Vec<Came> {
+fn course(cycle: Cycle, plain: &Plain) -> Vec<Came> {
     let (_, mut fleet) = oracle::start(plain.n as u64, &plain.openings);
     let mut came = Vec::new();
     for number in 1..=plain.rounds {
-        let sent = air(&fleet, plain.round(number)).messages();
-        fleet = follow(&fleet, plain.round(number));
+        let sent = air_in(cycle, &fleet, plain.round(number)).messages();
+        fleet = follow_in(cycle, &fleet, plain.round(number));
         came.push(Came { sent, running: running(&fleet) });
     }
     came
 }
 
 /// Nobody stops or decides.
-fn all_run(plain: &Plain) -> bool {
-    course(plain).iter().all(|came| came.running == plain.n)
+fn all_run(cycle: Cycle, plain: &Plain) -> bool {
+    course(cycle, plain).iter().all(|came| came.running == plain.n)
 }
 
 /// So many messages in every veto round.
 fn vetoes(plain: &Plain, sent: usize) -> bool {
-    course(plain).iter().skip(1).step_by(2).all(|came| came.sent == sent)
+    course(TwoRound, plain).iter().skip(1).step_by(2).all(|came| came.sent == sent)
 }
 
-/// So many trucks run from the end of round 4 to the end of the last.
-fn run_on(plain: &Plain, running: usize) -> bool {
-    course(plain).iter().skip(3).all(|came| came.running == running)
+/// In how many rounds all settle that are let: two cycles of two, one of six.
+fn settling(cycle: Cycle) -> usize {
+    match cycle {
+        TwoRound => 4,
+        SixRound => 6,
+    }
+}
+
+/// So many trucks run from the end of the settling rounds to the end of the last.
+fn run_on(cycle: Cycle, plain: &Plain, running: usize) -> bool {
+    course(cycle, plain).iter().skip(settling(cycle) - 1).all(|came| came.running == running)
 }
 
 // Making them
@@ -85,41 +95,45 @@ fn any_openings(rng: &mut Rng, n: usize) -> Vec<u8> {
 }
 
 /// The trucks that the next round lets decide.
-fn deciding(fleet: &Fleet, words: &[u32]) -> u32 {
-    let next = follow(fleet, words);
+fn deciding(cycle: Cycle, fleet: &Fleet, words: &[u32]) -> u32 {
+    let next = follow_in(cycle, fleet, words);
     let decides = |i: &usize| next.trucks[*i].state == State::Decided(next.done);
     (0..next.n as usize).filter(decides).fold(0, |set, i| set | 1 << i)
 }
 
 /// Lossy rounds in which a mark keeps each truck that would decide.
-fn busy(seed: u64, n: usize, rounds: usize) -> Plain {
+fn busy(cycle: Cycle, seed: u64, n: usize, rounds: usize) -> Plain {
     let mut rng = Rng::new(seed);
     let habits = lossy(&mut rng);
     let openings = any_openings(&mut rng, n);
-    let plain = gen::build(&mut rng, Header { n, rounds }, openings, |rng, fleet| {
-        let mut words = gen::round(rng, n, fleet.done as usize + 1, &habits);
-        words[2] |= deciding(fleet, &words);
+    let plain = gen::build_in(cycle, &mut rng, Header { n, rounds }, openings, |rng, fleet| {
+        let mut words = gen::round_in(cycle, rng, n, fleet.done as usize + 1, &habits);
+        words[2] |= deciding(cycle, fleet, &words);
         words
     });
-    assert!(all_run(&plain));
+    assert!(all_run(cycle, &plain));
     plain
 }
 
-/// A largest recording: those of `stop` stop in round 1, those of `stay` run on to the end through lossy rounds, and all others decide in round 4.
-fn few(seed: u64, stop: u32, stay: u32) -> Plain {
+/// A largest recording: those of `stop` stop in round 1, those of `stay` run on to the end through lossy rounds, and all others decide in round 4, of six rounds in round 6.
+fn few(cycle: Cycle, seed: u64, stop: u32, stay: u32) -> Plain {
     let mut rng = Rng::new(seed);
     let habits = lossy(&mut rng);
     let openings = any_openings(&mut rng, 32);
-    // all active, all heard, no marks: round 1 leaves one value, which all hear in round 3
+    // all active, all heard, no marks: round 1 leaves one value, which all hear in round 3 or tell by its bits
     let calm = [vec![stop, u32::MAX, 0], vec![0; 32]].concat();
-    let plain = gen::build(&mut rng, Header { n: 32, rounds: 400 }, openings, |rng, fleet| {
+    let size = Header { n: 32, rounds: 400 };
+    let plain = gen::build_in(cycle, &mut rng, size, openings, |rng, fleet| {
         let number = fleet.done as usize + 1;
-        let mut words =
-            if number <= 4 { calm.clone() } else { gen::round(rng, 32, number, &habits) };
-        words[2] |= deciding(fleet, &words) & stay;
+        let mut words = if number <= settling(cycle) {
+            calm.clone()
+        } else {
+            gen::round_in(cycle, rng, 32, number, &habits)
+        };
+        words[2] |= deciding(cycle, fleet, &words) & stay;
         words
     });
-    assert!(run_on(&plain, stay.count_ones() as usize));
+    assert!(run_on(cycle, &plain, stay.count_ones() as usize));
     plain
 }
 
@@ -137,7 +151,7 @@ fn vetoed(rng: &mut Rng, openings: Vec<u8>, rounds: usize) -> Plain {
         }
         words
     });
-    assert!(all_run(&plain));
+    assert!(all_run(TwoRound, &plain));
     plain
 }
 
@@ -166,14 +180,16 @@ fn marked() -> Plain {
         gen::round(rng, 32, fleet.done as usize + 1, &habits)
     });
     assert!((1..=400).all(|number| plain.round(number)[2] == u32::MAX));
-    assert!(all_run(&plain) && vetoes(&plain, 32));
+    assert!(all_run(TwoRound, &plain) && vetoes(&plain, 32));
+    assert!(all_run(SixRound, &plain));
     plain
 }
 
 /// Nobody sends, and nobody has a mark.
 fn silent() -> Plain {
     let plain = Plain { n: 32, rounds: 400, openings: vec![7; 32], words: vec![0; 400 * 35] };
-    assert!(all_run(&plain) && course(&plain).iter().all(|came| came.sent == 0));
+    assert!(all_run(TwoRound, &plain));
+    assert!(course(TwoRound, &plain).iter().all(|came| came.sent == 0));
     plain
 }
 
@@ -181,14 +197,14 @@ fn silent() -> Plain {
 
 /// Recordings of 32 trucks and 400 rounds.
 pub fn largest() -> Vec<Input> {
-    let half = few(7, 0x1111_1111, 0xAAAA_AAAA);
+    let half = few(TwoRound, 7, 0x1111_1111, 0xAAAA_AAAA);
     let random = gen::plain_of_size(&mut Rng::new(2), Header { n: 32, rounds: 400 });
     vec![
-        named(&busy(1, 32, 400), "all running"),
+        named(&busy(TwoRound, 1, 32, 400), "all running"),
         named(&one_vetoes(), "one truck vetoes"),
         named(&all_veto(), "all trucks veto"),
         named(&half, "half running on"),
-        named(&few(8, 0, 1 << 13), "one running on"),
+        named(&few(TwoRound, 8, 0, 1 << 13), "one running on"),
         named(&marked(), "marked"),
         named(&silent(), "silent"),
         named(&random, "random"),
@@ -198,11 +214,28 @@ pub fn largest() -> Vec<Input> {
 /// Recordings of each size, in which nobody stops or decides.
 pub fn sizes() -> Vec<Input> {
     let fleets = [1, 2, 4, 8, 16, 24, 32];
-    let long = fleets.map(|n| busy(3, n, 200));
-    let short = fleets.map(|n| busy(3, n, 20));
-    let growing = [1, 10, 50, 100, 400].map(|rounds| busy(4, 16, rounds));
+    let long = fleets.map(|n| busy(TwoRound, 3, n, 200));
+    let short = fleets.map(|n| busy(TwoRound, 3, n, 20));
+    let growing = [1, 10, 50, 100, 400].map(|rounds| busy(TwoRound, 4, 16, rounds));
     let all = long.iter().chain(&short).chain(&growing);
     all.map(|plain| Input { what: size(plain), bytes: gen::bytes_of(plain) }).collect()
+}
+
+/// Recordings for the six-round cycle: of 32 trucks and 400 rounds, and smaller ones in which nobody stops or decides.
+pub fn six() -> Vec<Input> {
+    let half = few(SixRound, 7, 0x1111_1111, 0xAAAA_AAAA);
+    let mut all = vec![
+        named(&busy(SixRound, 1, 32, 400), "all running"),
+        named(&half, "half running on"),
+        named(&few(SixRound, 8, 0, 1 << 13), "one running on"),
+        named(&marked(), "marked"),
+    ];
+    let sizes = [(1, 200), (8, 200), (32, 200), (1, 20), (8, 20), (32, 20), (16, 1)];
+    all.extend(sizes.map(|(n, rounds)| {
+        let plain = busy(SixRound, 3, n, rounds);
+        Input { what: size(&plain), bytes: gen::bytes_of(&plain) }
+    }));
+    all
 }
 
 /// The first two rounds of a fleet in which all trucks send in both.
@@ -210,7 +243,7 @@ fn two_steps(n: usize) -> [Step; 2] {
     let mut rng = Rng::new(6);
     let openings = any_openings(&mut rng, n);
     let plain = vetoed(&mut rng, openings, 2);
-    assert!(course(&plain).iter().all(|came| came.sent == n));
+    assert!(course(TwoRound, &plain).iter().all(|came| came.sent == n));
     let (_, begun) = oracle::start(n as u64, &plain.openings);
     let (_, proposed) = oracle::step(&begun, plain.round(1));
     let step = |fleet: Fleet, number, what: &str| {
@@ -220,6 +253,7 @@ fn two_steps(n: usize) -> [Step; 2] {
         );
         Step {
             what: format!("{}, {what} round", trucks(n)),
+            cycle: TwoRound,
             fleet,
             words: plain.round(number).to_vec(),
         }
@@ -230,6 +264,26 @@ fn two_steps(n: usize) -> [Step; 2] {
 /// Steps of fleets of 32, 8 and 1.
 pub fn steps() -> Vec<Step> {
     [32, 8, 1].into_iter().flat_map(two_steps).collect()
+}
+
+/// Prepare, the round for the bit worth 4, and accept of a fleet in the six-round cycle.
+fn six_steps(n: usize) -> [Step; 3] {
+    let plain = busy(SixRound, 6, n, 6);
+    [(1, "prepare"), (3, "a bit round"), (6, "accept")].map(|(number, what)| {
+        let (_, mut fleet) = oracle::start(n as u64, &plain.openings);
+        for before in 1..number {
+            fleet = follow_in(SixRound, &fleet, plain.round(before));
+        }
+        let words = plain.round(number).to_vec();
+        let air = air_in(SixRound, &fleet, &words);
+        assert!(n == 1 || air.messages() > 0);
+        Step { what: format!("{}, {what}", trucks(n)), cycle: SixRound, fleet, words }
+    })
+}
+
+/// Steps of such fleets of 32, 8 and 1.
+pub fn steps_of_six() -> Vec<Step> {
+    [32, 8, 1].into_iter().flat_map(six_steps).collect()
 }
 
 /// The largest recording that is refused 6 as late as can be: for the last truck of its last round.

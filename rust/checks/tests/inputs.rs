@@ -1,8 +1,8 @@
 //! The inputs that are measured: each is what its name says, and the library, the independent reading and the fast one come to the same on it.
 
-use checks::{inputs, own_loss_number};
+use checks::{inputs, own_loss_number, same};
 use oracle::bytes::{record_bytes, RECORD};
-use oracle::fast;
+use oracle::{fast, Cycle};
 use std::collections::BTreeSet;
 
 /// Running, grading, reading and writing of an accepted recording.
@@ -51,6 +51,29 @@ fn measured_steps() {
         assert_eq!(record, record_bytes(&next));
         let mut plain = record_bytes(&input.fleet);
         assert_eq!((fast::step_bytes(&mut plain, &input.words), plain), (number, record));
+    }
+}
+
+#[test]
+fn measured_in_six_rounds() {
+    let all = inputs::six();
+    assert_eq!(all.iter().map(|input| &input.what).collect::<BTreeSet<_>>().len(), 11);
+    for input in &all {
+        let bytes = &input.bytes;
+        assert_eq!(same::run(Cycle::SixRound, bytes), 0);
+        same::grade(Cycle::SixRound, bytes);
+        assert_eq!(fast::run_six(bytes), oracle::run_in(Cycle::SixRound, bytes));
+        assert_eq!(fast::grade_six(bytes), oracle::grade_in(Cycle::SixRound, bytes));
+    }
+    let steps = inputs::steps_of_six();
+    assert_eq!(steps.len(), 9);
+    for input in &steps {
+        assert_eq!(input.cycle, Cycle::SixRound);
+        let (number, next) = same::step(input.cycle, &input.fleet, &input.words);
+        assert_eq!((number, fast::step_six(&input.fleet, &input.words)), (0, (0, next)));
+        let mut plain = record_bytes(&input.fleet);
+        assert_eq!(fast::step_bytes_six(&mut plain, &input.words), 0);
+        assert_eq!(plain, record_bytes(&next));
     }
 }
 

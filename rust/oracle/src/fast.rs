@@ -5,7 +5,8 @@
 //! truck j at the bit worth 2 to the j; one is the other reversed.
 
 use crate::bytes;
-use crate::fleet::{record_refused, Fleet, Heard, Sent, State, Truck, PLACES};
+use crate::cycle::{Cycle, Kind};
+use crate::fleet::{record_refused_in, Fleet, Heard, Sent, State, Truck, PLACES};
 use crate::recording::{Header, OwnBit, Plain};
 
 const FIRST: u32 = 1 << 31;
@@ -244,6 +245,59 @@ struct Round {
     rows: [u32; 32],
 }
 
+/// A fleet under way in one of the cycles.
+trait Course {
+    const CYCLE: Cycle;
+
+    /// A fleet of n before round 1.
+    fn started(n: usize, openings: impl Iterator<Item = u8>) -> Self;
+
+    /// A fleet with an accepted record.
+    fn resumed(fleet: &Fleet) -> Self;
+
+    /// The next round.
+    fn round(&mut self, round: &Round, judge: &mut impl Judge);
+
+    /// The record.
+    fn finish(self) -> Fleet;
+}
+
+/// The record of n trucks before round 1.
+fn opened(n: usize, openings: impl Iterator<Item = u8>) -> Fleet {
+    let mut fleet = Fleet { n: n as u8, ..Fleet::blank() };
+    for (truck, opening) in fleet.trucks.iter_mut().zip(openings) {
+        *truck = Truck::opened(opening);
+    }
+    fleet
+}
+
+/// The values that are sent, least first, each with its senders; and how many
+/// they are.
+#[inline]
+fn values_sent(fleet: &Fleet, sent: u32) -> ([(u8, u32); 16], usize) {
+    let mut senders_of = [0u32; 16];
+    for i in Trucks(sent) {
+        senders_of[fleet.trucks[i].estimate as usize] |= place(i);
+    }
+    let mut values = [(0u8, 0u32); 16];
+    let mut count = 0;
+    for (value, senders) in senders_of.into_iter().enumerate() {
+        if senders != 0 {
+            values[count] = (value as u8, senders);
+            count += 1;
+        }
+    }
+    (values, count)
+}
+
+/// Stops the trucks of a mask in a round.
+#[inline]
+fn stop(fleet: &mut Fleet, trucks: u32, number: u16) {
+    for i in Trucks(trucks) {
+        fleet.trucks[i].state = State::Stopped(number);
+    }
+}
+
 /// Adds 1 to the count of each truck of a mask: to all places at once, which
 /// takes less time than one truck after the other.
 #[inline]
@@ -266,19 +320,11 @@ struct Play {
     vetoes: [u8; PLACES],
 }
 
-impl Play {
-    fn started(n: usize, openings: impl Iterator<Item = u8>) -> Play {
-        let mut fleet = Fleet { n: n as u8, ..Fleet::blank() };
-        for (truck, opening) in fleet.trucks.iter_mut().zip(openings) {
-            *truck = Truck::opened(opening);
-        }
-        Play { running: below(n), ..Play::of(fleet) }
-    }
+impl Course for Play {
+    const CYCLE: Cycle = Cycle::TwoRound;
 
-    /// A fleet of which only the record is known.
-    fn of(fleet: Fleet) -> Play {
-        let counts = [0; PLACES];
-        Play { fleet, running: 0, marked: 0, one: 0, several: 0, proposals: counts, vetoes: counts }
+    fn started(n: usize, openings: impl Iterator<Item = u8>) -> Play {
+        Play { running: below(n), ..Play::of(opened(n, openings)) }
     }
 
     fn resumed(fleet: &Fleet) -> Play {
@@ -320,9 +366,7 @@ impl Play {
     fn round(&mut self, round: &Round, judge: &mut impl Judge) {
         self.fleet.done += 1;
         let number = self.fleet.done;
-        for i in Trucks(self.running & round.stop) {
-            self.fleet.trucks[i].state = State::Stopped(number);
-        }
+        stop(&mut self.fleet, self.running & round.stop, number);
         self.running &= !round.stop;
         if number % 2 == 1 {
             self.proposal(number, round, judge);
@@ -330,23 +374,19 @@ impl Play {
             self.veto(number, round, judge);
         }
     }
+}
+
+impl Play {
+    /// A fleet of which only the record is known.
+    fn of(fleet: Fleet) -> Play {
+        let counts = [0; PLACES];
+        Play { fleet, running: 0, marked: 0, one: 0, several: 0, proposals: counts, vetoes: counts }
+    }
 
     fn proposal(&mut self, number: u16, round: &Round, judge: &mut impl Judge) {
         let sent = self.running & round.active;
         count(&mut self.proposals, sent);
-        let mut senders_of = [0u32; 16];
-        for i in Trucks(sent) {
-            senders_of[self.fleet.trucks[i].estimate as usize] |= place(i);
-        }
-        // The values sent, least first, each with its senders.
-        let mut values = [(0u8, 0u32); 16];
-        let mut count = 0;
-        for (value, senders) in senders_of.into_iter().enumerate() {
-            if senders != 0 {
-                values[count] = (value as u8, senders);
-                count += 1;
-            }
-        }
+        let (values, count) = values_sent(&self.fleet, sent);
         let values = &values[..count];
         for i in Trucks(self.running) {
             let own = place(i);
@@ -389,12 +429,118 @@ impl Play {
     }
 }
 
+/// A fleet under way in the six-round cycle. Willingness in the record is
+/// brought up to date at the end only; the memory and the counts stay.
+struct SixPlay {
+    fleet: Fleet,
+    running: u32,
+    unwilling: u32,
+}
+
+impl Course for SixPlay {
+    const CYCLE: Cycle = Cycle::SixRound;
+
+    fn started(n: usize, openings: impl Iterator<Item = u8>) -> SixPlay {
+        SixPlay { fleet: opened(n, openings), running: below(n), unwilling: 0 }
+    }
+
+    fn resumed(fleet: &Fleet) -> SixPlay {
+        let mut play = SixPlay { fleet: *fleet, running: 0, unwilling: 0 };
+        for (i, truck) in fleet.trucks_below_n().iter().enumerate() {
+            if truck.state == State::Running {
+                play.running |= place(i);
+            }
+            if truck.unwilling {
+                play.unwilling |= place(i);
+            }
+        }
+        play
+    }
+
+    fn finish(mut self) -> Fleet {
+        for (i, truck) in self.fleet.trucks[..self.fleet.n as usize].iter_mut().enumerate() {
+            truck.unwilling = self.unwilling & place(i) != 0;
+        }
+        self.fleet
+    }
+
+    #[inline]
+    fn round(&mut self, round: &Round, judge: &mut impl Judge) {
+        self.fleet.done += 1;
+        let number = self.fleet.done;
+        stop(&mut self.fleet, self.running & round.stop, number);
+        self.running &= !round.stop;
+        self.unwilling &= self.running;
+        match Cycle::SixRound.kind(number) {
+            Kind::Bit(worth) => self.bit(number, worth, round, judge),
+            Kind::Accept => self.accept(number, round, judge),
+            _ => self.prepare(number, round, judge),
+        }
+    }
+}
+
+impl SixPlay {
+    fn prepare(&mut self, number: u16, round: &Round, judge: &mut impl Judge) {
+        let sent = self.running & round.active;
+        let (values, count) = values_sent(&self.fleet, sent);
+        let values = &values[..count];
+        for i in Trucks(self.running) {
+            let own = place(i);
+            let heard = sent & (!round.rows[i] | own);
+            let marked = round.mark & own != 0;
+            judge.judge(number, sent, heard, marked);
+            if !marked {
+                if let Some((least, _)) = values.iter().find(|v| v.1 & heard != 0) {
+                    self.fleet.trucks[i].estimate = *least;
+                }
+            }
+        }
+        self.unwilling = 0;
+    }
+
+    fn bit(&mut self, number: u16, worth: u8, round: &Round, judge: &mut impl Judge) {
+        let mut sent = 0;
+        for i in Trucks(self.running) {
+            if self.fleet.trucks[i].estimate & worth != 0 {
+                sent |= place(i);
+            }
+        }
+        for i in Trucks(self.running) {
+            let own = place(i);
+            let heard = sent & (!round.rows[i] | own);
+            let marked = round.mark & own != 0;
+            judge.judge(number, sent, heard, marked);
+            if sent & own == 0 && (heard != 0 || marked) {
+                self.unwilling |= own;
+            }
+        }
+    }
+
+    fn accept(&mut self, number: u16, round: &Round, judge: &mut impl Judge) {
+        let sent = self.unwilling;
+        let mut decided = 0;
+        for i in Trucks(self.running) {
+            let own = place(i);
+            let heard = sent & (!round.rows[i] | own);
+            let marked = round.mark & own != 0;
+            judge.judge(number, sent, heard, marked);
+            // An unwilling truck hears its own veto.
+            if heard == 0 && !marked {
+                self.fleet.trucks[i].state = State::Decided(number);
+                decided |= own;
+            }
+        }
+        self.running &= !decided;
+        self.unwilling = 0;
+    }
+}
+
 /// Plays a recording through in one pass; refusal 6 is met on the way.
-fn play(bytes: &[u8], judge: &mut impl Judge) -> Result<Fleet, u8> {
+fn play<C: Course>(bytes: &[u8], judge: &mut impl Judge) -> Result<Fleet, u8> {
     let Header { n, rounds } = check_frame(bytes)?;
     let mask = below(n);
     let mut reader = BitReader { bytes, place: 16 };
-    let mut play = Play::started(n, (0..n).map(|_| (reader.take(4, below(4)) >> 28) as u8));
+    let mut play = C::started(n, (0..n).map(|_| (reader.take(4, below(4)) >> 28) as u8));
     let mut round = Round { stop: 0, active: 0, mark: 0, rows: [0; 32] };
     for _ in 0..rounds {
         round.stop = reader.take(n, mask);
@@ -415,7 +561,16 @@ fn play(bytes: &[u8], judge: &mut impl Judge) -> Result<Fleet, u8> {
 
 /// Runs a recording.
 pub fn run(bytes: &[u8]) -> (u8, Fleet) {
-    match play(bytes, &mut NoJudge) {
+    run_by::<Play>(bytes)
+}
+
+/// The same in the six-round cycle.
+pub fn run_six(bytes: &[u8]) -> (u8, Fleet) {
+    run_by::<SixPlay>(bytes)
+}
+
+fn run_by<C: Course>(bytes: &[u8]) -> (u8, Fleet) {
+    match play::<C>(bytes, &mut NoJudge) {
         Ok(fleet) => (0, fleet),
         Err(refusal) => (refusal, Fleet::blank()),
     }
@@ -423,14 +578,32 @@ pub fn run(bytes: &[u8]) -> (u8, Fleet) {
 
 /// Grades a recording.
 pub fn grade(bytes: &[u8]) -> Result<[u16; 4], u8> {
+    grade_by::<Play>(bytes)
+}
+
+/// The same in the six-round cycle.
+pub fn grade_six(bytes: &[u8]) -> Result<[u16; 4], u8> {
+    grade_by::<SixPlay>(bytes)
+}
+
+fn grade_by<C: Course>(bytes: &[u8]) -> Result<[u16; 4], u8> {
     let mut grades = Grades([0; 4]);
-    play(bytes, &mut grades)?;
+    play::<C>(bytes, &mut grades)?;
     Ok(grades.0)
 }
 
 /// One step.
 pub fn step(fleet: &Fleet, words: &[u32]) -> (u8, Fleet) {
-    if record_refused(fleet) {
+    step_by::<Play>(fleet, words)
+}
+
+/// The same in the six-round cycle.
+pub fn step_six(fleet: &Fleet, words: &[u32]) -> (u8, Fleet) {
+    step_by::<SixPlay>(fleet, words)
+}
+
+fn step_by<C: Course>(fleet: &Fleet, words: &[u32]) -> (u8, Fleet) {
+    if record_refused_in(C::CYCLE, fleet) {
         return (7, *fleet);
     }
     if fleet.done == 400 {
@@ -450,7 +623,7 @@ pub fn step(fleet: &Fleet, words: &[u32]) -> (u8, Fleet) {
         return (6, *fleet);
     }
     let [stop, active, mark] = [0, 1, 2].map(|k| words[k].reverse_bits());
-    let mut play = Play::resumed(fleet);
+    let mut play = C::resumed(fleet);
     play.round(&Round { stop, active, mark, rows }, &mut NoJudge);
     (0, play.finish())
 }
@@ -458,6 +631,11 @@ pub fn step(fleet: &Fleet, words: &[u32]) -> (u8, Fleet) {
 /// One step of a record lent as bytes.
 pub fn step_bytes(lent: &mut [u8], words: &[u32]) -> u8 {
     bytes::step(lent, words, step)
+}
+
+/// The same in the six-round cycle.
+pub fn step_bytes_six(lent: &mut [u8], words: &[u32]) -> u8 {
+    bytes::step(lent, words, step_six)
 }
 
 /// All bits set in some word.

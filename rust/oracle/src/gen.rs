@@ -317,9 +317,8 @@ pub fn calm(rng: &mut Rng, limits: Limits, majority: bool) -> Calm {
 /// The same in either cycle, with the marks asked for in every round.
 pub fn calm_in(cycle: Cycle, rng: &mut Rng, limits: Limits, asked: Asked) -> Calm {
     let span = cycle.calm_span() as usize;
-    let rounds = rng.within(span + 1, limits.rounds.max(span + 1));
-    let size = Header { n: rng.within(1, limits.trucks), rounds };
-    let n = size.n;
+    let n = rng.within(1, limits.trucks);
+    let size = Header { n, rounds: rng.within(span + 1, limits.rounds.max(span + 1)) };
     let s = match rng.below(4) {
         0 => 1,
         1 => size.rounds - span,

@@ -1,11 +1,15 @@
 //! The fast version answers as the simple one on everything.
 
-use oracle::gen::{self, Rng, FULL, SMALL, TINY};
+use oracle::bytes::{self, record_bytes};
+use oracle::gen::{self, Rng, FULL, SMALL, TINY, TINY_SIX};
+use oracle::Cycle::SixRound;
 use oracle::*;
 
 fn same(bytes: &[u8]) -> u8 {
     let simple = run(bytes);
     assert_eq!(fast::run(bytes), simple, "{bytes:02x?}");
+    assert_eq!(fast::run_six(bytes), run_in(SixRound, bytes), "{bytes:02x?}");
+    assert_eq!(fast::grade_six(bytes), grade_in(SixRound, bytes), "{bytes:02x?}");
     assert_eq!(fast::check(bytes), check(bytes));
     assert_eq!(fast::own_bit(bytes), own_bit(bytes));
     assert_eq!(fast::grade(bytes), grade(bytes), "{bytes:02x?}");
@@ -35,6 +39,10 @@ fn made_recordings() {
         assert_eq!(same(&gen::bytes_of(&plain)), 0);
         let made = gen::calm(&mut rng, SMALL, k % 2 == 0);
         assert_eq!(same(&gen::bytes_of(&made.plain)), 0);
+        let plain = gen::with_marks_in(SixRound, &mut rng, TINY_SIX, gen::ZERO);
+        assert_eq!(same(&gen::bytes_of(&plain)), 0);
+        let plain = gen::plain_in(SixRound, &mut rng, SMALL);
+        assert_eq!(same(&gen::bytes_of(&plain)), 0);
     }
 }
 
@@ -73,6 +81,36 @@ fn random_records() {
         let words = gen::round(&mut rng, fleet.n as usize, fleet.done as usize + 1, &habits);
         assert_eq!(fast::step(&fleet, &words), step(&fleet, &words));
     }
+}
+
+#[test]
+fn random_records_in_six_rounds() {
+    let mut rng = Rng::new(57);
+    for k in 0..6_000 {
+        let made = if k % 3 == 0 { Cycle::TwoRound } else { SixRound };
+        let fleet = gen::record_in(made, &mut rng);
+        let n = fleet.n as usize;
+        let habits = gen::habits(&mut rng);
+        let words = gen::round_in(SixRound, &mut rng, n, fleet.done as usize + 1, &habits);
+        let expected = step_in(SixRound, &fleet, &words);
+        assert_eq!(fast::step_six(&fleet, &words), expected);
+        let mut lent = record_bytes(&fleet);
+        assert_eq!(fast::step_bytes_six(&mut lent, &words), expected.0);
+        assert_eq!(lent, record_bytes(&expected.1));
+        let (bad, _) = gen::bad_round(&mut rng, n);
+        assert_eq!(fast::step_six(&fleet, &bad), step_in(SixRound, &fleet, &bad));
+    }
+    for broken in gen::broken_records_in(SixRound, &mut rng) {
+        let fleet = broken.fleet;
+        let words = vec![0; 3 + fleet.n.clamp(1, 32) as usize];
+        assert_eq!(fast::step_six(&fleet, &words), step_in(SixRound, &fleet, &words));
+    }
+    let mut damaged = gen::damaged_record_in(SixRound, &mut rng);
+    let mut other = damaged.bytes;
+    let words = vec![0; 3 + damaged.fleet.n as usize];
+    let expected = bytes::step(&mut other, &words, |f, w| step_in(SixRound, f, w));
+    assert_eq!(fast::step_bytes_six(&mut damaged.bytes, &words), expected);
+    assert_eq!(damaged.bytes, other);
 }
 
 #[test]

@@ -2,7 +2,7 @@
 
 use checks::inputs::{self, Input, Step};
 use oracle::bytes::{record_bytes, RECORD};
-use oracle::{fast, gen, Plain};
+use oracle::{fast, gen, Cycle, Plain};
 use std::hint::black_box;
 use std::time::Instant;
 
@@ -76,33 +76,49 @@ impl Table {
     }
 }
 
-fn run(table: &mut Table, input: &Input, rounds: usize) {
+/// What is behind a call's name in a row.
+fn of(cycle: Cycle) -> &'static str {
+    match cycle {
+        Cycle::TwoRound => "",
+        Cycle::SixRound => " of six",
+    }
+}
+
+fn run(table: &mut Table, cycle: Cycle, input: &Input, rounds: usize) {
+    let plain = match cycle {
+        Cycle::TwoRound => fast::run,
+        Cycle::SixRound => fast::run_six,
+    };
     let mut record = [0u8; RECORD];
     table.row(
-        &format!("run, {}", input.what),
+        &format!("run{}, {}", of(cycle), input.what),
         rounds,
         times(
             || {
-                black_box(checks::run(black_box(&input.bytes), &mut record));
+                black_box(checks::run_in(cycle, black_box(&input.bytes), &mut record));
             },
             || {
-                black_box(fast::run(black_box(&input.bytes)));
+                black_box(plain(black_box(&input.bytes)));
             },
         ),
     );
 }
 
-fn grade(table: &mut Table, input: &Input, rounds: usize) {
+fn grade(table: &mut Table, cycle: Cycle, input: &Input, rounds: usize) {
+    let plain = match cycle {
+        Cycle::TwoRound => fast::grade,
+        Cycle::SixRound => fast::grade_six,
+    };
     let mut grades = [0u16; 4];
     table.row(
-        &format!("grade, {}", input.what),
+        &format!("grade{}, {}", of(cycle), input.what),
         rounds,
         times(
             || {
-                black_box(checks::grade(black_box(&input.bytes), &mut grades));
+                black_box(checks::grade_in(cycle, black_box(&input.bytes), &mut grades));
             },
             || {
-                black_box(fast::grade(black_box(&input.bytes)).ok());
+                black_box(plain(black_box(&input.bytes)).ok());
             },
         ),
     );
@@ -175,32 +191,45 @@ fn write(table: &mut Table, input: &Input, plain: &Plain) {
 /// Running, grading, reading and writing one recording.
 fn recording(table: &mut Table, input: &Input) {
     let plain = fast::read(&input.bytes).expect("an accepted recording");
-    run(table, input, plain.rounds);
-    grade(table, input, plain.rounds);
+    run(table, Cycle::TwoRound, input, plain.rounds);
+    grade(table, Cycle::TwoRound, input, plain.rounds);
     read(table, input, plain.rounds);
     write(table, input, &plain);
 }
 
+/// Running and grading one in the six-round cycle.
+fn recording_of_six(table: &mut Table, input: &Input) {
+    let rounds = fast::check(&input.bytes).expect("an accepted recording").rounds;
+    run(table, Cycle::SixRound, input, rounds);
+    grade(table, Cycle::SixRound, input, rounds);
+}
+
 /// One step, bytes to bytes on both sides; and beside plain Rust's step of a record that needs no bytes. The record is copied for each call.
 fn step(table: &mut Table, input: &Step) {
+    let cycle = input.cycle;
+    let plain = match cycle {
+        Cycle::TwoRound => fast::step,
+        Cycle::SixRound => fast::step_six,
+    };
+    let plain_on_bytes: fn(&mut [u8], &[u32]) -> u8 = match cycle {
+        Cycle::TwoRound => fast::step_bytes,
+        Cycle::SixRound => fast::step_bytes_six,
+    };
+    let what = format!("step{}, {}", of(cycle), input.what);
     let record = record_bytes(&input.fleet);
     let ours = || {
         let mut d = record;
-        black_box(checks::step(black_box(&mut d), &input.words));
+        black_box(checks::step_in(cycle, black_box(&mut d), &input.words));
     };
     let on_bytes = || {
         let mut d = record;
-        black_box(fast::step_bytes(black_box(&mut d), &input.words));
+        black_box(plain_on_bytes(black_box(&mut d), &input.words));
     };
-    table.row(&format!("step, {}", input.what), 1, times(ours, on_bytes));
+    table.row(&what, 1, times(ours, on_bytes));
     let on_record = || {
-        black_box(fast::step(black_box(&input.fleet), &input.words));
+        black_box(plain(black_box(&input.fleet), &input.words));
     };
-    table.row(
-        &format!("step, {}, plain Rust without bytes", input.what),
-        1,
-        times(ours, on_record),
-    );
+    table.row(&format!("{what}, plain Rust without bytes"), 1, times(ours, on_record));
 }
 
 /// Where an own loss bit is: of a recording, of its rounds in plain form, and of the last of them.
@@ -265,6 +294,8 @@ fn main() {
     let mut recordings = inputs::largest();
     recordings.extend(inputs::sizes());
     let steps = inputs::steps();
+    let six = inputs::six();
+    let steps_of_six = inputs::steps_of_six();
     let own_bit = inputs::own_bit_at_the_end();
     let mut table = Table::default();
     for _ in 0..5 {
@@ -273,6 +304,8 @@ fn main() {
         steps.iter().for_each(|input| step(&mut table, input));
         opening(&mut table);
         own_loss(&mut table, &own_bit);
+        six.iter().for_each(|input| recording_of_six(&mut table, input));
+        steps_of_six.iter().for_each(|input| step(&mut table, input));
     }
     table.print();
 }

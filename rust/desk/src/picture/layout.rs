@@ -2,6 +2,8 @@
 
 use crate::story::Story;
 
+use super::summary;
+
 /// The free edge of the picture.
 pub const MARGIN: i32 = 16;
 /// The width of the column with the openings.
@@ -82,8 +84,10 @@ impl Layout {
     pub fn of(story: &Story) -> Layout {
         let scale = Scale::of(story.openings.len(), story.rounds.len());
         let (trucks, rounds) = (story.openings.len() as i32, story.rounds.len() as i32);
-        let width = 2 * MARGIN + NAMES + OPENING + rounds * scale.cell + ENDS;
-        Layout { scale, width: width.max(LEAST_WIDTH), rows_top: 138, trucks, rounds }
+        let columns = 2 * MARGIN + NAMES + OPENING + rounds * scale.cell + ENDS;
+        let summary = 2 * MARGIN + text_width(&summary(story), 12);
+        let width = columns.max(summary).max(LEAST_WIDTH);
+        Layout { scale, width, rows_top: 138, trucks, rounds }
     }
 
     /// The left edge of the column of openings.

@@ -55,6 +55,7 @@ fn title(story: &Story) -> String {
     format!("{}, {}", counted(story.openings.len(), "truck"), counted(story.rounds.len(), "round"))
 }
 
+/// Who ended how, and what was sent, missed and marked: one line, which the picture is wide enough for.
 fn summary(story: &Story) -> String {
     let counts = counts(story);
     let running = story.openings.len() - counts.decided - counts.stopped;

@@ -10,7 +10,7 @@ use std::process::ExitCode;
 
 use desk::command::{answer, parse, Request, DONE, FAILED, REFUSED, USAGE, USAGE_TEXT};
 use desk::explain::MOST_READ;
-use desk::record::{recorded, MOST_TEXT};
+use desk::record::{recorded_in, MOST_TEXT};
 
 fn main() -> ExitCode {
     let arguments: Vec<OsString> = std::env::args_os().skip(1).collect();
@@ -20,19 +20,19 @@ fn main() -> ExitCode {
             USAGE
         }
         Ok(Request::Say(text)) => print(text.as_bytes(), DONE),
-        Ok(Request::Show(view, file)) => match input(file.as_deref(), MOST_READ) {
+        Ok(Request::Show(view, cycle, file)) => match input(file.as_deref(), MOST_READ) {
             None => FAILED,
             Some(bytes) => {
-                let shown = answer(view, &bytes);
+                let shown = answer(view, cycle, &bytes);
                 if !shown.err.is_empty() {
                     complain(&shown.err);
                 }
                 print(shown.out.as_bytes(), shown.status)
             }
         },
-        Ok(Request::Record(file)) => match input(file.as_deref(), MOST_TEXT + 1) {
+        Ok(Request::Record(cycle, file)) => match input(file.as_deref(), MOST_TEXT + 1) {
             None => FAILED,
-            Some(text) => match recorded(&text) {
+            Some(text) => match recorded_in(cycle, &text) {
                 Ok(recording) => print(&recording, DONE),
                 Err(wrong) => {
                     complain(&format!("{wrong}\n"));

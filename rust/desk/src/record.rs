@@ -2,7 +2,7 @@
 
 use std::fmt;
 
-use rajvokshul::{Fleet, Recorder, Refusal, Round};
+use rajvokshul::{Cycle, Fleet, Recorder, Refusal, Round};
 
 /// A longer text is refused. 400 rounds in which each of 32 trucks misses every other take less than a sixth of it.
 pub const MOST_TEXT: usize = 1 << 24;
@@ -25,8 +25,14 @@ impl fmt::Display for Wrong {
     }
 }
 
-/// The recording of a text: a line `start` with an opening for each truck, then a line `round` for each round.
+/// The recording of a text: a line `start` with an opening for each truck, then a line `round` for each round. The fleet is
+/// stepped in the two-round cycle.
 pub fn recorded(text: &[u8]) -> Result<Vec<u8>, Wrong> {
+    recorded_in(Cycle::TwoRound, text)
+}
+
+/// [`recorded`] of a fleet that is stepped in a cycle.
+pub fn recorded_in(cycle: Cycle, text: &[u8]) -> Result<Vec<u8>, Wrong> {
     let whole = |what: &str| Wrong { line: None, what: what.to_string() };
     if text.len() > MOST_TEXT {
         return Err(whole("the text is longer than 16 MiB"));
@@ -36,16 +42,20 @@ pub fn recorded(text: &[u8]) -> Result<Vec<u8>, Wrong> {
         let told = line.split('#').next().unwrap_or_default();
         let words: Vec<&str> = told.split_whitespace().collect();
         let wrong = |what| Wrong { line: Some(index + 1), what };
-        recorder = taken(recorder, &words).map_err(wrong)?;
+        recorder = taken(cycle, recorder, &words).map_err(wrong)?;
     }
     Ok(recorder.ok_or_else(|| whole("there is no line start"))?.recording())
 }
 
 /// The recorder after one line, or what is wrong with the line.
-fn taken(recorder: Option<Recorder>, words: &[&str]) -> Result<Option<Recorder>, String> {
+fn taken(
+    cycle: Cycle,
+    recorder: Option<Recorder>,
+    words: &[&str],
+) -> Result<Option<Recorder>, String> {
     match (words, recorder) {
         ([], recorder) => Ok(recorder),
-        (["start", openings @ ..], None) => start(openings).map(Some),
+        (["start", openings @ ..], None) => start(cycle, openings).map(Some),
         (["start", ..], Some(_)) => Err("the fleet is started already".to_string()),
         (["round", ..], None) => Err("a line start comes before the first round".to_string()),
         (["round", bits @ ..], Some(mut recorder)) => {
@@ -57,10 +67,10 @@ fn taken(recorder: Option<Recorder>, words: &[&str]) -> Result<Option<Recorder>,
     }
 }
 
-fn start(openings: &[&str]) -> Result<Recorder, String> {
+fn start(cycle: Cycle, openings: &[&str]) -> Result<Recorder, String> {
     let crusher = |word: &&str| Ok(u8::try_from(number(word)?).unwrap_or(u8::MAX));
     let openings = openings.iter().map(crusher).collect::<Result<Vec<u8>, String>>()?;
-    Recorder::start(&openings).map_err(|refusal| refusal.to_string())
+    Recorder::start_in(cycle, &openings).map_err(|refusal| refusal.to_string())
 }
 
 /// The next round of a fleet, which the words after `round` tell of.

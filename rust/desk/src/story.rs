@@ -1,42 +1,27 @@
 //! What happened in each round of a recording, truck by truck.
 //!
-//! [`Answers::ask`] collects what the proved calls answer of a recording. [`Answers::story`] derives who sent, heard and
-//! missed what from the plain form and the records before each round, by the rules of the scope paper, and holds what it
-//! derived against the record after the round, the proved grades and the record of the whole run.
+//! [`Answers::ask`] collects what the proved calls answer of a recording in a cycle. [`Answers::story`] derives who sent,
+//! heard and missed what from the plain form and the records before each round, by the rules of the scope paper and, in six
+//! rounds, of request F-4, and holds what it derived against the record after the round, the proved grades and the record of
+//! the whole run.
 
 use std::fmt;
 
-use rajvokshul::{grade, read, Fleet, Grades, Heard, Plain, Refusal, Sent, State, Truck};
+use rajvokshul::{
+    grade_in, read, Cycle, Fleet, Grades, Heard, Plain, Refusal, RoundKind, Sent, State, Truck,
+};
 
 use crate::trucks::TruckSet;
 use crate::verdict;
 
-/// Odd rounds are for proposals, even rounds for vetoes.
-#[derive(Clone, Copy, Debug, PartialEq, Eq)]
-pub enum Kind {
-    /// A round in which active trucks send their estimates.
-    Proposal,
-    /// A round in which trucks that had a mark or heard several values send a veto.
-    Veto,
-}
-
-impl Kind {
-    /// The kind of round `number`.
-    pub fn of(number: u16) -> Kind {
-        if number % 2 == 1 {
-            Kind::Proposal
-        } else {
-            Kind::Veto
-        }
-    }
-}
-
 /// What a truck sent.
 #[derive(Clone, Copy, Debug, PartialEq, Eq)]
 pub enum Message {
-    /// Its estimate, in a proposal round.
+    /// Its estimate, in a proposal round or in prepare.
     Value(u8),
-    /// A veto, in a veto round.
+    /// That the round's bit of its estimate is 1, in a bit round.
+    Bit,
+    /// A veto, in a veto round or in accept.
     Veto,
 }
 
@@ -61,8 +46,17 @@ pub struct Turn {
     pub before: u8,
     /// Its estimate after the round.
     pub after: u8,
+    /// Whether it becomes unwilling in this round, which is a bit round: it was willing, and listened.
+    pub becomes_unwilling: bool,
     /// Whether it decides its estimate at the end of this round.
     pub decides: bool,
+}
+
+impl Turn {
+    /// Whether it hears a message or has a mark.
+    fn notices(&self) -> bool {
+        self.marked || !self.heard.is_empty()
+    }
 }
 
 /// One round.
@@ -70,6 +64,8 @@ pub struct Turn {
 pub struct Round {
     /// Its number, counted from 1.
     pub number: u16,
+    /// What it is for.
+    pub kind: RoundKind,
     /// Who sends in it; the number of messages is the size of this set.
     pub senders: TruckSet,
     /// A turn for each truck.
@@ -77,9 +73,19 @@ pub struct Round {
 }
 
 impl Round {
-    /// Whether it is a proposal or a veto round.
-    pub fn kind(&self) -> Kind {
-        Kind::of(self.number)
+    /// It with its number, and in six rounds with its name too: `round 4`, `round 4 (bit 2)`.
+    pub fn named(&self) -> String {
+        match self.kind {
+            RoundKind::Proposals | RoundKind::Vetoes => format!("round {}", self.number),
+            RoundKind::Prepare | RoundKind::Bit(_) | RoundKind::Accept => {
+                format!("round {} ({})", self.number, self.kind)
+            }
+        }
+    }
+
+    /// Whether active trucks send their estimates in it: it is for proposals, or prepare.
+    pub fn is_for_estimates(&self) -> bool {
+        matches!(self.kind, RoundKind::Proposals | RoundKind::Prepare)
     }
 
     /// The trucks that run after its stops.
@@ -96,6 +102,8 @@ impl Round {
 /// What happened in a recording.
 #[derive(Clone, Debug, PartialEq, Eq)]
 pub struct Story {
+    /// The cycle of rounds by which it is told.
+    pub cycle: Cycle,
     /// The crusher that each truck opened with.
     pub openings: Vec<u8>,
     /// The rounds in their order.
@@ -139,9 +147,11 @@ pub(crate) fn hold(holds: bool, what: impl FnOnce() -> String) -> Result<(), Fai
     }
 }
 
-/// What the proved calls answer of one recording.
+/// What the proved calls answer of one recording in one cycle.
 #[derive(Clone, Debug, PartialEq, Eq)]
 pub struct Answers {
+    /// The cycle.
+    pub cycle: Cycle,
     /// The recording in plain form.
     pub plain: Plain,
     /// The record before round 1, and after each round, by starting and stepping.
@@ -152,14 +162,19 @@ pub struct Answers {
     pub grades: Grades,
 }
 
-/// What happened in a recording, or why it cannot be told.
+/// What happened in a recording in the two-round cycle, or why it cannot be told.
 pub fn tell(recording: &[u8]) -> Result<Story, Failure> {
-    Answers::ask(recording)?.story()
+    tell_in(Cycle::TwoRound, recording)
+}
+
+/// [`tell`] in a cycle.
+pub fn tell_in(cycle: Cycle, recording: &[u8]) -> Result<Story, Failure> {
+    Answers::ask(cycle, recording)?.story()
 }
 
 impl Answers {
     /// Asks the proved calls.
-    pub fn ask(recording: &[u8]) -> Result<Answers, Failure> {
+    pub fn ask(cycle: Cycle, recording: &[u8]) -> Result<Answers, Failure> {
         let plain = read(recording)?;
         let accepted = |refusal: Refusal| {
             Failure::Contradiction(format!("the recording is read, but not played: {refusal}"))
@@ -168,12 +183,12 @@ impl Answers {
         let mut fleet = Fleet::start(trucks as u32, &plain.openings).map_err(accepted)?;
         let mut records = vec![fleet.clone()];
         for words in plain.words.chunks_exact(3 + trucks) {
-            fleet.step(words).map_err(accepted)?;
+            fleet.step_in(cycle, words).map_err(accepted)?;
             records.push(fleet.clone());
         }
-        let ran = Fleet::run(recording).map_err(accepted)?;
-        let grades = grade(recording).map_err(accepted)?;
-        Ok(Answers { plain, records, ran, grades })
+        let ran = Fleet::run_in(cycle, recording).map_err(accepted)?;
+        let grades = grade_in(cycle, recording).map_err(accepted)?;
+        Ok(Answers { cycle, plain, records, ran, grades })
     }
 
     /// Derives what happened and holds it against the answers.
@@ -188,7 +203,7 @@ impl Answers {
         let mut rounds = Vec::new();
         for (words, record) in self.plain.words.chunks_exact(3 + count).zip(&self.records[1..]) {
             let number = rounds.len() as u16 + 1;
-            let round = derive(number, words, &before);
+            let round = derive(self.cycle, number, words, &before);
             before = (0..count).map(|i| after(&before, &round, i)).collect();
             agree(&before, number, record)?;
             rounds.push(round);
@@ -199,7 +214,8 @@ impl Answers {
         hold(self.records.last() == Some(&self.ran), || {
             "stepping and running do not end in the same record".to_string()
         })?;
-        let story = Story { openings, rounds, end: before, grades: self.grades };
+        let (cycle, grades) = (self.cycle, self.grades);
+        let story = Story { cycle, openings, rounds, end: before, grades };
         verdict::hold_against_proofs(&story)?;
         Ok(story)
     }
@@ -238,17 +254,22 @@ fn agree(derived: &[Truck], number: u16, record: &Fleet) -> Result<(), Failure> 
 }
 
 /// A round by its words and the trucks before it.
-fn derive(number: u16, words: &[u32], before: &[Truck]) -> Round {
-    let count = before.len();
+fn derive(cycle: Cycle, number: u16, words: &[u32], before: &[Truck]) -> Round {
+    let (count, kind) = (before.len(), cycle.round_kind(number));
     let was_running = TruckSet::of(count, |i| before[i].state == State::Running);
     let stops = TruckSet(was_running.0 & words[0]);
     let runs = TruckSet(was_running.0 & !words[0]);
-    let message = |i: usize| match Kind::of(number) {
-        _ if !runs.has(i) => None,
-        Kind::Proposal => (words[1] >> i & 1 == 1).then_some(Message::Value(before[i].estimate)),
-        Kind::Veto => {
-            (before[i].mark || before[i].heard == Heard::Several).then_some(Message::Veto)
-        }
+    let message = |i: usize| {
+        let truck = &before[i];
+        let (sends, message) = match kind {
+            RoundKind::Proposals | RoundKind::Prepare => {
+                (words[1] >> i & 1 == 1, Message::Value(truck.estimate))
+            }
+            RoundKind::Vetoes => (truck.mark || truck.heard == Heard::Several, Message::Veto),
+            RoundKind::Bit(worth) => (truck.estimate & worth != 0, Message::Bit),
+            RoundKind::Accept => (truck.unwilling, Message::Veto),
+        };
+        (runs.has(i) && sends).then_some(message)
     };
     let senders = TruckSet::of(count, |i| message(i).is_some());
     let turns = (0..count).map(|i| {
@@ -266,60 +287,80 @@ fn derive(number: u16, words: &[u32], before: &[Truck]) -> Round {
             false_mark: marked && missed.is_empty(),
             before: before[i].estimate,
             after: before[i].estimate,
+            becomes_unwilling: false,
             decides: false,
         };
-        concluded(turn, Kind::of(number), before, i)
+        concluded(turn, kind, before, i)
     });
-    Round { number, senders, turns: turns.collect() }
+    Round { number, kind, senders, turns: turns.collect() }
 }
 
-/// A turn with what comes of it: a new estimate after a proposal round, a decision after a veto round.
-fn concluded(turn: Turn, kind: Kind, before: &[Truck], i: usize) -> Turn {
-    if !turn.runs || turn.marked {
+/// A turn with what comes of it: a new estimate where estimates are sent, unwillingness after a bit round, a decision after
+/// the last round of a cycle.
+fn concluded(turn: Turn, kind: RoundKind, before: &[Truck], i: usize) -> Turn {
+    if !turn.runs {
         return turn;
     }
+    let truck = &before[i];
     match kind {
-        Kind::Proposal => {
+        RoundKind::Proposals | RoundKind::Prepare if turn.marked => turn,
+        RoundKind::Proposals | RoundKind::Prepare => {
             let least = turn.heard.iter().map(|j| before[j].estimate).min();
             Turn { after: least.unwrap_or(turn.before), ..turn }
         }
-        Kind::Veto => {
-            let one_value = before[i].heard == Heard::One;
-            Turn { decides: turn.heard.is_empty() && one_value, ..turn }
+        RoundKind::Bit(_) => {
+            let listened = turn.sent.is_none();
+            Turn { becomes_unwilling: !truck.unwilling && listened && turn.notices(), ..turn }
+        }
+        RoundKind::Vetoes => Turn { decides: !turn.notices() && truck.heard == Heard::One, ..turn },
+        RoundKind::Accept => Turn { decides: !turn.notices() && !truck.unwilling, ..turn },
+    }
+}
+
+/// What a truck has sent after one more round: proposals and vetoes of two rounds are counted, and nothing of six.
+fn counted(before: Sent, kind: RoundKind, sends: bool) -> Sent {
+    let one = u8::from(sends);
+    match kind {
+        RoundKind::Proposals => Sent { proposals: before.proposals + one, ..before },
+        RoundKind::Vetoes => Sent { vetoes: before.vetoes + one, ..before },
+        RoundKind::Prepare | RoundKind::Bit(_) | RoundKind::Accept => before,
+    }
+}
+
+/// Truck `i` after a round, from the trucks before it. What belongs to the other cycle is left as it was.
+fn after(before: &[Truck], round: &Round, i: usize) -> Truck {
+    let (turn, was) = (&round.turns[i], before[i]);
+    let state = match turn {
+        Turn { stops: true, .. } => State::Stopped(round.number),
+        Turn { decides: true, .. } => State::Decided(round.number),
+        _ => was.state,
+    };
+    let sent = counted(was.sent, round.kind, turn.sent.is_some());
+    let truck = Truck { estimate: turn.after, state, sent, ..was };
+    match round.kind {
+        RoundKind::Proposals if turn.runs => {
+            Truck { mark: turn.marked, heard: values(before, turn), ..truck }
+        }
+        RoundKind::Proposals | RoundKind::Vetoes => {
+            Truck { mark: false, heard: Heard::Nothing, ..truck }
+        }
+        RoundKind::Bit(_) if turn.runs => {
+            Truck { unwilling: was.unwilling || turn.becomes_unwilling, ..truck }
+        }
+        RoundKind::Prepare | RoundKind::Bit(_) | RoundKind::Accept => {
+            Truck { unwilling: false, ..truck }
         }
     }
 }
 
-/// What a truck has sent after one more round.
-fn counted(before: Sent, message: Option<Message>) -> Sent {
-    match message {
-        None => before,
-        Some(Message::Value(_)) => Sent { proposals: before.proposals + 1, ..before },
-        Some(Message::Veto) => Sent { vetoes: before.vetoes + 1, ..before },
-    }
-}
-
-/// Truck `i` after a round, from the trucks before it.
-fn after(before: &[Truck], round: &Round, i: usize) -> Truck {
-    let turn = &round.turns[i];
-    let truck = Truck { sent: counted(before[i].sent, turn.sent), ..before[i] };
-    let rest = Truck { mark: false, heard: Heard::Nothing, ..truck };
-    if turn.stops {
-        return Truck { state: State::Stopped(round.number), ..rest };
-    }
-    if turn.decides {
-        return Truck { state: State::Decided(round.number), ..rest };
-    }
-    if !turn.runs || round.kind() == Kind::Veto {
-        return rest;
-    }
+/// How many different values are heard in a turn.
+fn values(before: &[Truck], turn: &Turn) -> Heard {
     let mut values: Vec<u8> = turn.heard.iter().map(|j| before[j].estimate).collect();
     values.sort_unstable();
     values.dedup();
-    let heard = match values.len() {
+    match values.len() {
         0 => Heard::Nothing,
         1 => Heard::One,
         _ => Heard::Several,
-    };
-    Truck { estimate: turn.after, mark: turn.marked, heard, ..truck }
+    }
 }

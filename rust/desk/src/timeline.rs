@@ -1,19 +1,18 @@
 //! The text of `desk timeline`.
 
-use rajvokshul::Truck;
+use rajvokshul::{Cycle, RoundKind, Truck};
 
-use crate::story::{Kind, Message, Round, Story, Turn};
+use crate::story::{Message, Round, Story, Turn};
 use crate::trucks::{counted, messages, TruckSet};
 use crate::verdict::{counts, sentences, Breaks, Counts};
 
-/// The whole run in words: openings, each round truck by truck, how much each sent, and the verdict.
+/// The whole run in words: openings, each round truck by truck, in two rounds how much each sent, and the verdict.
 pub fn timeline(story: &Story) -> String {
-    let (trucks, rounds) = (story.openings.len(), story.rounds.len());
-    let mut text = format!("{}, {}\n\n", counted(trucks, "truck"), counted(rounds, "round"));
+    let mut text = format!("{}\n\n", size_text(story));
     for (truck, opening) in story.openings.iter().enumerate() {
         text += &format!("truck {truck} opens with crusher {opening}\n");
     }
-    if rounds > 0 {
+    if !story.rounds.is_empty() {
         text += "\n";
     }
     let mut next = 0;
@@ -26,12 +25,24 @@ pub fn timeline(story: &Story) -> String {
         }
         next += idle.max(1);
     }
-    text += &totals_text(story);
+    if story.cycle == Cycle::TwoRound {
+        text += &totals_text(story);
+    }
     text += "\nverdict\n";
     for sentence in sentences(story) {
         text += &format!("  {sentence}\n");
     }
     text
+}
+
+/// How many trucks and rounds there are, and the cycle where it is the six-round one.
+pub fn size_text(story: &Story) -> String {
+    let (trucks, rounds) = (story.openings.len(), story.rounds.len());
+    let size = format!("{}, {}", counted(trucks, "truck"), counted(rounds, "round"));
+    match story.cycle {
+        Cycle::TwoRound => size,
+        Cycle::SixRound => size + " in the six-round cycle",
+    }
 }
 
 /// Whether no truck runs or stops in a round.
@@ -49,16 +60,21 @@ fn idle_text(first: u16, count: usize) -> String {
 
 /// A line for the round and one for each truck that runs or stops in it.
 fn round_text(round: &Round) -> String {
-    let kind = match round.kind() {
-        Kind::Proposal => "proposal",
-        Kind::Veto => "veto",
+    let message = match round.kind {
+        RoundKind::Proposals => "proposal",
+        RoundKind::Prepare => "estimate",
+        RoundKind::Bit(_) => "message",
+        RoundKind::Vetoes | RoundKind::Accept => "veto",
+    };
+    let name = match round.kind {
+        RoundKind::Proposals | RoundKind::Vetoes => format!("{} ({message})", round.named()),
+        RoundKind::Prepare | RoundKind::Bit(_) | RoundKind::Accept => round.named(),
     };
     let mut text = format!(
-        "round {} ({kind}): {} of {} running, {} sent",
-        round.number,
+        "{name}: {} of {} running, {} sent",
         round.running().count(),
         round.turns.len(),
-        counted(round.senders.count(), kind)
+        counted(round.senders.count(), message)
     );
     if !round.senders.is_empty() {
         text += &format!(" ({})", round.senders.named());
@@ -108,11 +124,13 @@ pub fn sent_text(sent: Option<Message>) -> String {
     match sent {
         None => "silent".to_string(),
         Some(Message::Value(value)) => format!("sent {value}"),
+        Some(Message::Bit) => "sent".to_string(),
         Some(Message::Veto) => "vetoed".to_string(),
     }
 }
 
-/// What a running truck heard and missed, its mark, which classes it breaks, and its decision.
+/// What a running truck heard and missed, its mark, which classes it breaks, whether and on what it became unwilling, and its
+/// decision.
 pub fn fate_text(round: &Round, turn: &Turn) -> String {
     let mut parts = vec![heard_text(round.senders, turn)];
     if turn.false_mark {
@@ -123,6 +141,14 @@ pub fn fate_text(round: &Round, turn: &Turn) -> String {
     let broken = Breaks::of(turn, round.senders.count()).names();
     if !broken.is_empty() {
         parts.push(format!("breaks {}", broken.join(", ")));
+    }
+    if turn.becomes_unwilling {
+        let noticed = match (turn.heard.is_empty(), turn.marked) {
+            (false, false) => "a message",
+            (false, true) => "a message and a mark",
+            (true, _) => "a mark",
+        };
+        parts.push(format!("became unwilling on {noticed}"));
     }
     if turn.decides {
         parts.push(format!("decided {}", turn.after));

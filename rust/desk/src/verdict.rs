@@ -1,8 +1,8 @@
 //! What a run came to: grades, calm, counts and the closing sentences.
 
-use rajvokshul::{Grades, State};
+use rajvokshul::{Cycle, Grades, RoundKind, State};
 
-use crate::story::{hold, Failure, Kind, Message, Round, Story, Turn};
+use crate::story::{hold, Failure, Round, Story, Turn};
 use crate::trucks::{counted, TruckSet};
 
 /// The classes of marks that one truck breaks in one round.
@@ -68,7 +68,7 @@ pub fn grades_of(rounds: &[Round]) -> Grades {
 pub struct Weak {
     /// Its number.
     pub round: u16,
-    /// What its marks are not: majority complete in an odd round, zero complete in an even one.
+    /// What its marks are not: majority complete in a round for proposals, zero complete in any other.
     pub class: &'static str,
     /// The trucks that lack a mark.
     pub trucks: TruckSet,
@@ -77,16 +77,19 @@ pub struct Weak {
 /// The first round whose marks are less than agreement asks for. Where there is none, agreement was guaranteed.
 pub fn first_weak(rounds: &[Round]) -> Option<Weak> {
     rounds.iter().find_map(|round| {
-        let (class, trucks) = match round.kind() {
-            Kind::Proposal => ("majority complete", breaking(round, |b| b.majority)),
-            Kind::Veto => ("zero complete", breaking(round, |b| b.zero)),
+        let (class, trucks) = match round.kind {
+            RoundKind::Proposals => ("majority complete", breaking(round, |b| b.majority)),
+            RoundKind::Vetoes | RoundKind::Prepare | RoundKind::Bit(_) | RoundKind::Accept => {
+                ("zero complete", breaking(round, |b| b.zero))
+            }
         };
         (!trucks.is_empty()).then_some(Weak { round: round.number, class, trucks })
     })
 }
 
-/// The rounds that let the fine detector rest: in even ones agreement asks for no more than zero complete marks. Even rounds
-/// in which no truck runs, and so no detector is used, are left out.
+/// The rounds that let the fine detector rest in the two-round cycle: in even ones agreement asks for no more than zero
+/// complete marks. Even rounds in which no truck runs, and so no detector is used, are left out. The six-round cycle needs no
+/// fine detector at all.
 #[derive(Clone, Debug, Default, PartialEq, Eq)]
 pub struct Resting {
     /// Their numbers.
@@ -98,7 +101,7 @@ pub struct Resting {
 /// The rounds of a run that let the fine detector rest.
 pub fn resting(rounds: &[Round]) -> Resting {
     let numbers = |of: fn(&Round) -> bool| {
-        let vetoes = rounds.iter().filter(|round| round.kind() == Kind::Veto);
+        let vetoes = rounds.iter().filter(|round| round.kind == RoundKind::Vetoes);
         vetoes.filter(|round| of(round)).map(|round| round.number).collect()
     };
     Resting {
@@ -109,36 +112,41 @@ pub fn resting(rounds: &[Round]) -> Resting {
     }
 }
 
-/// Five rounds that are calm from `from` with `senders` (the paper's S and b).
+/// Rounds that are calm from `from` with `senders` (the paper's S and b): five, or eleven in the six-round cycle.
 #[derive(Clone, Copy, Debug, PartialEq, Eq)]
 pub struct Calm {
-    /// The first of the five rounds.
+    /// The first of these rounds.
     pub from: u16,
+    /// The last of them.
+    pub last: u16,
     /// The least b for which they are calm.
     pub senders: usize,
 }
 
-impl Calm {
-    /// The last of the five rounds.
-    pub fn last(self) -> u16 {
-        self.from + 4
+/// How many rounds are calm together, in a number and in words.
+fn calm_rounds(cycle: Cycle) -> (usize, &'static str) {
+    match cycle {
+        Cycle::TwoRound => (5, "five"),
+        Cycle::SixRound => (11, "eleven"),
     }
 }
 
-/// The first five calm rounds, with the least b.
-pub fn first_calm(rounds: &[Round]) -> Option<Calm> {
-    rounds.windows(5).find_map(|five| {
-        let senders = calm_senders(five)?;
-        Some(Calm { from: five[0].number, senders })
+/// The first calm rounds, with the least b.
+pub fn first_calm(story: &Story) -> Option<Calm> {
+    let (count, _) = calm_rounds(story.cycle);
+    story.rounds.windows(count).find_map(|calm| {
+        let senders = calm_senders(calm)?;
+        let from = calm[0].number;
+        Some(Calm { from, last: from + count as u16 - 1, senders })
     })
 }
 
 /// The least b for which rounds are calm. A larger b asks for more rounds heard in full, so if any b will do, then the
-/// least one that lets the proposal rounds have their senders.
+/// least one that lets the rounds in which estimates are sent have their senders.
 fn calm_senders(rounds: &[Round]) -> Option<usize> {
-    let proposals =
-        rounds.iter().filter(|round| round.kind() == Kind::Proposal && !round.running().is_empty());
-    let senders: Vec<usize> = proposals.map(|round| round.senders.count()).collect();
+    let asked =
+        rounds.iter().filter(|round| round.is_for_estimates() && !round.running().is_empty());
+    let senders: Vec<usize> = asked.map(|round| round.senders.count()).collect();
     let b = senders.iter().copied().max().unwrap_or(0);
     let calm = |round: &Round| {
         let few = (1..=b).contains(&round.senders.count());
@@ -148,7 +156,7 @@ fn calm_senders(rounds: &[Round]) -> Option<usize> {
 }
 
 /// Holds the derived grades against the proved ones, and the end against what is proved of every run: where no round is weak
-/// decided trucks agree, and hold an opening; and after five calm rounds no truck runs.
+/// decided trucks agree, and hold an opening; and after the calm rounds no truck runs.
 pub fn hold_against_proofs(story: &Story) -> Result<(), Failure> {
     let derived = grades_of(&story.rounds);
     hold(derived == story.grades, || {
@@ -163,17 +171,17 @@ pub fn hold_against_proofs(story: &Story) -> Result<(), Failure> {
             format!("{} decided crusher {crusher}, with which none opened", trucks.named())
         })?;
     }
-    if let Some(calm) = first_calm(&story.rounds) {
+    if let Some(calm) = first_calm(story) {
         let ended = story.end.iter().all(|truck| match truck.state {
             State::Running => false,
-            State::Stopped(round) | State::Decided(round) => round <= calm.last(),
+            State::Stopped(round) | State::Decided(round) => round <= calm.last,
         });
         hold(ended, || format!("a truck runs on after the calm rounds from {}", calm.from))?;
     }
     Ok(())
 }
 
-/// How often each thing happened.
+/// How often each thing happened. Proposals and vetoes are those of the two-round cycle.
 #[derive(Clone, Copy, Debug, Default, PartialEq, Eq)]
 pub struct Counts {
     /// Proposals sent.
@@ -195,12 +203,14 @@ pub struct Counts {
 /// Counts a story.
 pub fn counts(story: &Story) -> Counts {
     let mut counts = Counts::default();
-    for turn in story.rounds.iter().flat_map(|round| &round.turns) {
-        match turn.sent {
-            Some(Message::Value(_)) => counts.proposals += 1,
-            Some(Message::Veto) => counts.vetoes += 1,
-            None => {}
+    for round in &story.rounds {
+        match round.kind {
+            RoundKind::Proposals => counts.proposals += round.senders.count(),
+            RoundKind::Vetoes => counts.vetoes += round.senders.count(),
+            RoundKind::Prepare | RoundKind::Bit(_) | RoundKind::Accept => {}
         }
+    }
+    for turn in story.rounds.iter().flat_map(|round| &round.turns) {
         counts.missed += turn.missed.count();
         counts.marks += usize::from(turn.marked);
         counts.false_marks += usize::from(turn.false_mark);
@@ -222,7 +232,7 @@ pub fn decided_crushers(story: &Story) -> Vec<(u8, TruckSet)> {
 }
 
 /// The closing sentences: whether the marks guaranteed agreement, in which rounds the fine detector may rest if there are such,
-/// what was decided, and whether five rounds were calm.
+/// what was decided, and whether there were calm rounds.
 pub fn sentences(story: &Story) -> Vec<String> {
     let mut said = vec![agreement_sentence(story)];
     said.extend(resting_sentence(story));
@@ -232,9 +242,12 @@ pub fn sentences(story: &Story) -> Vec<String> {
 
 fn agreement_sentence(story: &Story) -> String {
     let Some(weak) = first_weak(&story.rounds) else {
-        let worth = match story.grades.majority {
-            0 => "majority complete in every round",
-            _ => "majority complete in odd rounds and zero complete in even ones",
+        let worth = match (story.cycle, story.grades.majority) {
+            (Cycle::TwoRound, 0) => "majority complete in every round",
+            (Cycle::TwoRound, _) => {
+                "majority complete in odd rounds and zero complete in even ones"
+            }
+            (Cycle::SixRound, _) => "zero complete in every round",
         };
         return format!("Agreement was guaranteed: marks were {worth}.");
     };
@@ -252,9 +265,9 @@ fn agreement_sentence(story: &Story) -> String {
         })
         .collect();
     format!(
-        "Agreement was not guaranteed: marks were not {} in round {}, where without a mark {}.",
+        "Agreement was not guaranteed: marks were not {} in {}, where without a mark {}.",
         weak.class,
-        weak.round,
+        round.named(),
         parts.join(", ")
     )
 }
@@ -323,13 +336,17 @@ fn others(story: &Story) -> String {
 }
 
 fn calm_sentence(story: &Story) -> String {
-    let Some(calm) = first_calm(&story.rounds) else {
-        return "No five rounds in a row were calm.".to_string();
+    let Some(Calm { from, last, senders }) = first_calm(story) else {
+        let (_, count) = calm_rounds(story.cycle);
+        return format!("No {count} rounds in a row were calm.");
     };
-    let how = match calm.senders {
-        0 => "as no truck runs in a proposal round of these".to_string(),
-        b => format!("with at most {} in a proposal round", counted(b, "sender")),
+    let asked = match story.cycle {
+        Cycle::TwoRound => "proposal",
+        Cycle::SixRound => "prepare",
     };
-    let (from, last) = (calm.from, calm.last());
+    let how = match senders {
+        0 => format!("as no truck runs in a {asked} round of these"),
+        b => format!("with at most {} in a {asked} round", counted(b, "sender")),
+    };
     format!("Rounds {from} to {last} are calm, {how}: every truck has decided or stopped by round {last}.")
 }

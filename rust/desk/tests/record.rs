@@ -4,8 +4,9 @@
 use std::io::Write;
 use std::process::{Command, Output, Stdio};
 
-use desk::record::{recorded, MOST_TEXT};
+use desk::record::{recorded, recorded_in, MOST_TEXT};
 use oracle::gen::{self, Rng, FULL, SMALL, TINY};
+use rajvokshul::Cycle;
 
 const C1: [u8; 8] = [0x08, 0x04, 0x35, 0x30, 0x00, 0x03, 0x00, 0x00];
 const C1_TEXT: &str = "start 3 5\nround active 0 1\nround\nround active 0 1\nround\n";
@@ -123,7 +124,21 @@ fn random_rounds_as_text_are_recorded_bit_by_bit() {
         };
         let plain = gen::plain(&mut rng, limits);
         assert_eq!(recorded(text_of(&plain).as_bytes()), Ok(gen::bytes_of(&plain)));
+        // A recording does not say its cycle.
+        let six = recorded_in(Cycle::SixRound, text_of(&plain).as_bytes());
+        assert_eq!(six, Ok(gen::bytes_of(&plain)));
     }
+}
+
+#[test]
+fn what_is_refused_in_six_rounds_is_said_with_its_line() {
+    let wrong = |text: &str| recorded_in(Cycle::SixRound, text.as_bytes()).unwrap_err().to_string();
+    assert_eq!(
+        wrong("start 3 5\nround\nround\nround lost 0:0"),
+        "line 4: lost 0:0: refused 6 round 3 truck 0: a truck's own loss bit is 1, but a truck always hears itself"
+    );
+    let long = format!("start 0{}", "\nround".repeat(401));
+    assert_eq!(wrong(&long), "line 402: refused 14: 400 rounds are done already");
 }
 
 /// `desk record` with a text on standard input. It may end before it has read all.
@@ -149,6 +164,11 @@ fn the_program_prints_the_bytes_or_says_why_not() {
     assert!(String::from_utf8(output.stderr)
         .unwrap()
         .starts_with("desk: line 2: active 5: refused 8: "));
+    for cycle in ["two", "six"] {
+        let output = fed(&["record", "--cycle", cycle, &path], b"");
+        assert_eq!((output.stdout, output.status.code()), (C1.to_vec(), Some(0)));
+    }
+    assert_eq!(fed(&["record", "--cycle", "four", &path], b"").status.code(), Some(2));
     assert_eq!(fed(&["record", "no-such-file"], b"").status.code(), Some(3));
     assert_eq!(fed(&["record", &path, &path], b"").status.code(), Some(2));
 }

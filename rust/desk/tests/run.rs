@@ -8,9 +8,12 @@ use std::process::{Command, Output, Stdio};
 use desk::command::{answer, Answer, View};
 use desk::story::Failure;
 use oracle::gen::{self, Rng, FULL, TINY};
+use rajvokshul::Cycle;
 
 const C1: [u8; 8] = [0x08, 0x04, 0x35, 0x30, 0x00, 0x03, 0x00, 0x00];
 const C2: [u8; 6] = [0x08, 0x02, 0x35, 0x31, 0x80, 0x00];
+/// One truck, which opens with crusher 7 and is never active, for six rounds.
+const SILENT: [u8; 6] = [0x04, 0x06, 0x70, 0x00, 0x00, 0x00];
 const LISTING: &str = "trucks 2 rounds 4\n0 opened 3 decided 3 round 4 sent 2 vetoes 1\n\
      1 opened 5 decided 3 round 4 sent 2 vetoes 1\nsent 4 vetoes 2\n";
 
@@ -57,6 +60,61 @@ fn list_and_grade() {
 }
 
 #[test]
+fn the_cycle_is_chosen() {
+    // In two rounds a truck that never sends runs on, in six it decides.
+    let ends = |arguments: &[&str]| {
+        let (out, err, status) = said(fed(arguments, &SILENT));
+        assert_eq!((err.as_str(), status), ("", 0), "{arguments:?}");
+        assert!(out.contains("decided") || out.contains("running"), "{out}");
+        (out.contains("Every truck decided crusher 7, the last in round 6."), out)
+    };
+    for command in ["timeline", "picture"] {
+        let (decided, six) = ends(&[command, "--cycle", "six"]);
+        assert!(decided && six.contains("in the six-round cycle"), "{six}");
+        assert_eq!(ends(&["--cycle", "six", command, "-"]), (true, six));
+        let (decided, two) = ends(&[command]);
+        assert!(!decided && !two.contains("cycle"), "{two}");
+        assert_eq!(ends(&[command, "--cycle", "two"]), (false, two));
+    }
+    // C2 three times over: trucks of crushers 3 and 5 never hear each other. In two rounds they decide in round 2. In round
+    // 3 of six, for the bit worth 4, truck 1 sends alone, and truck 0 misses it.
+    let apart = rajvokshul::write(2, 6, &[3, 5], &[0, 0b11, 0, 0b10, 0b01].repeat(6)).unwrap();
+    let graded = |zero| format!("complete 1\nmajority 1\nzero {zero}\naccurate 0\n");
+    assert_eq!(said(fed(&["grade", "--cycle", "six"], &apart)), (graded(3), String::new(), 0));
+    assert_eq!(said(fed(&["grade", "--cycle", "two"], &apart)), (graded(0), String::new(), 0));
+    assert_eq!(
+        said(fed(&["list", "--cycle", "two"], &C1)),
+        (LISTING.to_string(), String::new(), 0)
+    );
+    assert_eq!(said(fed(&["explain", "--cycle", "two"], &C1)), said(fed(&["explain"], &C1)));
+}
+
+#[test]
+fn a_wrong_cycle_is_usage() {
+    for (arguments, complaint) in [
+        (&["timeline", "--cycle", "seven"][..], "after --cycle comes two or six, not \"seven\""),
+        (&["timeline", "--cycle", "Six"], "after --cycle comes two or six, not \"Six\""),
+        (&["timeline", "--cycle", ""], "after --cycle comes two or six, not \"\""),
+        (&["timeline", "--cycle"], "after --cycle comes two or six"),
+        (&["--cycle", "timeline"], "after --cycle comes two or six, not \"timeline\""),
+        (&["timeline", "--cycle", "six", "--cycle", "six"], "--cycle is there twice"),
+        (&["--cycle", "six"], "no command"),
+        (&["list", "--cycle", "six"], "no --cycle six with \"list\": the proved listing is that of two rounds"),
+        (
+            &["--cycle", "six", "explain"],
+            "no --cycle six with \"explain\": it is about a recording's bytes, and counts by two rounds",
+        ),
+        (&["draw", "--cycle", "six"], "no command \"draw\""),
+    ] {
+        let (out, err, status) = run(arguments);
+        assert_eq!((out.as_str(), status), ("", 2), "{arguments:?}");
+        assert!(err.starts_with(&format!("desk: {complaint}\nusage: desk ")), "{err}");
+    }
+    // After -- it is a file's name.
+    assert_eq!(run(&["grade", "--", "--cycle"]).2, 3);
+}
+
+#[test]
 fn a_refused_recording_has_status_1() {
     for command in ["list", "grade", "timeline", "picture"] {
         let (out, err, status) = said(fed(&[command], &C1[..7]));
@@ -95,7 +153,7 @@ fn usage_has_status_2() {
 fn help_and_version() {
     for arguments in [&["--help"][..], &["-h"], &["help"]] {
         let (out, err, status) = run(arguments);
-        assert!(out.starts_with("usage: desk COMMAND [FILE]\n"), "{out}");
+        assert!(out.starts_with("usage: desk COMMAND [--cycle two|six] [FILE]\n"), "{out}");
         assert_eq!((err.as_str(), status), ("", 0));
     }
     for command in ["list", "grade", "explain", "timeline", "picture", "record"] {
@@ -104,6 +162,11 @@ fn help_and_version() {
         assert_eq!(status, 0);
         assert_eq!(run(&[command, "--help"]), (out.clone(), String::new(), 0));
         assert!(run(&["--help"]).0.contains(&format!("desk {command} FILE")));
+        // The first line says which commands take a cycle.
+        let first = out.lines().next().unwrap();
+        let two_alone = command == "list" || command == "explain";
+        assert_eq!(first.contains(" [--cycle two|six] "), !two_alone, "{first}");
+        assert_eq!(run(&["help", command, "--cycle", "six"]), (out, String::new(), 0));
     }
     let version = format!("desk {}\n", env!("CARGO_PKG_VERSION"));
     assert_eq!(run(&["--version"]), (version, String::new(), 0));
@@ -167,10 +230,12 @@ fn any_bytes_have_an_answer_in_every_view() {
         }
         let status = u8::from(oracle::check(&bytes).is_err());
         for (view, name, _) in View::ALL {
-            let answered = answer(view, &bytes);
-            assert_eq!(answered.status, status, "{name} of {bytes:x?}");
-            assert_eq!(answered.out.is_empty(), status == 1 && view != View::Explain);
-            assert_eq!(answered.err.is_empty(), status == 0 || view == View::Explain);
+            for cycle in Cycle::ALL {
+                let answered = answer(view, cycle, &bytes);
+                assert_eq!(answered.status, status, "{name} of {bytes:x?} in {cycle}");
+                assert_eq!(answered.out.is_empty(), status == 1 && view != View::Explain);
+                assert_eq!(answered.err.is_empty(), status == 0 || view == View::Explain);
+            }
         }
     }
 }

@@ -1,17 +1,18 @@
 //! What is told of a recording: against cases worked by hand from the scope paper, against the independent reading on
-//! recordings from fixed seeds, and that tampered answers are met with a contradiction.
+//! recordings from fixed seeds in both cycles, and that tampered answers are met with a contradiction.
 
-use desk::story::{tell, Answers, Failure, Message, Story, Turn};
+use desk::story::{tell, tell_in, Answers, Failure, Message, Story, Turn};
 use desk::trucks::TruckSet;
 use desk::verdict::{
     counts, decided_crushers, first_calm, first_weak, grades_of, hold_against_proofs, resting,
     Calm, Counts, Resting,
 };
-use oracle::gen::{self, Limits, Rng, FULL, SMALL, TINY};
+use oracle::gen::{self, Asked, Limits, Rng, FULL, SMALL, TINY_SIX};
 use oracle::lists::sent_by_the_rules;
-use oracle::marks::{airs, classes_of, first_not_mixed, round_is_calm};
-use oracle::steps::follow;
-use rajvokshul::{Fleet, Grades, Refusal, Sent, State};
+use oracle::marks::{airs_in, classes_of_in, first_not_mixed, round_is_calm};
+use oracle::steps::follow_in;
+use oracle::Kind;
+use rajvokshul::{Cycle, Fleet, Grades, Refusal, RoundKind, Sent, State};
 
 const C1: [u8; 8] = [0x08, 0x04, 0x35, 0x30, 0x00, 0x03, 0x00, 0x00];
 const C2: [u8; 6] = [0x08, 0x02, 0x35, 0x31, 0x80, 0x00];
@@ -41,6 +42,7 @@ fn turn(before: u8, after: u8, sent: Option<Message>, heard: TruckSet) -> Turn {
         false_mark: false,
         before,
         after,
+        becomes_unwilling: false,
         decides: false,
     }
 }
@@ -148,24 +150,36 @@ fn mixed(k: usize) -> Limits {
     match k {
         k if k % 400 == 0 => FULL,
         k if k % 8 == 0 => SMALL,
-        _ => TINY,
+        _ => TINY_SIX,
+    }
+}
+
+/// Whether a kind of round of the independent reading is that of the safe crate.
+fn same_kind(theirs: Kind, ours: RoundKind) -> bool {
+    match theirs {
+        Kind::Proposal => ours == RoundKind::Proposals,
+        Kind::Veto => ours == RoundKind::Vetoes,
+        Kind::Prepare => ours == RoundKind::Prepare,
+        Kind::Bit(worth) => ours == RoundKind::Bit(worth),
+        Kind::Accept => ours == RoundKind::Accept,
     }
 }
 
 /// Every turn of a story against the independent reading.
-fn hold_turns(plain: &oracle::Plain, story: &Story) {
+fn hold_turns(cycle: oracle::Cycle, plain: &oracle::Plain, story: &Story) {
     let (_, mut before) = oracle::start(plain.n as u64, &plain.openings);
-    for (index, air) in airs(plain).iter().enumerate() {
-        let after = follow(&before, plain.round(index + 1));
+    for (index, air) in airs_in(cycle, plain).iter().enumerate() {
+        let after = follow_in(cycle, &before, plain.round(index + 1));
         let round = &story.rounds[index];
         assert_eq!(usize::from(round.number), index + 1);
+        assert!(same_kind(air.kind, round.kind), "round {}", air.round);
         for i in 0..plain.n {
             let (was, is) = (&before.trucks[i], &after.trucks[i]);
-            let sent = match (air.sends[i], air.is_proposal()) {
-                (false, _) => None,
-                (true, true) => Some(Message::Value(was.estimate)),
-                (true, false) => Some(Message::Veto),
-            };
+            let sent = air.sends[i].then_some(match air.kind {
+                Kind::Proposal | Kind::Prepare => Message::Value(was.estimate),
+                Kind::Bit(_) => Message::Bit,
+                Kind::Veto | Kind::Accept => Message::Veto,
+            });
             let missed = |j: usize| air.running[i] && air.sends[j] && !air.hears[i][j];
             let marked = air.running[i] && air.mark_bit[i];
             let expected = Turn {
@@ -178,6 +192,7 @@ fn hold_turns(plain: &oracle::Plain, story: &Story) {
                 false_mark: marked && air.missed(i) == 0,
                 before: was.estimate,
                 after: is.estimate,
+                becomes_unwilling: !was.unwilling && is.unwilling,
                 decides: was.is_running() && is.state == oracle::State::Decided(air.round),
             };
             assert_eq!(round.turns[i], expected, "round {}, truck {i}", air.round);
@@ -187,18 +202,20 @@ fn hold_turns(plain: &oracle::Plain, story: &Story) {
 }
 
 /// The counts by the independent reading.
-fn counts_of(plain: &oracle::Plain) -> Counts {
+fn counts_of(cycle: oracle::Cycle, plain: &oracle::Plain) -> Counts {
     let mut counts = Counts::default();
-    for air in airs(plain) {
-        let sent = if air.is_proposal() { &mut counts.proposals } else { &mut counts.vetoes };
-        *sent += air.messages();
+    for air in airs_in(cycle, plain) {
+        for i in 0..plain.n {
+            counts.proposals += usize::from(air.sent(i).proposals);
+            counts.vetoes += usize::from(air.sent(i).vetoes);
+        }
         for i in air.running_trucks() {
             counts.missed += air.missed(i);
             counts.marks += usize::from(air.mark_bit[i]);
             counts.false_marks += usize::from(air.mark_bit[i] && air.missed(i) == 0);
         }
     }
-    let (_, end) = oracle::run(&gen::bytes_of(plain));
+    let (_, end) = oracle::run_in(cycle, &gen::bytes_of(plain));
     for truck in end.trucks_below_n() {
         match truck.state {
             oracle::State::Running => {}
@@ -210,23 +227,33 @@ fn counts_of(plain: &oracle::Plain) -> Counts {
 }
 
 /// The first calm stretch by trying every S and every b.
-fn calm_by_trying(plain: &oracle::Plain) -> Option<Calm> {
-    let airs = airs(plain);
-    for (index, five) in airs.windows(5).enumerate() {
+fn calm_by_trying(cycle: oracle::Cycle, plain: &oracle::Plain) -> Option<Calm> {
+    let (airs, span) = (airs_in(cycle, plain), cycle.calm_span() as u16);
+    for (from, calm) in (1..).zip(airs.windows(usize::from(span) + 1)) {
         for b in 0..=33 {
-            if five.iter().all(|air| round_is_calm(air, b)) {
-                return Some(Calm { from: index as u16 + 1, senders: b as usize });
+            if calm.iter().all(|air| round_is_calm(air, b)) {
+                return Some(Calm { from, last: from + span, senders: b as usize });
             }
         }
     }
     None
 }
 
-/// The even rounds with a truck running, and those of them with zero complete marks that are not majority complete.
-fn resting_by_classes(plain: &oracle::Plain) -> Resting {
+/// The first round whose marks are less than agreement asks for in a cycle.
+fn weak_by_classes(cycle: oracle::Cycle, plain: &oracle::Plain) -> Option<usize> {
+    match cycle {
+        oracle::Cycle::TwoRound => first_not_mixed(plain),
+        oracle::Cycle::SixRound => {
+            classes_of_in(cycle, plain).iter().position(|kept| !kept.zero).map(|index| index + 1)
+        }
+    }
+}
+
+/// The veto rounds of two with a truck running, and those of them with zero complete marks that are not majority complete.
+fn resting_by_classes(cycle: oracle::Cycle, plain: &oracle::Plain) -> Resting {
     let mut found = Resting::default();
-    for (air, kept) in airs(plain).iter().zip(classes_of(plain)) {
-        if air.round % 2 == 0 && !air.running_trucks().is_empty() {
+    for (air, kept) in airs_in(cycle, plain).iter().zip(classes_of_in(cycle, plain)) {
+        if air.kind == Kind::Veto && !air.running_trucks().is_empty() {
             found.rounds.push(air.round);
             if kept.zero && !kept.majority {
                 found.only_zero.push(air.round);
@@ -236,50 +263,96 @@ fn resting_by_classes(plain: &oracle::Plain) -> Resting {
     found
 }
 
-#[test]
-fn told_as_the_independent_reading_tells_it() {
+/// How many recordings have each of these.
+#[derive(Debug, Default)]
+struct Met {
+    calm: usize,
+    broken: usize,
+    weak: usize,
+    only_zero: usize,
+    unwilling: usize,
+}
+
+/// Recordings of a cycle, of which some have the marks that are asked for, against the independent reading.
+fn tell_many(cycle: Cycle, theirs: oracle::Cycle, asked: Asked) -> Met {
     let mut rng = Rng::new(0xDE51);
-    let (mut calm, mut broken, mut weak, mut only_zero) = (0, 0, 0, 0);
+    let mut met = Met::default();
     for k in 0..4_000 {
         let plain = match k % 4 {
-            0 => gen::plain(&mut rng, mixed(k)),
-            1 => gen::with_marks(&mut rng, mixed(k), gen::MIXED),
-            _ => gen::calm(&mut rng, mixed(k), k % 4 == 2).plain,
+            0 => gen::plain_in(theirs, &mut rng, mixed(k)),
+            1 => gen::with_marks_in(theirs, &mut rng, mixed(k), asked),
+            2 => gen::calm_in(theirs, &mut rng, mixed(k), gen::MAJORITY).plain,
+            _ => gen::calm_in(theirs, &mut rng, mixed(k), gen::NONE).plain,
         };
-        let story = tell(&gen::bytes_of(&plain)).unwrap();
+        let story = tell_in(cycle, &gen::bytes_of(&plain)).unwrap();
         assert_eq!(story.openings, plain.openings);
         assert_eq!(story.rounds.len(), plain.rounds);
-        hold_turns(&plain, &story);
-        assert_eq!(counts(&story), counts_of(&plain));
-        let sent = story.end.iter().map(|truck| (truck.sent.proposals, truck.sent.vetoes));
-        let expected = sent_by_the_rules(&plain);
-        assert!(sent.eq(expected.iter().map(|sent| (sent.proposals, sent.vetoes))));
-        let expected = oracle::grade(&gen::bytes_of(&plain)).unwrap();
+        hold_turns(theirs, &plain, &story);
+        assert_eq!(counts(&story), counts_of(theirs, &plain));
+        let expected = oracle::grade_in(theirs, &gen::bytes_of(&plain)).unwrap();
         let Grades { complete, majority, zero, accurate } = grades_of(&story.rounds);
         assert_eq!([complete, majority, zero, accurate], expected);
-        assert_eq!(first_calm(&story.rounds), calm_by_trying(&plain));
-        calm += usize::from(first_calm(&story.rounds).is_some());
-        broken += usize::from(story.grades.majority != 0);
+        assert_eq!(first_calm(&story), calm_by_trying(theirs, &plain));
+        met.calm += usize::from(first_calm(&story).is_some());
+        met.broken += usize::from(story.grades.majority != 0);
         let found = first_weak(&story.rounds);
-        assert_eq!(found.map(|weak| usize::from(weak.round)), first_not_mixed(&plain));
-        weak += usize::from(found.is_some());
+        assert_eq!(found.map(|weak| usize::from(weak.round)), weak_by_classes(theirs, &plain));
+        met.weak += usize::from(found.is_some());
         let rests = resting(&story.rounds);
-        assert_eq!(rests, resting_by_classes(&plain));
-        only_zero += usize::from(found.is_none() && !rests.only_zero.is_empty());
+        assert_eq!(rests, resting_by_classes(theirs, &plain));
+        met.only_zero += usize::from(found.is_none() && !rests.only_zero.is_empty());
+        let mut turns = story.rounds.iter().flat_map(|round| &round.turns);
+        met.unwilling += usize::from(turns.any(|turn| turn.becomes_unwilling));
+        hold_counts(cycle, &plain, &story);
     }
+    met
+}
+
+/// In two rounds each truck's counts are those of the rules, in six they are 0.
+fn hold_counts(cycle: Cycle, plain: &oracle::Plain, story: &Story) {
+    let expected = match cycle {
+        Cycle::TwoRound => sent_by_the_rules(plain),
+        Cycle::SixRound => vec![oracle::Sent::default(); plain.n],
+    };
+    let sent = story.end.iter().map(|truck| (truck.sent.proposals, truck.sent.vetoes));
+    assert!(sent.eq(expected.iter().map(|sent| (sent.proposals, sent.vetoes))));
+}
+
+#[test]
+fn told_as_the_independent_reading_tells_it() {
+    let met = tell_many(Cycle::TwoRound, oracle::Cycle::TwoRound, gen::MIXED);
     // The seeds make many of each kind.
-    assert!(calm > 500 && broken > 500, "{calm} calm, {broken} broken");
-    assert!(weak > 500 && only_zero > 100, "{weak} weak, {only_zero} only zero complete");
+    assert!(met.calm > 500 && met.broken > 500 && met.weak > 500, "{met:?}");
+    assert!(met.only_zero > 100 && met.unwilling == 0, "{met:?}");
+}
+
+#[test]
+fn six_rounds_told_as_the_independent_reading_tells_them() {
+    let met = tell_many(Cycle::SixRound, oracle::Cycle::SixRound, gen::ZERO);
+    assert!(met.calm > 500 && met.broken > 500 && met.weak > 300, "{met:?}");
+    assert!(met.unwilling > 500 && met.only_zero == 0, "{met:?}");
 }
 
 fn contradicted(answers: &Answers) -> bool {
     matches!(answers.story(), Err(Failure::Contradiction(_)))
 }
 
+/// Two trucks of crushers 4 and 0: in round 3 of six truck 1 hears truck 0 and becomes unwilling, and in round 6 it vetoes.
+fn unwilling() -> Vec<u8> {
+    recorded(&[4, 0], &[&[0; 5][..]; 6])
+}
+
 #[test]
 fn tampered_records_are_contradicted() {
-    for recording in [&C1[..], &C2, &C3] {
-        let answers = Answers::ask(recording).unwrap();
+    let unwilling = unwilling();
+    for (cycle, recording) in [
+        (Cycle::TwoRound, &C1[..]),
+        (Cycle::TwoRound, &C2),
+        (Cycle::TwoRound, &C3),
+        (Cycle::SixRound, &C1),
+        (Cycle::SixRound, &unwilling),
+    ] {
+        let answers = Answers::ask(cycle, recording).unwrap();
         assert!(answers.story().is_ok());
         for k in 0..answers.records.len() {
             // n, the rounds done and the places of both trucks; places above n say nothing.
@@ -302,7 +375,7 @@ fn tampered_records_are_contradicted() {
 
 #[test]
 fn tampered_grades_openings_and_words_are_contradicted() {
-    let answers = Answers::ask(&C2).unwrap();
+    let answers = Answers::ask(Cycle::TwoRound, &C2).unwrap();
     for class in 0..4 {
         let mut tampered = answers.clone();
         let Grades { complete, majority, zero, accurate } = &mut tampered.grades;
@@ -314,6 +387,9 @@ fn tampered_grades_openings_and_words_are_contradicted() {
     assert!(contradicted(&tampered));
     let mut tampered = answers.clone();
     tampered.plain.rounds = 3;
+    assert!(contradicted(&tampered));
+    let mut tampered = answers.clone();
+    tampered.cycle = Cycle::SixRound;
     assert!(contradicted(&tampered));
     // In round 1 every word matters: stop, active and mark bits, and what each truck missed.
     for word in 0..5 {
@@ -344,13 +420,29 @@ fn what_is_proved_of_every_run_is_asked_of_a_story() {
     assert!(!contradicted(&half_heard));
     half_heard.end[1].estimate = 5;
     assert!(contradicted(&half_heard));
-    // A truck that runs on after five calm rounds, and one that decided later than they end.
-    let alone: [&[u32]; 6] = [&[0, 1, 0, 0], &[0; 4], &[0; 4], &[0; 4], &[0; 4], &[0; 4]];
-    let mut calm = tell(&recorded(&[7], &alone)).unwrap();
-    assert_eq!(first_calm(&calm.rounds), Some(Calm { from: 1, senders: 1 }));
-    assert_eq!(calm.end[0].state, State::Decided(2));
-    calm.end[0].state = State::Running;
-    assert!(contradicted(&calm));
-    calm.end[0].state = State::Decided(6);
-    assert!(contradicted(&calm));
+    // A truck that runs on after calm rounds, and one that decided later than they end.
+    let mut alone: [&[u32]; 12] = [&[0; 4]; 12];
+    alone[0] = &[0, 1, 0, 0];
+    for (cycle, last, decided) in [(Cycle::TwoRound, 5, 2), (Cycle::SixRound, 11, 6)] {
+        let mut calm = tell_in(cycle, &recorded(&[7], &alone)).unwrap();
+        assert_eq!(first_calm(&calm), Some(Calm { from: 1, last, senders: 1 }));
+        assert_eq!(calm.end[0].state, State::Decided(decided));
+        assert!(!contradicted(&calm));
+        calm.end[0].state = State::Running;
+        assert!(contradicted(&calm));
+        calm.end[0].state = State::Decided(12);
+        assert!(contradicted(&calm));
+    }
+    // In six rounds marks that are zero complete guarantee agreement, and no fewer.
+    let mut six = tell_in(Cycle::SixRound, &unwilling()).unwrap();
+    assert_eq!(first_weak(&six.rounds), None);
+    six.end.iter_mut().for_each(|truck| truck.state = State::Decided(6));
+    assert!(contradicted(&six));
+    // Truck 1 misses the only message of round 3 without a mark.
+    let missing: &[u32] = &[0, 0, 0, 0, 0b01];
+    let mut rounds: [&[u32]; 6] = [&[0; 5]; 6];
+    rounds[2] = missing;
+    let six = tell_in(Cycle::SixRound, &recorded(&[4, 0], &rounds)).unwrap();
+    assert_eq!(first_weak(&six.rounds).map(|weak| weak.round), Some(3));
+    assert_eq!(decided_crushers(&six), [(0, TruckSet(0b10)), (4, TruckSet(0b01))]);
 }

@@ -75,24 +75,27 @@ fn ticks(layout: &Layout, truck: usize, round: &Round) -> String {
         svg += &path("missed", &shapes::block(x, lanes, width, LANE));
     }
     if turn.false_mark {
-        let y = lanes + LANE + 1;
-        svg += &path(
-            "mark false",
-            &format!("M{x}.5 {y}.5h{}v{}h-{}z", width - 1, LANE - 1, width - 1),
-        );
+        svg += &path("mark false", &hollow(x, lanes + LANE + 1, width, LANE));
     } else if turn.marked {
         svg += &path("mark", &shapes::block(x, lanes + LANE + 1, width, LANE));
     }
     svg
 }
 
-/// What is sent, or the tick of a decision, which reaches over the rounds after it.
+/// A box that is drawn by its edge, a pixel wide.
+fn hollow(x: i32, y: i32, width: i32, height: i32) -> String {
+    format!("M{x}.5 {y}.5h{}v{}h-{}z", width - 1, height - 1, width - 1)
+}
+
+/// What is sent, that the truck becomes unwilling, or the tick of a decision, which reaches over the rounds after it.
 fn above(turn: &Turn, x: i32, y: i32, width: i32) -> String {
     match turn.sent {
         Some(Message::Value(_)) => {
             path("sent", &format!("M{x} {}h{width}L{} {}z", y - 1, x + width / 2, y - 6))
         }
+        Some(Message::Bit) => path("bit", &shapes::block(x + width / 2 - 1, y - 6, 2, 5)),
         Some(Message::Veto) => path("veto", &shapes::block(x, y - 6, width, 5)),
+        None if turn.becomes_unwilling => path("unwilling", &hollow(x, y - 6, width, 5)),
         None if turn.decides => path("decided", &shapes::decided(x + 6, y - 4, 5)),
         None => String::new(),
     }

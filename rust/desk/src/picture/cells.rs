@@ -18,7 +18,7 @@ fn cell(layout: &Layout, truck: usize, round: &Round) -> String {
     if turn.stops {
         let half = layout.scale.bar / 2 - 2;
         let shape = shapes::block(middle - half, y + 2, 2 * half, 2 * half);
-        let title = format!("<title>truck {truck}, round {}: stopped</title>", round.number);
+        let title = format!("<title>truck {truck}, {}: stopped</title>", round.named());
         return format!("<path class=\"stopped\" d=\"{shape}\">{title}</path>\n");
     }
     if !turn.runs {
@@ -39,23 +39,24 @@ fn cell(layout: &Layout, truck: usize, round: &Round) -> String {
 }
 
 fn tooltip(truck: usize, round: &Round, turn: &Turn) -> String {
-    let number = round.number;
     let estimate = if turn.before == turn.after {
         format!("estimate {}", turn.after)
     } else {
         format!("estimate {} to {}", turn.before, turn.after)
     };
     let (sent, fate) = (sent_text(turn.sent), fate_text(round, turn));
-    format!("truck {truck}, round {number}: {sent}; {estimate}; {fate}")
+    format!("truck {truck}, {}: {sent}; {estimate}; {fate}", round.named())
 }
 
-/// What is sent, or the tick of a decision: a truck that decides has sent nothing.
+/// What is sent, or that the truck decides or becomes unwilling: it has sent nothing then.
 fn above(layout: &Layout, truck: usize, turn: &Turn, x: i32) -> String {
     let half = layout.scale.above / 3;
     let y = layout.row_y(truck) + layout.scale.above / 2 + 1;
     match turn.sent {
         Some(Message::Value(_)) => path("sent", &shapes::sent(x, y, half)),
+        Some(Message::Bit) => path("bit", &shapes::bit(x, y, half)),
         Some(Message::Veto) => path("veto", &shapes::veto(x, y, half - 1)),
+        None if turn.becomes_unwilling => path("unwilling", &shapes::unwilling(x, y, half)),
         None if turn.decides => path("decided", &shapes::decided(x, y, half + 1)),
         None => String::new(),
     }

@@ -1,5 +1,7 @@
 //! Where everything stands, in pixels of the picture at its natural size.
 
+use rajvokshul::Cycle;
+
 use crate::story::Story;
 
 use super::summary;
@@ -30,15 +32,25 @@ pub struct Scale {
 }
 
 impl Scale {
-    /// Sizes for a number of trucks and rounds.
-    fn of(trucks: usize, rounds: usize) -> Scale {
-        let rounds = rounds.max(1) as i32;
+    /// Sizes for a story's number of trucks and rounds. The names of six rounds take more room than letters.
+    fn of(story: &Story) -> Scale {
+        let (trucks, rounds) = (story.openings.len(), story.rounds.len().max(1) as i32);
+        let least = match story.cycle {
+            Cycle::TwoRound => 36,
+            Cycle::SixRound => 44,
+        };
         let fill = (LEAST_WIDTH - 2 * MARGIN - NAMES - OPENING - ENDS) / rounds;
         if rounds <= 24 && trucks <= 12 {
             return Scale { cell: fill.clamp(46, 84), above: 18, bar: 20, below: 20, wide: true };
         }
         if rounds <= 52 {
-            return Scale { cell: fill.clamp(36, 84), above: 15, bar: 16, below: 17, wide: true };
+            return Scale {
+                cell: fill.clamp(least, 84),
+                above: 15,
+                bar: 16,
+                below: 17,
+                wide: true,
+            };
         }
         Scale { cell: (2000 / rounds).clamp(5, 16), above: 7, bar: 12, below: 13, wide: false }
     }
@@ -58,11 +70,15 @@ impl Scale {
     }
 
     /// Every so many rounds have their number in the head.
-    pub fn label_step(&self) -> u16 {
+    pub fn label_step(&self, cycle: Cycle) -> u16 {
+        let fives = match cycle {
+            Cycle::TwoRound => 5,
+            Cycle::SixRound => 6,
+        };
         match self.cell {
             30.. => 1,
-            12.. => 5,
-            _ => 10,
+            12.. => fives,
+            _ => 2 * fives,
         }
     }
 }
@@ -82,7 +98,7 @@ pub struct Layout {
 impl Layout {
     /// The places for a story.
     pub fn of(story: &Story) -> Layout {
-        let scale = Scale::of(story.openings.len(), story.rounds.len());
+        let scale = Scale::of(story);
         let (trucks, rounds) = (story.openings.len() as i32, story.rounds.len() as i32);
         let columns = 2 * MARGIN + NAMES + OPENING + rounds * scale.cell + ENDS;
         let summary = 2 * MARGIN + text_width(&summary(story), 12);

@@ -1,5 +1,7 @@
 //! What the symbols mean.
 
+use rajvokshul::Cycle;
+
 use crate::story::Story;
 
 use super::layout::{text_width, Layout, MARGIN};
@@ -13,8 +15,9 @@ type Item = (Box<dyn Fn(i32, i32) -> String>, i32, String);
 
 /// The legend below the rows, and its height: the crushers, and below them what the symbols mean.
 pub fn legend(story: &Story, layout: &Layout) -> (String, i32) {
-    let mut symbols = if layout.scale.wide { symbols() } else { ticks() };
-    symbols.extend(lines());
+    let (wide, cycle) = (layout.scale.wide, story.cycle);
+    let mut symbols = if wide { symbols(cycle) } else { ticks(cycle) };
+    symbols.extend(lines(wide, cycle));
     let top = layout.rows_end() + 28;
     let mut y = top;
     let mut svg = format!("<g class=\"{}\">\n", layout.scale.group());
@@ -65,9 +68,17 @@ fn crushers(story: &Story) -> Vec<Item> {
 }
 
 /// The symbols of wide rounds.
-fn symbols() -> Vec<Item> {
-    vec![
-        item(14, "proposal sent", |x, y| key("k-sent", &shapes::sent(x, y, 6))),
+fn symbols(cycle: Cycle) -> Vec<Item> {
+    let sent = |meaning: &str| item(14, meaning, |x, y| key("k-sent", &shapes::sent(x, y, 6)));
+    let mut items = match cycle {
+        Cycle::TwoRound => vec![sent("proposal sent")],
+        Cycle::SixRound => vec![
+            sent("estimate sent"),
+            item(10, "message sent in a bit round", |x, y| key("k-bit", &shapes::bit(x, y, 6))),
+            item(14, "became unwilling", |x, y| key("k-unwilling", &shapes::unwilling(x, y, 6))),
+        ],
+    };
+    items.extend([
         item(14, "veto sent", |x, y| key("k-veto", &shapes::veto(x, y, 5))),
         item(18, "so many messages missed", |x, y| {
             format!("<text class=\"k-missed\" x=\"{x}\" y=\"{}\">−2</text>\n", y + 4)
@@ -78,15 +89,28 @@ fn symbols() -> Vec<Item> {
         }),
         item(16, "decided", |x, y| key("k-decided", &shapes::decided(x, y, 7))),
         item(16, "stopped", |x, y| key("k-stopped", &shapes::block(x - 8, y - 8, 16, 16))),
-    ]
+    ]);
+    items
 }
 
 /// The ticks of narrow rounds, with the lane they stand in.
-fn ticks() -> Vec<Item> {
-    vec![
-        item(10, "proposal sent (above the bar)", |x, y| {
-            key("k-sent", &format!("M{} {}h8L{x} {}z", x - 4, y + 3, y - 4))
-        }),
+fn ticks(cycle: Cycle) -> Vec<Item> {
+    let sent = |meaning: &str| {
+        item(10, meaning, |x, y| key("k-sent", &format!("M{} {}h8L{x} {}z", x - 4, y + 3, y - 4)))
+    };
+    let mut items = match cycle {
+        Cycle::TwoRound => vec![sent("proposal sent (above the bar)")],
+        Cycle::SixRound => vec![
+            sent("estimate sent (above the bar)"),
+            item(10, "message sent in a bit round (above the bar)", |x, y| {
+                key("k-bit", &shapes::block(x - 1, y - 4, 2, 7))
+            }),
+            item(10, "became unwilling (above the bar)", |x, y| {
+                key("k-unwilling", &shapes::block(x - 4, y - 4, 8, 7))
+            }),
+        ],
+    };
+    items.extend([
         item(10, "veto sent (above the bar)", |x, y| {
             key("k-veto", &shapes::block(x - 3, y - 4, 6, 7))
         }),
@@ -101,16 +125,20 @@ fn ticks() -> Vec<Item> {
         }),
         item(16, "decided", |x, y| key("k-decided", &shapes::decided(x, y, 6))),
         item(12, "stopped", |x, y| key("k-stopped", &shapes::block(x - 5, y - 5, 10, 10))),
-    ]
+    ]);
+    items
 }
 
 /// Lines and grounds.
-fn lines() -> Vec<Item> {
+fn lines(wide: bool, cycle: Cycle) -> Vec<Item> {
+    let ground = match cycle {
+        Cycle::TwoRound => "veto round (V); the others are for proposals (P)",
+        Cycle::SixRound if wide => "accept round",
+        Cycle::SixRound => "accept round; the five before it are prepare and bits 8, 4, 2, 1",
+    };
     vec![
         item(26, "after a decision", |x, y| key("k-rest", &format!("M{} {y}h26", x - 13))),
         item(26, "after a stop", |x, y| key("k-off", &format!("M{} {y}h26", x - 13))),
-        item(18, "veto round (V); the others are for proposals (P)", |x, y| {
-            key("k-even", &shapes::block(x - 9, y - 8, 18, 16))
-        }),
+        item(18, ground, |x, y| key("k-even", &shapes::block(x - 9, y - 8, 18, 16))),
     ]
 }

@@ -11,9 +11,10 @@ mod legend;
 mod shapes;
 mod style;
 
-use rajvokshul::State;
+use rajvokshul::{Cycle, RoundKind, State};
 
-use crate::story::{Kind, Story};
+use crate::story::{Round, Story};
+use crate::timeline::size_text;
 use crate::trucks::{counted, grouped, messages};
 use crate::verdict::{counts, first_calm, first_weak, sentences};
 
@@ -31,7 +32,7 @@ pub fn picture(story: &Story) -> String {
         "<svg xmlns=\"http://www.w3.org/2000/svg\" width=\"{width}\" height=\"{height}\" viewBox=\"0 0 {width} {height}\" \
          role=\"img\" aria-labelledby=\"title desc\">\n<title id=\"title\">{}</title>\n<desc id=\"desc\">{}</desc>\n\
          <style>\n{}</style>\n<rect class=\"paper\" width=\"{width}\" height=\"{height}\"/>\n",
-        title(story),
+        size_text(story),
         description(story),
         style::sheet()
     );
@@ -51,19 +52,18 @@ pub fn picture(story: &Story) -> String {
     svg + "</svg>\n"
 }
 
-fn title(story: &Story) -> String {
-    format!("{}, {}", counted(story.openings.len(), "truck"), counted(story.rounds.len(), "round"))
-}
-
-/// Who ended how, and what was sent, missed and marked: one line, which the picture is wide enough for.
+/// Who ended how, and what was sent (in two rounds), missed and marked: one line, which the picture is wide enough for.
 fn summary(story: &Story) -> String {
     let counts = counts(story);
     let running = story.openings.len() - counts.decided - counts.stopped;
+    let sent = match story.cycle {
+        Cycle::TwoRound => messages(counts.proposals, counts.vetoes) + ", ",
+        Cycle::SixRound => String::new(),
+    };
     format!(
-        "{} decided, {} stopped, {running} running; {}, {} missed, {} ({} false)",
+        "{} decided, {} stopped, {running} running; {sent}{} missed, {} ({} false)",
         counts.decided,
         counts.stopped,
-        messages(counts.proposals, counts.vetoes),
         counted(counts.missed, "message"),
         counted(counts.marks, "mark"),
         grouped(counts.false_marks)
@@ -78,7 +78,7 @@ fn heading(story: &Story) -> String {
     let x = layout::MARGIN;
     format!(
         "<text class=\"title\" x=\"{x}\" y=\"32\">{}</text>\n<text class=\"summary\" x=\"{x}\" y=\"54\">{}</text>\n",
-        title(story),
+        size_text(story),
         summary(story)
     )
 }
@@ -102,26 +102,27 @@ fn bands(story: &Story, layout: &Layout) -> String {
     (1..story.openings.len()).step_by(2).map(band).collect()
 }
 
-/// The head of the columns: numbers, kinds, and a ground for veto rounds.
+/// The head of the columns: numbers, kinds, and a ground for the last round of each cycle.
 fn columns(story: &Story, layout: &Layout) -> String {
     let mut svg = format!("<g class=\"{}\">\n", layout.scale.group());
     let (top, end) = (layout.rows_top, layout.rows_end());
-    for round in story.rounds.iter().filter(|round| round.kind() == Kind::Veto) {
+    for round in &story.rounds {
+        let class = match round.kind {
+            RoundKind::Vetoes => "even",
+            RoundKind::Accept => "accept",
+            RoundKind::Proposals | RoundKind::Prepare | RoundKind::Bit(_) => continue,
+        };
         let (x, width) = (layout.round_x(round.number), layout.scale.cell);
         let (y, height) = (top - 16, end - top + 16);
         svg += &format!(
-            "<rect class=\"even\" x=\"{x}\" y=\"{y}\" width=\"{width}\" height=\"{height}\"/>\n"
+            "<rect class=\"{class}\" x=\"{x}\" y=\"{y}\" width=\"{width}\" height=\"{height}\"/>\n"
         );
     }
-    let step = layout.scale.label_step();
+    let step = layout.scale.label_step(story.cycle);
     for round in &story.rounds {
-        let middle = layout.round_x(round.number) + layout.scale.cell / 2;
-        if layout.scale.wide {
-            let letter = if round.kind() == Kind::Proposal { "P" } else { "V" };
-            let y = top - 4;
-            svg += &format!("<text class=\"kind\" x=\"{middle}\" y=\"{y}\">{letter}</text>\n");
-        }
+        svg += &kind(layout, round);
         if round.number % step == 0 || round.number == 1 {
+            let middle = layout.round_x(round.number) + layout.scale.cell / 2;
             let y = top - 20;
             svg +=
                 &format!("<text class=\"axis\" x=\"{middle}\" y=\"{y}\">{}</text>\n", round.number);
@@ -133,7 +134,37 @@ fn columns(story: &Story, layout: &Layout) -> String {
     svg + "</g>\n" + &layout.head_labels()
 }
 
-/// One truck: its number, its opening, its rounds and how it ended; pointing at the end shows how much it sent.
+/// What a round is for: a letter in two rounds, the name in six. A narrow round of six has a letter or a bit's worth where
+/// there is room, and its name where its head is pointed at.
+fn kind(layout: &Layout, round: &Round) -> String {
+    let (wide, cell) = (layout.scale.wide, layout.scale.cell);
+    let (x, top) = (layout.round_x(round.number), layout.rows_top);
+    let short = match round.kind {
+        RoundKind::Proposals | RoundKind::Prepare => "P".to_string(),
+        RoundKind::Vetoes => "V".to_string(),
+        RoundKind::Bit(worth) => worth.to_string(),
+        RoundKind::Accept => "A".to_string(),
+    };
+    let text = |said: &str| {
+        let (middle, y) = (x + cell / 2, top - 4);
+        format!("<text class=\"kind\" x=\"{middle}\" y=\"{y}\">{said}</text>\n")
+    };
+    match round.kind {
+        RoundKind::Proposals | RoundKind::Vetoes if wide => return text(&short),
+        RoundKind::Proposals | RoundKind::Vetoes => return String::new(),
+        _ if wide => return text(&round.kind.to_string()),
+        RoundKind::Prepare | RoundKind::Bit(_) | RoundKind::Accept => {}
+    }
+    let short = if cell >= 8 { text(&short) } else { String::new() };
+    format!(
+        "{short}<rect class=\"round\" x=\"{x}\" y=\"{}\" width=\"{cell}\" height=\"16\">\
+         <title>{}</title></rect>\n",
+        top - 16,
+        round.named()
+    )
+}
+
+/// One truck: its number, its opening, its rounds and how it ended; in two rounds pointing at the end shows how much it sent.
 fn row(story: &Story, layout: &Layout, truck: usize) -> String {
     let scale = &layout.scale;
     let opening = story.openings[truck];
@@ -160,11 +191,15 @@ fn row(story: &Story, layout: &Layout, truck: usize) -> String {
         State::Stopped(round) => format!("stopped {}, round {round}", end.estimate),
         State::Decided(round) => format!("decided {}, round {round}", end.estimate),
     };
-    let sent = messages(end.sent.proposals.into(), end.sent.vetoes.into());
-    svg + &format!(
-        "<text class=\"end\" x=\"{}\" y=\"{text_y}\"><title>truck {truck} sent {sent}</title>{how}</text>\n",
-        layout.end_x()
-    )
+    let sent = match story.cycle {
+        Cycle::TwoRound => {
+            let sent = messages(end.sent.proposals.into(), end.sent.vetoes.into());
+            format!("<title>truck {truck} sent {sent}</title>")
+        }
+        Cycle::SixRound => String::new(),
+    };
+    let x = layout.end_x();
+    svg + &format!("<text class=\"end\" x=\"{x}\" y=\"{text_y}\">{sent}{how}</text>\n")
 }
 
 /// The rounds after a decision or a stop: a thin line.
@@ -188,8 +223,7 @@ fn rest(story: &Story, layout: &Layout, truck: usize) -> String {
     )
 }
 
-/// The first round whose marks are less than agreement asks for, and five calm rounds, each with its name above the round
-/// numbers.
+/// The first round whose marks are less than agreement asks for, and calm rounds, each with its name above the round numbers.
 fn highlights(story: &Story, layout: &Layout) -> String {
     let mut svg = String::new();
     let (top, end) = (layout.rows_top, layout.rows_end());
@@ -202,11 +236,11 @@ fn highlights(story: &Story, layout: &Layout) -> String {
         let said = format!("round {}: not {}", weak.round, weak.class);
         svg += &layout.beside("broken-label", &said, (x, x + width), y - 2);
     }
-    if let Some(calm) = first_calm(&story.rounds) {
-        let (x, end_x) = (layout.round_x(calm.from), layout.round_x(calm.last() + 1));
+    if let Some(calm) = first_calm(story) {
+        let (x, end_x) = (layout.round_x(calm.from), layout.round_x(calm.last + 1));
         let y = top - 58;
         svg += &format!("<path class=\"calm\" d=\"M{} {}v-6H{}v6\"/>\n", x + 1, y + 6, end_x - 1);
-        let said = format!("calm, rounds {} to {}", calm.from, calm.last());
+        let said = format!("calm, rounds {} to {}", calm.from, calm.last);
         svg += &layout.beside("calm-label", &said, (x, end_x), y + 8);
     }
     svg

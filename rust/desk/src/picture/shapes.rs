@@ -1,8 +1,18 @@
 //! Symbols as path data, around a middle and with half a width.
 
-/// A proposal sent: a triangle that points up.
+/// An estimate sent: a triangle that points up.
 pub fn sent(x: i32, y: i32, half: i32) -> String {
     format!("M{} {}h{}L{x} {}z", x - half, y + half, 2 * half, y - half)
+}
+
+/// A message in a bit round: an upright bar.
+pub fn bit(x: i32, y: i32, half: i32) -> String {
+    block(x - 2, y - half, 4, 2 * half)
+}
+
+/// Having become unwilling: a square that stands on a corner.
+pub fn unwilling(x: i32, y: i32, half: i32) -> String {
+    format!("M{x} {}l{half} {half}l-{half} {half}l-{half} -{half}z", y - half)
 }
 
 /// A veto sent: a cross.

@@ -32,13 +32,16 @@ text{font-family:system-ui,\"Segoe UI\",Roboto,\"Helvetica Neue\",Arial,sans-ser
 text.missed,text.k-missed{text-anchor:middle;font-size:11px;font-weight:700}
 .cell,.bar,.opening,.key,.rest{stroke-width:1}
 .veto,.k-veto,.decided,.k-decided{fill:none;stroke-width:2.5;stroke-linecap:round;stroke-linejoin:round}
+.unwilling,.k-unwilling{fill:none;stroke-width:2;stroke-linejoin:round}
 .mark,.k-mark{stroke-width:1.5;stroke-linejoin:round}
 .k-rest{fill:none;stroke-width:4}
 .off,.k-off{fill:none;stroke-width:2;stroke-dasharray:3 4}
 .ticks .mark,.ticks .k-mark,.ticks .veto,.ticks .k-veto{stroke-width:0}
-.ticks .false,.ticks .k-false{stroke-width:1}
-.even,.k-even{fill-opacity:.09}
-.ticks .even{fill-opacity:.055}
+.ticks .false,.ticks .k-false,.ticks .unwilling,.ticks .k-unwilling{stroke-width:1}
+.ticks .kind{font-size:9px}
+.even,.k-even,.accept{fill-opacity:.09}
+.ticks .even,.ticks .accept{fill-opacity:.055}
+.round{fill-opacity:0}
 .band{fill-opacity:.035}
 .broken{stroke-width:1;fill-opacity:.13}
 .calm{fill:none;stroke-width:2.5}
@@ -96,11 +99,11 @@ fn rules(ground: &Ground) -> String {
     let Ground { paper, ink, soft, edge, veto, missed, mark, decided } = ground;
     format!(
         ".paper{{fill:{paper}}}\n\
-         .title,.truck,.end,.verdict,.sent,.k-sent{{fill:{ink}}}\n\
+         .title,.truck,.end,.verdict,.sent,.k-sent,.bit,.k-bit{{fill:{ink}}}\n\
          .summary,.head,.axis,.kind,.meaning{{fill:{soft}}}\n\
-         .even,.k-even,.band{{fill:{ink}}}\n\
+         .even,.k-even,.accept,.band{{fill:{ink}}}\n\
          .cell,.bar,.opening,.key,.rest{{stroke:{edge}}}\n\
-         .veto,.k-veto,.broken{{stroke:{veto}}}.broken,.broken-label,.ticks .veto,.ticks .k-veto{{fill:{veto}}}\n\
+         .veto,.k-veto,.unwilling,.k-unwilling,.broken{{stroke:{veto}}}.broken,.broken-label,.ticks .veto,.ticks .k-veto{{fill:{veto}}}\n\
          .missed,.k-missed{{fill:{missed}}}\n\
          .mark,.k-mark{{fill:{mark};stroke:{mark}}}.false,.k-false{{fill:none}}\n\
          .decided,.k-decided,.calm{{stroke:{decided}}}.calm-label{{fill:{decided}}}\n\

@@ -97,8 +97,7 @@ of them sent. This is the proved listing, which is for the two-round cycle.
             "\
 usage: desk grade [--cycle two|six] [FILE]
 
-Prints for each class of marks the first round of the cycle's rounds that breaks
-it, or 0.
+Prints for each class of marks the first round that breaks it, or 0.
   complete   a truck that misses a message has a mark
   majority   a truck that hears at most half of the messages has a mark
   zero       a truck that hears none of the messages has a mark
@@ -131,9 +130,9 @@ is guaranteed where marks are majority complete in odd rounds and zero complete
 in even ones.
 
 With --cycle six each round has its name: prepare, bit 8, bit 4, bit 2, bit 1,
-accept. It is told who became unwilling, and on what, and not how much each sent.
-Agreement is guaranteed where marks are zero complete in every round, and calm
-are eleven rounds in a row.
+accept. It says who became unwilling, and on what, and not how much each sent.
+Agreement is guaranteed where marks are zero complete in every round, and eleven
+rounds in a row may be calm.
 ",
         ),
         (

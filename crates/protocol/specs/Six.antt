@@ -35,15 +35,7 @@ stopsSix k t =
 -- after prepare with mark m: it is willing; v is the least value that it heard (its estimate where it heard none)
 abbrev pub afterPrepare : Bool → ℕ → Truck → Truck
 afterPrepare m v t =
-    record {
-      opening = t .opening;
-      estimate = cond m (t .estimate) v;
-      mark = t .mark;
-      heard = t .heard;
-      unwilling = false;
-      state = t .state;
-      sent = t .sent;
-    }
+    record { opening = t .opening; estimate = cond m (t .estimate) v; mark = t .mark; heard = t .heard; unwilling = false; state = t .state; sent = t .sent }
 
 -- after a bit round, in which the bit of its estimate is b: where that is 0 it listened, and is unwilling if it noticed something
 abbrev pub afterBit : Bool → Bool → Truck → Truck

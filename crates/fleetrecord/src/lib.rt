@@ -27,7 +27,8 @@ fn running() -> State
     State::Running
 }
 
-fn opened(v: u8) -> Truck
+// A truck of a fleet that starts.
+pub fn opened(v: u8) -> Truck
     ensures { λ r. ⌜ r ≡ opened v ⌝ }
 {
     Truck {
@@ -143,7 +144,8 @@ fn good_rest(cycle: Cycle, done: u16, t: Truck) -> bool
     }
 }
 
-fn good_truck(cycle: Cycle, done: u16, t: Truck) -> bool
+// What refusal 7 asks of one truck.
+pub fn good_truck(cycle: Cycle, done: u16, t: Truck) -> bool
     ensures { λ r. ⌜ r ≡ goodTruckIn (chosen cycle) done t ⌝ }
 {
     let state = t.state;

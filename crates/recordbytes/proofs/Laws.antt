@@ -6,13 +6,13 @@ use Prim.Native.Nat.{ℕ, zero, suc, _+_, _*_, _-_, _/_, _%_, _≤_, _<_}
 use native.Mathlib.Nat.{add-zero, add-suc}
 use native.Mathlib.Numerals.{towards-suc}
 use native.Mathlib.Omega.{arith}
-use lib.Dec.{eqb, ltb}
+use lib.Dec.{eqb, leb, ltb}
 use lib.ListN.{length, getD, set}
 use lib.Seq.{sets}
 use mir.Val.{boolByte as castByte}
-use borrow.Author.Tests.{lt-ltb, le-ltb, ltb-false, eq-eqb, ne-eqb}
+use borrow.Author.Tests.{lt-ltb, le-ltb, ltb-false, lt-leb, leb-false, eq-eqb, ne-eqb}
 use Rattle.basics.specs.Lists.{filled, someBelow}
-use Rattle.basics.proofs.Laws.{filled-none, filled-more, filled-again, fill-length}
+use Rattle.basics.proofs.Laws.{filled-none, filled-more, filled-again, fill-length, or-left, or-right}
 use Rattle.refusals.specs.declared.Refusal.{Refusal}
 use Rattle.refusals.specs.declared.Refusal.the-variants.{Record, ShortBuffer}
 use Rattle.refusals.specs.declared.Outcome.{Outcome}
@@ -26,10 +26,10 @@ use Rattle.protocol.specs.declared.State.{State}
 use Rattle.protocol.specs.declared.Truck.{Truck}
 use Rattle.protocol.specs.declared.Fleet.{Fleet}
 use Rattle.protocol.specs.declared.Answer.{Answer}
-use Rattle.protocol.specs.Rules.{truck}
+use Rattle.protocol.specs.Rules.{truck, opened}
 use Rattle.protocol.specs.Runs.{openedTrucks}
 use Rattle.protocol.specs.Fleets.{blank}
-use Rattle.recordbytes.specs.Layout.{boolByte, heardByte, stateByte, roundOf, truckBytes, recordByte, sizeFor, packCheck, packFor, heardOfByte, stateOfByte, pairOf, placeByte, placeRound, truckAt, damagedAt, damaged, recordOf, noRecord, unpacked}
+use Rattle.recordbytes.specs.Layout.{boolByte, heardByte, stateByte, roundOf, truckBytes, recordByte, sizeFor, packCheck, packFor, heardOfByte, stateOfByte, pairOf, placeByte, placeRound, truckAt, lacksPlace, truckIn, withTruck, damagedAt, damaged, recordOf, noRecord, unpacked}
 
 -- ---- the bytes of a truck
 
@@ -198,31 +198,66 @@ module _ (d : List ℕ) where
   unfolding recordOf
   record-is ts k p q = cc
 
-  refused-as : damaged d ≡ true → (a : Answer) → a ≡ noRecord → a ≡ unpacked d
-  unfolding unpacked
-  refused-as h a e = e ∙ rw h
-
-  pub unpack-short : (a : Answer) → a ≡ noRecord → length d < sizeFor 32 → a ≡ unpacked d
+  pub damaged-short : length d < sizeFor 32 → true ≡ damaged d
   unfolding damaged
-  unpack-short a e h = refused-as (rw (lt-ltb (length d) (sizeFor 32) h)) a e
+  damaged-short h = rw (lt-ltb (length d) (sizeFor 32) h)
 
   module _ (whole : sizeFor 32 ≤ length d) (b : Bool) (counted : b ≡ badTrucks (getD d 0 0)) where
-    pub unpack-count : (a : Answer) → a ≡ noRecord → b ≡ true → a ≡ unpacked d
+    pub damaged-count : b ≡ true → true ≡ damaged d
     unfolding damaged
-    unpack-count a e h = refused-as (rw (le-ltb (length d) (sizeFor 32) whole, sym counted ∙ h)) a e
+    damaged-count h = rw (le-ltb (length d) (sizeFor 32) whole, sym counted ∙ h)
 
     module _ (range : b ≡ false) where
       pub count-most : getD d 0 0 ≤ 32
       count-most = trucks-in (getD d 0 0) (sym counted ∙ range) .1
 
-      module _ (x : Bool) (searched : x ≡ someBelow (damagedAt d) (getD d 0 0)) where
-        damaged-by : damaged d ≡ x
-        unfolding damaged
-        damaged-by = rw (le-ltb (length d) (sizeFor 32) whole, sym counted ∙ range, searched)
+      pub damaged-place : (x : Bool) → x ≡ someBelow (damagedAt d) (getD d 0 0) → x ≡ damaged d
+      unfolding damaged
+      damaged-place x searched = rw (le-ltb (length d) (sizeFor 32) whole, sym counted ∙ range, searched)
 
-        pub unpack-place : (a : Answer) → a ≡ noRecord → x ≡ true → a ≡ unpacked d
-        unpack-place a e h = refused-as (damaged-by ∙ h) a e
+  module _ (x : Bool) (told : x ≡ damaged d) where
+    pub unpack-7 : (a : Answer) → a ≡ noRecord → x ≡ true → a ≡ unpacked d
+    unfolding unpacked
+    unpack-7 a e h = e ∙ rw (sym told ∙ h)
 
-        pub unpack-0 : (f : Fleet) → f ≡ recordOf d → x ≡ false → record { outcome = Accepted; fleet = f } ≡ unpacked d
-        unfolding unpacked
-        unpack-0 f e h = rw (damaged-by ∙ h, e)
+    pub unpack-0 : (f : Fleet) → f ≡ recordOf d → x ≡ false → record { outcome = Accepted; fleet = f } ≡ unpacked d
+    unfolding unpacked
+    unpack-0 f e h = rw (sym told ∙ h, e)
+
+-- ---- one place
+
+module _ (d : List ℕ) (i : ℕ) where
+  module _ (lacks : lacksPlace d i ≡ true) where
+    pub truck-none : (t : Truck) → t ≡ opened 0 → t ≡ truckIn d i
+    unfolding truckIn
+    truck-none t e = e ∙ rw lacks
+
+    pub put-none : (t : Truck) → d ≡ withTruck d i t
+    unfolding withTruck
+    put-none t = rw lacks
+
+  module _ (has : lacksPlace d i ≡ false) where
+    pub place-whole : sizeFor 32 ≤ length d
+    place-whole = ltb-false (length d) (sizeFor 32) (or-left (ltb (length d) (sizeFor 32)) (leb 32 i) has)
+
+    pub place-below : i < 32
+    place-below = leb-false 32 i (or-right (ltb (length d) (sizeFor 32)) (leb 32 i) has)
+
+    pub truck-some : (t : Truck) → t ≡ truckAt d i → t ≡ truckIn d i
+    unfolding truckIn
+    truck-some t e = e ∙ rw has
+
+    pub put-some : (t : Truck) (l : List ℕ) → l ≡ sets d (sizeFor i) (truckBytes t) → l ≡ withTruck d i t
+    unfolding withTruck
+    put-some t l e = e ∙ rw has
+
+  -- a place of a whole record
+  module _ (whole : sizeFor 32 ≤ length d) (below : i < 32) where
+    pub place-had : lacksPlace d i ≡ false
+    place-had = rw (le-ltb (length d) (sizeFor 32) whole, lt-leb 32 i below)
+
+    pub truck-had : truckIn d i ≡ truckAt d i
+    truck-had = sym (truck-some place-had (truckAt d i) refl)
+
+    pub put-had : (t : Truck) → withTruck d i t ≡ sets d (sizeFor i) (truckBytes t)
+    put-had t = sym (put-some place-had t (sets d (sizeFor i) (truckBytes t)) refl)

@@ -4,8 +4,9 @@
 use Prim.Native.Nat.{ℕ, _+_, _*_, _-_, _/_, _%_}
 use mathlib.Core.Bool.{Bool, cond, _&&_, _||_}
 use mathlib.Core.List.{List, [], _∷_}
-use lib.Dec.{eqb, ltb}
+use lib.Dec.{eqb, leb, ltb}
 use lib.ListN.{length, getD}
+use lib.Seq.{sets}
 use Rattle.basics.specs.Lists.{filled, someBelow}
 use Rattle.refusals.specs.declared.Refusal.the-variants.{Record, ShortBuffer}
 use Rattle.refusals.specs.declared.Outcome.{Outcome}
@@ -19,7 +20,7 @@ use Rattle.protocol.specs.declared.State.the-variants.{Running, Stopped, Decide
 use Rattle.protocol.specs.declared.Truck.{Truck}
 use Rattle.protocol.specs.declared.Fleet.{Fleet}
 use Rattle.protocol.specs.declared.Answer.{Answer}
-use Rattle.protocol.specs.Rules.{truck}
+use Rattle.protocol.specs.Rules.{truck, opened}
 use Rattle.protocol.specs.Runs.{openedTrucks}
 use Rattle.protocol.specs.Fleets.{blank}
 
@@ -108,6 +109,18 @@ truckAt d i =
       state = stateOfByte (placeByte d i 4) (placeRound d i);
       sent = record { proposals = placeByte d i 7; vetoes = placeByte d i 8 };
     }
+
+-- there is no place i: the bytes are too few for a record, or it has no such place
+abbrev pub lacksPlace : List ℕ → ℕ → Bool
+lacksPlace d i = ltb (length d) (sizeFor 32) || leb 32 i
+
+-- the truck of place i, where there is one
+unfoldable pub truckIn : List ℕ → ℕ → Truck
+truckIn d i = cond (lacksPlace d i) (opened 0) (truckAt d i)
+
+-- the bytes with a truck put into place i, where there is one
+unfoldable pub withTruck : List ℕ → ℕ → Truck → List ℕ
+withTruck d i t = cond (lacksPlace d i) d (sets d (sizeFor i) (truckBytes t))
 
 -- the ten bytes of place i are those of no truck: a mark above 1, more than 2 for what it heard or for its state, a running truck with a round, or more than 1
 -- for whether it is unwilling

@@ -9,7 +9,7 @@ ghost use Rattle.basics.specs.Lists.{someBelow, filled};
 ghost use Rattle.recording.specs.Checks.{badTrucks};
 ghost use Rattle.protocol.specs.Runs.{openedTrucks};
 ghost use Rattle.recordbytes.specs.Layout.{sizeFor, heardByte, stateByte, roundOf, truckBytes, recordByte, packCheck, packFor, packedRecord, packedWhole};
-ghost use Rattle.recordbytes.specs.Layout.{heardOfByte, stateOfByte, pairOf, placeByte, placeRound, truckAt, damagedAt, recordOf, unpacked};
+ghost use Rattle.recordbytes.specs.Layout.{heardOfByte, stateOfByte, pairOf, placeByte, placeRound, truckAt, truckIn, withTruck, damagedAt, damaged, recordOf, unpacked};
 use protocol::Answer;
 use protocol::Fleet;
 use protocol::Heard;
@@ -165,7 +165,7 @@ fn place_byte(d: &[u8], i: usize, j: usize) -> u8
 }
 
 // A number of two bytes, low byte first.
-fn pair(low: u8, high: u8) -> u16
+pub fn pair(low: u8, high: u8) -> u16
     ensures { λ r. ⌜ r ≡ pairOf low high ⌝ }
 {
     low as u16 + 256 * (high as u16)
@@ -257,18 +257,25 @@ fn record_of(d: &[u8]) -> Fleet
     }
 }
 
+// The bytes are no record.
+pub fn damaged(d: &[u8]) -> bool
+    ensures { λ r. ⌜ r ≡ damaged (now (d .entry)) ⌝ }
+{
+    if d.len() < 323 {
+        return true;
+    }
+    let n = d[0];
+    if recording::bad_trucks(n) {
+        return true;
+    }
+    some_damaged(d, n)
+}
+
 // Takes bytes for a record: refusal 7 where they are none.
 pub fn unpack(d: &[u8]) -> Answer
     ensures { λ r. ⌜ r ≡ unpacked (now (d .entry)) ⌝ }
 {
-    if d.len() < 323 {
-        return fleetrecord::refused(Refusal::Record);
-    }
-    let n = d[0];
-    if recording::bad_trucks(n) {
-        return fleetrecord::refused(Refusal::Record);
-    }
-    if some_damaged(d, n) {
+    if damaged(d) {
         return fleetrecord::refused(Refusal::Record);
     }
     let fleet = record_of(d);
@@ -276,4 +283,24 @@ pub fn unpack(d: &[u8]) -> Answer
         outcome: Outcome::Accepted,
         fleet,
     }
+}
+
+// The truck of a place, for a caller that takes no whole record.
+pub fn truck_in(d: &[u8], i: usize) -> Truck
+    ensures { λ r. ⌜ r ≡ truckIn (now (d .entry)) i ⌝ }
+{
+    if (d.len() < 323) | (32 <= i) {
+        return fleetrecord::opened(0);
+    }
+    truck_at(d, i)
+}
+
+// Puts a truck into a place.
+pub fn put_in(d: &mut [u8], i: usize, t: Truck)
+    ensures { λ r. ⌜ now (d .exit) ≡ withTruck (now (d .entry)) i t ⌝ }
+{
+    if (d.len() < 323) | (32 <= i) {
+        return;
+    }
+    put_truck(d, 3 + 10 * i, t);
 }

@@ -221,23 +221,7 @@ pub extern "C" fn rajvokshul_start(trucks: u32, openings: &[u8], fleet: &mut [u8
 fn step_bytes(cycle: Cycle, fleet: &mut [u8], words: &[u32]) -> u32
     ensures { λ r. ⌜ recordLeft r (now (fleet .exit)) ≡ stepCallIn (chosen cycle) (now (fleet .entry)) (now (words .entry)) ⌝ }
 {
-    let u = recordbytes::unpack(fleet);
-    let whole = u.outcome;
-    match whole {
-        Outcome::Refused(r) => number(r),
-        Outcome::Accepted => {
-            let f = u.fleet;
-            let a = fleet::step_in(cycle, f, words);
-            let taken = a.outcome;
-            match taken {
-                Outcome::Refused(r) => number(r),
-                Outcome::Accepted => {
-                    let g = a.fleet;
-                    outcome_number(recordbytes::pack(g, fleet))
-                }
-            }
-        }
-    }
+    outcome_number(fleet::step_bytes(cycle, fleet, words))
 }
 
 // Steps a fleet by a round in plain form.

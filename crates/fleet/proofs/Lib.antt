@@ -1,3 +1,4 @@
+pub mod ByPlaces
 pub mod Laws
 pub mod Packed
 pub mod ByCrusher

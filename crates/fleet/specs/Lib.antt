@@ -1,3 +1,4 @@
+pub mod Bytes
 pub mod Sets
 pub mod Rounds
 pub mod Listens

@@ -6,14 +6,17 @@ use lib.Bits.{bitAnd}
 use lib.Dec.{eqb}
 use lib.ListN.{getD, replicate}
 use Rattle.basics.specs.Bits.{bit}
+use Rattle.basics.specs.Lists.{filled}
 use Rattle.radio.specs.Round.{stopBit, activeBit, markBit}
 use Rattle.protocol.specs.declared.Cycle.{Cycle}
 use Rattle.protocol.specs.declared.Cycle.the-variants.{TwoRound, SixRound}
 use Rattle.protocol.specs.declared.Truck.{Truck}
+use Rattle.protocol.specs.declared.Fleet.{Fleet}
 use Rattle.protocol.specs.Rules.{truck, runs, vetoes}
 use Rattle.truck.specs.declared.Event.{Event}
 use Rattle.truck.specs.declared.Event.the-variants.{Stop, StopSix}
 use Rattle.truck.specs.declared.Event.the-variants as event
+use Rattle.truck.specs.Events.{turned}
 use Rattle.fleet.specs.declared.round.Phase.{Phase}
 use Rattle.fleet.specs.declared.round.Phase.the-variants.{Proposals, Vetoes, Prepare, Bit, Accept}
 use Rattle.fleet.specs.Sets.{heardSet, valuesOf}
@@ -62,10 +65,22 @@ playEvent Accept sends mark heard values e = event.Accept (mark || not (eqb hear
 unfoldable pub eventOf : Phase → Bool → Bool → Bool → ℕ → List ℕ → ℕ → Event
 eventOf phase stop sends mark heard values e = cond stop (stopEvent phase) (playEvent phase sends mark heard values e)
 
--- what a round is to truck i, where `held` has the trucks' estimates
+-- what a round is to truck i, whose estimate is e
+abbrev pub eventBy : Phase → List ℕ → ℕ → List ℕ → ℕ → ℕ → Event
+eventBy phase w senders values e i = eventOf phase (stopBit w i) (bit senders i) (markBit w i) (heardSet senders (getD w (3 + i) 0) i) values e
+
+-- the same, where `held` has the trucks' estimates
 abbrev pub eventAt : Phase → List ℕ → ℕ → List ℕ → List ℕ → ℕ → Event
-eventAt phase w senders values held i =
-    eventOf phase (stopBit w i) (bit senders i) (markBit w i) (heardSet senders (getD w (3 + i) 0) i) values (getD held i 0)
+eventAt phase w senders values held i = eventBy phase w senders values (getD held i 0) i
+
+-- the record of which each truck is brought up to date by what round k is to it
+abbrev pub turnedFleet : Phase → List ℕ → ℕ → List ℕ → ℕ → Fleet → Fleet
+turnedFleet phase w senders values k f =
+    record {
+      n = f .n;
+      done = k;
+      trucks = filled (λ i. turned k (eventBy phase w senders values (estimates (f .trucks) i) i) (truck (f .trucks) i)) (f .n) (f .trucks);
+    }
 
 -- an array of events before any is known
 abbrev pub noEvents : List Event

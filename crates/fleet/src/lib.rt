@@ -7,7 +7,9 @@ use refusals::Outcome;
 use refusals::Refusal;
 ghost use mathlib.Core.Path.{_≡_};
 ghost use Rattle.protocol.specs.Fleets.{chosen, stepCheckIn, steppedIn, ranIn, gradedIn, stepped, ran, graded};
+ghost use Rattle.fleet.specs.Bytes.{bytesCheckIn, bytesStepIn};
 
+mod bytes;
 mod grading;
 mod hearing;
 mod listening;
@@ -52,6 +54,21 @@ pub fn step(f: Fleet, words: &[u32]) -> Answer
     ensures { λ r. ⌜ r ≡ stepped f (now (words .entry)) ⌝ }
 {
     step_in(Cycle::TwoRound, f, words)
+}
+
+// A step of a record as bytes, in a cycle, by a round in plain form.
+pub fn step_bytes(cycle: Cycle, d: &mut [u8], words: &[u32]) -> Outcome
+    ensures answer { λ r. ⌜ r ≡ bytesCheckIn (chosen cycle) (now (d .entry)) (now (words .entry)) ⌝ }
+    ensures buffer { λ r. ⌜ now (d .exit) ≡ bytesStepIn (chosen cycle) (now (d .entry)) (now (words .entry)) ⌝ }
+{
+    let outcome = bytes::check(cycle, d, words);
+    match outcome {
+        Outcome::Accepted => {
+            bytes::next_bytes(cycle, d, words);
+            Outcome::Accepted
+        }
+        Outcome::Refused(refusal) => Outcome::Refused(refusal),
+    }
 }
 
 // Running a recording in a cycle: all its rounds.

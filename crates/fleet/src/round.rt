@@ -15,7 +15,7 @@ ghost use Rattle.protocol.specs.Rules.{runs};
 ghost use Rattle.protocol.specs.Fleets.{chosen, stepCheckIn, nextFleetIn};
 ghost use Rattle.sets.specs.Sets.{Members};
 ghost use Rattle.fleet.specs.Sets.{Sorted};
-ghost use Rattle.fleet.specs.Rounds.{estimates, sixPhase, phaseOf, messageIn, sendsIn, stopEvent, eventOf, eventAt, noEvents};
+ghost use Rattle.fleet.specs.Rounds.{estimates, sixPhase, phaseOf, messageIn, sendsIn, stopEvent, eventOf, eventBy, eventAt, noEvents};
 
 // What a round of a cycle is for; a bit round has what its bit is worth.
 pub enum Phase {
@@ -41,7 +41,7 @@ fn six_phase(done: u16) -> Phase
 }
 
 // The next round, with so many done.
-fn phase_of(cycle: Cycle, done: u16) -> Phase
+pub(crate) fn phase_of(cycle: Cycle, done: u16) -> Phase
     ensures { λ r. ⌜ r ≡ phaseOf cycle done ⌝ }
 {
     match cycle {
@@ -69,7 +69,7 @@ fn message(phase: Phase, t: Truck, active: bool) -> bool
 }
 
 // Whether a truck sends.
-fn sends(phase: Phase, t: Truck, stop: bool, active: bool) -> bool
+pub(crate) fn sends(phase: Phase, t: Truck, stop: bool, active: bool) -> bool
     ensures { λ r. ⌜ r ≡ ((runs t && not stop) && messageIn phase active t) ⌝ }
 {
     let has = message(phase, t, active);
@@ -170,10 +170,34 @@ fn event_of(
 }
 
 // The places of n trucks, and at most 32: with that bound in sight the compiler leaves out the checks of a place in a loop.
-fn places(n: u8) -> usize
+pub(crate) fn places(n: u8) -> usize
     ensures { λ r. ⌜ r ≡ min n 32 ⌝ }
 {
     if n < 32 { n as usize } else { 32 }
+}
+
+// What the round is to truck i, which has an estimate.
+pub(crate) fn event_by(
+    phase: Phase,
+    words: &[u32],
+    senders: u32,
+    values: &[u32; 16],
+    estimate: u8,
+    i: usize,
+) -> Event
+    requires { ⌜ (i < 32) × (3 + i < length (now words)) ⌝ }
+    ensures { λ r. ⌜ r ≡ eventBy phase (now (words .entry)) senders (now (values .entry)) estimate i ⌝ }
+{
+    let heard = heard_by(senders, words[3 + i], sets::only(i));
+    event_of(
+        phase,
+        sets::holds(words[0], i),
+        sets::holds(senders, i),
+        sets::holds(words[2], i),
+        heard,
+        values,
+        estimate,
+    )
 }
 
 // What the round is to each of n trucks.
@@ -189,21 +213,10 @@ fn events_of(
     ensures { λ r. ⌜ r ≡ filled (eventAt phase (now (words .entry)) senders (now (values .entry)) (now (held .entry))) n noEvents ⌝ }
 {
     let end = places(n);
-    let stop = words[0];
-    let mark = words[2];
     let mut events = [Event::Stop; 32];
     let mut i = 0;
     while i < end {
-        let heard = heard_by(senders, words[3 + i], sets::only(i));
-        let event = event_of(
-            phase,
-            sets::holds(stop, i),
-            sets::holds(senders, i),
-            sets::holds(mark, i),
-            heard,
-            values,
-            held[i],
-        );
+        let event = event_by(phase, words, senders, values, held[i], i);
         events[i] = event;
         i += 1;
     }

@@ -1,0 +1,1 @@
+-- A step of a record as bytes.

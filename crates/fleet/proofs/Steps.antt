@@ -1,15 +1,15 @@
 -- What an accepted step says of the record and of the round, in either cycle.
 use mathlib.Core.Path.{_≡_}
-use mathlib.Core.Bool.{Bool, true, not}
+use mathlib.Core.Bool.{Bool, true, false, not}
 use mathlib.Core.List.{List}
 use Prim.Native.Nat.{ℕ, _+_, _≤_, _<_}
 use native.Mathlib.Omega.{arith}
-use borrow.Author.Tests.{leb-true, eqb-false, not-false}
+use borrow.Author.Tests.{leb-true, eq-eqb, ne-eqb, eqb-false, not-false}
 use lib.Dec.{eqb}
 use lib.ListN.{length}
 use Rattle.refusals.specs.declared.Refusal.the-variants.{Record, RoundsDone}
 use Rattle.refusals.specs.declared.Outcome.{Outcome}
-use Rattle.refusals.specs.declared.Outcome.the-variants.{Accepted}
+use Rattle.refusals.specs.declared.Outcome.the-variants.{Accepted, Refused}
 use Rattle.refusals.specs.Outcomes.{refuse}
 use Rattle.refusals.proofs.Outcomes.{refuse-false, refuse-rest}
 use Rattle.recording.specs.Checks.{roundCheck}
@@ -20,7 +20,7 @@ use Rattle.protocol.specs.declared.Cycle.the-variants.{TwoRound, SixRound}
 use Rattle.protocol.specs.declared.Sent.{Sent}
 use Rattle.protocol.specs.declared.Fleet.{Fleet}
 use Rattle.protocol.specs.Rules.{truck}
-use Rattle.protocol.specs.Fleets.{chosen, goodFleetIn, stepCheckIn}
+use Rattle.protocol.specs.Fleets.{Protocol, chosen, goodFleetIn, stepCheckIn}
 use Rattle.protocol.proofs.Good.{record-parts}
 use Rattle.protocol.proofs.Rules.{counts-few}
 
@@ -56,3 +56,18 @@ step-good c f w h =
       counts = λ j l. few-sent c (f .done) (truck (f .trucks) j .sent) (good .done) (good .each j l .counts);
       count = round-good (f .n) (f .done + 1) w (refuse-rest (eqb (f .done) 400) RoundsDone (roundCheck (f .n) (f .done + 1) w) rest) .count;
     }
+
+-- what a step answers, test by test, in any protocol
+module _ (p : Protocol) (f : Fleet) (w : List ℕ) where
+  pub step-7 : goodFleetIn p f ≡ false → Refused Record ≡ stepCheckIn p f w
+  unfolding stepCheckIn
+  step-7 h = rw h
+
+  module _ (good : goodFleetIn p f ≡ true) where
+    pub step-14 : f .done ≡ 400 → Refused RoundsDone ≡ stepCheckIn p f w
+    unfolding stepCheckIn
+    step-14 h = rw (good, eq-eqb (f .done) 400 h)
+
+    pub step-rest : (f .done ≡ 400 → ⊥) → roundCheck (f .n) (f .done + 1) w ≡ stepCheckIn p f w
+    unfolding stepCheckIn
+    step-rest h = rw (good, ne-eqb (f .done) 400 h)

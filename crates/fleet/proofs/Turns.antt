@@ -34,7 +34,7 @@ use Rattle.fleet.specs.declared.hearing.Values.{Values}
 use Rattle.fleet.specs.declared.round.Phase.{Phase}
 use Rattle.fleet.specs.declared.round.Phase.the-variants.{Proposals, Vetoes}
 use Rattle.fleet.specs.Sets.{heardSet, valuesOf, Sorted}
-use Rattle.fleet.specs.Rounds.{estimates, phaseOf, sendsIn, stopEvent, playEvent, eventOf, eventAt, noEvents}
+use Rattle.fleet.specs.Rounds.{estimates, phaseOf, sendsIn, stopEvent, playEvent, eventOf, eventBy, eventAt, noEvents, turnedFleet}
 use Rattle.fleet.proofs.Laws.{next-kind, six-phases, message-right}
 use Rattle.fleet.proofs.ByCrusher.{values-right}
 use Rattle.fleet.proofs.Radios.{who-members, some-members, hearers}
@@ -143,19 +143,22 @@ module _ (c : Cycle) (f : Fleet) (w : List ℕ) where
   unfolding radioIn
   sends-is i = ap (λ (b : Bool). (runs (truck trucks i) && not (stopBit w i)) && b) (message-right c (f .done) (activeBit w i) (truck trucks i))
 
-  module _ (phase : Phase) (next : phase ≡ phaseOf c (f .done)) (senders : ℕ) (values held : List ℕ) (sent : Members senders (f .n) (sendsIn phase w (f .trucks))) (sorted : Sorted values (f .n) senders (estimates (f .trucks)))
-      (holds : (j : ℕ) → j < f .n → getD held j 0 ≡ estimates (f .trucks) j) (small : (j : ℕ) → j < f .n → estimates (f .trucks) j < 16)
+  module _ (phase : Phase) (next : phase ≡ phaseOf c (f .done)) (senders : ℕ) (values : List ℕ) (sent : Members senders (f .n) (sendsIn phase w (f .trucks)))
+      (sorted : Sorted values (f .n) senders (estimates (f .trucks))) (small : (j : ℕ) → j < f .n → estimates (f .trucks) j < 16)
       (room : (j : ℕ) → j < f .n → Room c (truck (f .trucks) j .sent)) where
     sends : Members senders (f .n) (radio .sends)
     sends = record { below = sent .below; each = λ i l. sent .each i l ∙ ap (λ (p : Phase). sendsIn p w trucks i) next ∙ sends-is i }
 
+    -- what the round is to truck i
+    abbrev event : ℕ → Event
+    event i = eventBy phase w senders values (estimates trucks i) i
+
     -- the event that was worked out is what the rules make of the truck
-    event-right : (i : ℕ) → i < f .n → turned (f .done + 1) (eventAt phase w senders values held i) (truck trucks i) ≡ rule i
+    event-right : (i : ℕ) → i < f .n → turned (f .done + 1) (event i) (truck trucks i) ≡ rule i
     unfolding eventOf
     event-right i l =
         event-turn (f .done + 1) (truck trucks i .state) (stopBit w i) (truck trucks i) (chosen c .rules .stops (f .done + 1) (truck trucks i))
-        (playsIn (chosen c .rules) radio (f .done + 1) w trucks i) (eventAt phase w senders values held i)
-        (λ run. ap (λ (e : ℕ). happened (f .done + 1) (eventOf phase (stopBit w i) (bit senders i) (markBit w i) heardNow values e) (truck trucks i)) (holds i l) ∙ go run (stopBit w i) refl)
+        (playsIn (chosen c .rules) radio (f .done + 1) w trucks i) (event i) (λ run. go run (stopBit w i) refl)
       where
         heardNow : ℕ
         heardNow = heardSet senders (getD w (3 + i) 0) i
@@ -169,14 +172,23 @@ module _ (c : Cycle) (f : Fleet) (w : List ℕ) where
             ∙ play-right (f .done) (f .n) w trucks senders values sorted small i l c sends (room i l) run e
 
     -- so the trucks brought up to date by their events are the next record's
-    pub step-next : f .n ≤ 32 → (events : List Event) → events ≡ filled (eventAt phase w senders values held) (f .n) noEvents
+    pub turned-next : turnedFleet phase w senders values (f .done + 1) f ≡ nextFleetIn (chosen c) f w
+    turned-next =
+        ap (λ (ts : List Truck). record { n = f .n; done = f .done + 1; trucks = ts })
+        (filled-ext (λ i. turned (f .done + 1) (event i) (truck trucks i)) rule (f .n) trucks event-right)
+        ∙ sym next-is
+
+    -- the same where the events stand in a list
+    pub step-next : f .n ≤ 32 → (held : List ℕ) → ((j : ℕ) → j < f .n → getD held j 0 ≡ estimates (f .trucks) j)
+        → (events : List Event) → events ≡ filled (eventAt phase w senders values held) (f .n) noEvents
         → (g : Fleet) → g ≡ updatedFirst f (min (f .n) 32) (f .done + 1) events
         → record { n = g .n; done = f .done + 1; trucks = g .trucks } ≡ nextFleetIn (chosen c) f w
-    step-next few events e g eg =
+    step-next few held holds events e g eg =
         ap (λ (x : Fleet). record { n = x .n; done = f .done + 1; trucks = x .trucks })
         (eg ∙ ap (λ (m : ℕ). updatedFirst f m (f .done + 1) events) (let z : min (f .n) 32 ≡ f .n = omega arith in z)
         ∙ ap (λ (l : List Truck). record { n = f .n; done = f .done; trucks = l })
-        (filled-ext (λ i. turned (f .done + 1) (getD events i Stop) (truck trucks i)) rule (f .n) trucks
+        (filled-ext (λ i. turned (f .done + 1) (getD events i Stop) (truck trucks i)) (λ i. turned (f .done + 1) (event i) (truck trucks i)) (f .n) trucks
         (λ i l. ap (λ (x : Event). turned (f .done + 1) x (truck trucks i))
-        (ap (λ (es : List Event). getD es i Stop) e ∙ getD-filled (eventAt phase w senders values held) (f .n) noEvents i Stop l) ∙ event-right i l)))
-        ∙ sym next-is
+        (ap (λ (es : List Event). getD es i Stop) e ∙ getD-filled (eventAt phase w senders values held) (f .n) noEvents i Stop l
+        ∙ ap (λ (x : ℕ). eventBy phase w senders values x i) (holds i l)))))
+        ∙ turned-next

@@ -1,4 +1,4 @@
--- A step of a record as bytes, by a round in plain form.
+-- A step of a record as bytes, by a round in plain form (recordbytes, Layout).
 use Prim.Native.Nat.{ℕ}
 use mathlib.Core.List.{List}
 use Rattle.refusals.specs.declared.Outcome.{Outcome}

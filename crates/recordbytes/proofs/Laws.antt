@@ -85,7 +85,7 @@ headed f d = sets d 0 (headBytes f)
 
 -- a loop that puts the places: what the buffer l holds after i of them
 module _ (f : Fleet) (d : List ℕ) (room : sizeFor 32 ≤ length d) where
-  head-filled : headed f d ≡ filled (recordByte f) 3 d
+  pub head-filled : headed f d ≡ filled (recordByte f) 3 d
   unfolding recordByte
   head-filled = fill-sets 0 (recordByte f) d (headBytes f) d 0 (sym (filled-none (recordByte f) d)) (omega arith) same
     where

@@ -30,12 +30,11 @@ loop-again c =
     let s = c .before .before .before .before .before .before .before in
     let d = s .args .d .now in
     let o = c .before .before .before .loop in
-    let below : o .i < recordOf d .n = omega (arith, c .before .before .loop-test .taken, c .before .before .before .before .places .ensures, bytes-n d (s .pre), bytes-few d (s .pre)) in
-    (
+    let below : o .i < recordOf d .n = omega (arith, c .before .before .loop-test .taken, c .before .before .before .before .places .ensures, bytes-n d (s .pre), bytes-few d (s .pre)) in (
       search needs,
       rw (add-one (o .i))
-      (ap₂ _&&_ (o .inv .1)
-      (c .good-truck .ensures ∙ ap (λ (t : Truck). goodTruckIn (chosen (s .args .cycle)) (s .args .done) t) (c .before .truck-in .ensures ∙ place-read d (s .pre) (o .i) below))),
+          (ap₂ _&&_ (o .inv .1)
+          (c .good-truck .ensures ∙ ap (λ (t : Truck). goodTruckIn (chosen (s .args .cycle)) (s .args .done) t) (c .before .truck-in .ensures ∙ place-read d (s .pre) (o .i) below))),
     )
 
 returns : tie.Need-returns Inv-loop μ-loop

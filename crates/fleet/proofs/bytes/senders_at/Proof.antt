@@ -1,108 +1,75 @@
+-- `senders_at` meets its contract: the loop holds the senders among the trucks passed, and those of each crusher.
+use mathlib.Core.Path.{_≡_, refl, ap, ap₂, sym, subst, _∙_}
+use mathlib.Core.Bool.{Bool, not, _&&_}
+use Prim.Native.Nat.{ℕ, _≤_, _<_, _-_}
+use native.Mathlib.Omega.{arith}
+use native.Mathlib.Numerals.{add-one}
 use borrow.Author.Needs.{needs}
+use Rattle.radio.specs.Round.{stopBit, activeBit}
+use Rattle.protocol.specs.declared.Truck.{Truck}
+use Rattle.protocol.specs.Rules.{truck, runs}
+use Rattle.sets.proofs.Members.{only-is}
+use Rattle.recordbytes.specs.Layout.{recordOf}
+use Rattle.recordbytes.proofs.Places.{bytes-whole, bytes-few, bytes-n, place-read}
+use Rattle.fleet.specs.Rounds.{estimates, messageIn, sendsIn}
+use Rattle.fleet.proofs.Sorting.{Sending, sending-starts, sending-more, sending-done}
 use Rattle.fleet.proofs.bytes.senders_at.Statement.{statement}
 use Rattle.fleet.proofs.bytes.senders_at.Tie as tie
-use Rattle.fleet.proofs.bytes.senders_at.Reads as reads
-use Rattle.fleet.proofs.bytes.senders_at.Lts as lts
-use Rattle.fleet.proofs.round.places.Reads as places-reads
-use Rattle.fleet.proofs.round.sends.Reads as sends-reads
-use Rattle.recordbytes.proofs.truck_in.Reads as truck-in-reads
-use Rattle.sets.proofs.holds.Reads as holds-reads
-use Rattle.sets.proofs.only.Reads as only-reads
-use Rattle.sets.proofs.union_where.Reads as union-where-reads
 
 abbrev Inv-loop : tie.InvT-loop
-Inv-loop phase d words values₀ end stop active senders₀ i₀ values senders i = ?
+Inv-loop phase d words values₀ end stop active senders₀ i₀ values senders i =
+    (i ≤ end) × Sending (sendsIn phase words (recordOf d .trucks)) (estimates (recordOf d .trucks)) i senders values
 
 abbrev μ-loop : tie.MeasureT-loop
-μ-loop phase d words values₀ end stop active senders₀ i₀ values senders i = ?
+μ-loop phase d words values₀ end stop active senders₀ i₀ values senders i = end - i
 
--- src/bytes.rt:76:22
-shared-slice-read-places : tie.Need-shared-slice-read-places Inv-loop μ-loop
-shared-slice-read-places c = search needs
-
--- src/bytes.rt:76:9
-places-requires : tie.Need-places-requires Inv-loop μ-loop
-places-requires c κs = search needs
-
--- src/bytes.rt:77:16
-shared-slice-read-stop : tie.Need-shared-slice-read-stop Inv-loop μ-loop
-shared-slice-read-stop c = search needs
-
--- src/bytes.rt:78:18
-shared-slice-read-active : tie.Need-shared-slice-read-active Inv-loop μ-loop
-shared-slice-read-active c = search needs
-
--- src/bytes.rt:81:5
 loop-holds : tie.Need-loop-holds Inv-loop μ-loop
-loop-holds c = search needs
+loop-holds c =
+    let z = c .before .before .before .before .before .before in
+    let ts = recordOf (z .args .d .now) .trucks in
+    (search needs, rw (z .pre .3) (sending-starts (sendsIn (z .args .phase) (z .args .words .now) ts) (estimates ts)))
 
--- src/bytes.rt:82:13
-truck-in-requires : tie.Need-truck-in-requires Inv-loop μ-loop
-truck-in-requires c κs = search needs
+-- the loop's bound is n
+below : (c : tie.In-loop Inv-loop μ-loop) → c .before .loop .i < recordOf (c .before .before .before .before .before .before .before .before .args .d .now) .n
+below c =
+    let z = c .before .before .before .before .before .before .before .before in
+    let d = z .args .d .now in
+    omega (arith, c .loop-test .taken, c .before .before .before .before .places .ensures, bytes-n d (z .pre .0), bytes-few d (z .pre .0))
 
--- src/bytes.rt:83:37
-holds-requires : tie.Need-holds-requires Inv-loop μ-loop
-holds-requires c κs = search needs
+read : (c : tie.After-truck-in Inv-loop μ-loop) → c .truck-in .result ≡ truck (recordOf (c .before .before .before .before .before .before .before .before .before .args .d .now) .trucks) (c .before .before .loop .i)
+read c = let z = c .before .before .before .before .before .before .before .before .before in c .truck-in .ensures ∙ place-read (z .args .d .now) (z .pre .0) (c .before .before .loop .i) (below (c .before))
 
--- src/bytes.rt:83:59
-holds-requires-2 : tie.Need-holds-requires-2 Inv-loop μ-loop
-holds-requires-2 c κs = search needs
+small : (c : tie.After-truck-in Inv-loop μ-loop) → c .truck-in .result .estimate < 16
+small c = let z = c .before .before .before .before .before .before .before .before .before in rw (read c) (z .pre .2 (c .before .before .loop .i) (below (c .before)))
 
--- src/bytes.rt:83:13
-sends-requires : tie.Need-sends-requires Inv-loop μ-loop
-sends-requires c κs = search needs
-
--- src/bytes.rt:84:17
-cast-c : tie.Need-cast-c Inv-loop μ-loop
-cast-c c = search needs
-
--- src/bytes.rt:85:46
-only-requires : tie.Need-only-requires Inv-loop μ-loop
-only-requires c κs = search needs
-
--- src/bytes.rt:85:9
-union-where-requires : tie.Need-union-where-requires Inv-loop μ-loop
-union-where-requires c κs = search needs
-
--- src/bytes.rt:86:39
-mul-union-where : tie.Need-mul-union-where Inv-loop μ-loop
-mul-union-where c = search needs
-
--- src/bytes.rt:86:39
-element-copy-out-union-where : tie.Need-element-copy-out-union-where Inv-loop μ-loop
-element-copy-out-union-where c = search needs
-
--- src/bytes.rt:86:50
-only-requires-2 : tie.Need-only-requires-2 Inv-loop μ-loop
-only-requires-2 c κs = search needs
-
--- src/bytes.rt:86:21
-union-where-requires-2 : tie.Need-union-where-requires-2 Inv-loop μ-loop
-union-where-requires-2 c κs = search needs
-
--- src/bytes.rt:86:9
-mul-values : tie.Need-mul-values Inv-loop μ-loop
-mul-values c = search needs
-
--- src/bytes.rt:86:9
-element-write-values : tie.Need-element-write-values Inv-loop μ-loop
-element-write-values c = search needs
-
--- src/bytes.rt:87:9
-add-i : tie.Need-add-i Inv-loop μ-loop
-add-i c = search needs
-
--- src/bytes.rt:81:5
-loop-less : tie.Need-loop-less Inv-loop μ-loop
-loop-less c = search needs
-
--- src/bytes.rt:81:5
 loop-again : tie.Need-loop-again Inv-loop μ-loop
-loop-again c = search needs
+loop-again c =
+    let z = c .before .before .before .before .before .before .before .before .before .before .before .before .before .before .before .before .before .before in
+    let a = z .args in
+    let ts = recordOf (a .d .now) .trucks in
+    let o = c .before .before .before .before .before .before .before .before .before .before .before .loop in
+    let t = c .before .before .before .before .before .before .before .before .before .truck-in .result in
+    let is : t ≡ truck ts (o .i) = read (c .before .before .before .before .before .before .before .before .before) in
+    let less = below (c .before .before .before .before .before .before .before .before .before .before) in
+    let few : o .i < 32 = omega (arith, less, bytes-few (a .d .now) (z .pre .0)) in
+    let sends = c .before .before .before .before .before .before .sends in (
+      search needs,
+      rw (c .union-where2 .ensures, c .before .before .before .union-where .ensures, c .before .only2 .ensures ∙ only-is (o .i) few, c .before .before .before .before .only .ensures ∙ only-is (o .i) few, add-one (o .i), is)
+          (sending-more (sendsIn (a .phase) (a .words .now) ts) (estimates ts) (o .inv .1) (z .pre .2 (o .i) less) (sends .result)
+          (sends .ensures
+          ∙ ap₂ (λ (x y : Bool). (runs t && not x) && messageIn (a .phase) y t) (c .before .before .before .before .before .before .before .before .holds .ensures) (c .before .before .before .before .before .before .before .holds2 .ensures)
+          ∙ ap (λ (t : Truck). (runs t && not (stopBit (a .words .now) (o .i))) && messageIn (a .phase) (activeBit (a .words .now) (o .i)) t) is)),
+    )
 
--- src/bytes.rt:70:1
 returns : tie.Need-returns Inv-loop μ-loop
-returns c = search needs
+returns c =
+    let z = c .before .before .before .before .before .before .before .before in
+    let d = z .args .d .now in
+    let ts = recordOf d .trucks in
+    let o = c .before .loop in
+    let end : o .i ≡ recordOf d .n = omega (arith, o .inv .0, c .loop-test .left, c .before .before .before .before .places .ensures, bytes-n d (z .pre .0), bytes-few d (z .pre .0)) in
+    let done = subst (λ (m : ℕ). Sending (sendsIn (z .args .phase) (z .args .words .now) ts) (estimates ts) m (o .senders) (o .values)) end (o .inv .1) in
+    (done .all, sending-done (sendsIn (z .args .phase) (z .args .words .now) ts) (estimates ts) done)
 
 pub senders-at-spec : {M : Type 1} → statement M
 senders-at-spec =
@@ -110,25 +77,25 @@ senders-at-spec =
     (tie.spec
     Inv-loop
     μ-loop
-    shared-slice-read-places
-    places-requires
-    shared-slice-read-stop
-    shared-slice-read-active
+    (λ c. omega (arith, bytes-whole (c .before .before .before .args .d .now) (c .before .before .before .pre .0)))
+    (λ c κs. search needs)
+    (λ c. search needs)
+    (λ c. search needs)
     loop-holds
-    truck-in-requires
-    holds-requires
-    holds-requires-2
-    sends-requires
-    cast-c
-    only-requires
-    union-where-requires
-    mul-union-where
-    element-copy-out-union-where
-    only-requires-2
-    union-where-requires-2
-    mul-values
-    element-write-values
-    add-i
-    loop-less
+    (λ c κs. search needs)
+    (λ c κs. search needs)
+    (λ c κs. search needs)
+    (λ c κs. search needs)
+    (λ c. search needs)
+    (λ c κs. search needs)
+    (λ c κs. search needs)
+    (λ c. search needs)
+    (λ c. small (c .before .before .before .before .before .before))
+    (λ c κs. search needs)
+    (λ c κs. search needs)
+    (λ c. search needs)
+    (λ c. small (c .before .before .before .before .before .before .before .before .before))
+    (λ c. search needs)
+    (λ c. search needs)
     loop-again
     returns)

@@ -1,87 +1,77 @@
+-- `turn_places` meets its contract: the loop holds that the head and the places passed are up to date.
+use mathlib.Core.Path.{_≡_, ap, _∙_}
+use Prim.Native.Nat.{ℕ, _-_, _≤_, _<_}
+use native.Mathlib.Omega.{arith}
+use lib.ListN.{length, length-set}
 use borrow.Author.Needs.{needs}
+use Rattle.basics.specs.Lists.{filled}
+use Rattle.recordbytes.specs.Layout.{sizeFor, recordByte, recordOf}
+use Rattle.recordbytes.proofs.Places.{bytes-whole, bytes-few, bytes-n}
+use Rattle.fleet.specs.Rounds.{turnedFleet}
+use Rattle.fleet.proofs.ByPlaces.{turn-holds, turn-length, turn-more, turn-done}
 use Rattle.fleet.proofs.bytes.turn_places.Statement.{statement}
 use Rattle.fleet.proofs.bytes.turn_places.Tie as tie
-use Rattle.fleet.proofs.bytes.turn_places.Reads as reads
-use Rattle.fleet.proofs.bytes.turn_places.Lts as lts
-use Rattle.fleet.proofs.round.event_by.Reads as event-by-reads
-use Rattle.fleet.proofs.round.places.Reads as places-reads
-use Rattle.recordbytes.proofs.put_in.Reads as put-in-reads
-use Rattle.recordbytes.proofs.truck_in.Reads as truck-in-reads
-use Rattle.truck.proofs.update_copy.Reads as update-copy-reads
 
 abbrev Inv-loop : tie.InvT-loop
-Inv-loop phase d₀ round words senders values n end i₀ d i = ?
+Inv-loop phase d₀ round words senders values n end i₀ d i = (i ≤ end) × (d ≡ filled (recordByte (turnedFleet phase words senders values round (recordOf d₀))) (sizeFor i) d₀)
 
 abbrev μ-loop : tie.MeasureT-loop
-μ-loop phase d₀ round words senders values n end i₀ d i = ?
+μ-loop phase d₀ round words senders values n end i₀ d i = end - i
 
--- src/bytes.rt:106:13
-slice-read-n : tie.Need-slice-read-n Inv-loop μ-loop
-slice-read-n c = search needs
+whole : (c : tie.After-slice-known2 Inv-loop μ-loop) → sizeFor 32 ≤ length (c .before .before .before .args .d .now)
+whole c = bytes-whole (c .before .before .before .args .d .now) (c .before .before .before .pre .0)
 
--- src/bytes.rt:107:5
-slice-write-d : tie.Need-slice-write-d Inv-loop μ-loop
-slice-write-d c = search needs
-
--- src/bytes.rt:108:12
-cast-d : tie.Need-cast-d Inv-loop μ-loop
-cast-d c = search needs
-
--- src/bytes.rt:108:5
-slice-write-d-2 : tie.Need-slice-write-d-2 Inv-loop μ-loop
-slice-write-d-2 c = search needs
-
--- src/bytes.rt:109:12
-cast-d-2 : tie.Need-cast-d-2 Inv-loop μ-loop
-cast-d-2 c = search needs
-
--- src/bytes.rt:109:5
-slice-write-d-3 : tie.Need-slice-write-d-3 Inv-loop μ-loop
-slice-write-d-3 c = search needs
-
--- src/bytes.rt:110:9
-places-requires : tie.Need-places-requires Inv-loop μ-loop
-places-requires c κs = search needs
-
--- src/bytes.rt:112:5
 loop-holds : tie.Need-loop-holds Inv-loop μ-loop
-loop-holds c = search needs
+unfolding recordOf
+loop-holds c =
+    let s = c .before .before .before .before in
+    let a = s .args in
+    (omega arith, turn-holds (a .phase) (a .words .now) (a .senders) (a .values .now) (a .round) (a .d .now) (s .pre .0))
 
--- src/bytes.rt:113:13
-truck-in-requires : tie.Need-truck-in-requires Inv-loop μ-loop
-truck-in-requires c κs = search needs
+-- the loop's bound is n
+below : (c : tie.In-loop Inv-loop μ-loop) → c .before .loop .i < recordOf (c .before .before .before .before .before .before .args .d .now) .n
+below c =
+    let s = c .before .before .before .before .before .before in
+    let d = s .args .d .now in
+    omega (arith, c .loop-test .taken, c .before .before .places .ensures, bytes-n d (s .pre .0), bytes-few d (s .pre .0))
 
--- src/bytes.rt:114:13
-event-by-requires : tie.Need-event-by-requires Inv-loop μ-loop
-event-by-requires c κs = search needs
-
--- src/bytes.rt:115:13
-update-copy-requires : tie.Need-update-copy-requires Inv-loop μ-loop
-update-copy-requires c κs = search needs
-
--- src/bytes.rt:116:9
-put-in-requires : tie.Need-put-in-requires Inv-loop μ-loop
-put-in-requires c κs = search needs
-
--- src/bytes.rt:117:9
-add-i : tie.Need-add-i Inv-loop μ-loop
-add-i c = search needs
-
--- src/bytes.rt:112:5
-loop-less : tie.Need-loop-less Inv-loop μ-loop
-loop-less c = search needs
-
--- src/bytes.rt:112:5
 loop-again : tie.Need-loop-again Inv-loop μ-loop
-loop-again c = search needs
+unfolding recordOf
+loop-again c =
+    let n = c .before .before .before .before .before .before .before .before in
+    let s = n .before .before .before .before .before .before in
+    let a = s .args in
+    let o = n .before .loop in (
+      omega (arith, n .loop-test .taken),
+      turn-more (a .phase) (a .words .now) (a .senders) (a .values .now) (a .round) (a .d .now) (s .pre .0) (o .d) (o .i) (omega (arith, below n)) (o .inv .1) (below n)
+          (c .before .before .before .before .before .before .truck-in .result) (c .before .before .before .before .update-copy .result) (c .before .before .before .before .before .event-by .result) (c .before .before .put-in .last .0)
+          (c .before .before .before .before .before .before .truck-in .ensures) (c .before .before .before .before .before .event-by .ensures) (c .before .before .before .before .update-copy .ensures) (c .before .before .put-in .ensures),
+    )
 
--- src/bytes.rt:93:1
+-- at most n places are passed
+passed : (c : tie.After-loop Inv-loop μ-loop) → c .before .loop .i ≤ recordOf (c .before .before .before .before .before .before .args .d .now) .n
+passed c =
+    let s = c .before .before .before .before .before .before in
+    let d = s .args .d .now in
+    omega (arith, c .before .loop .inv .0, c .before .before .places .ensures, bytes-n d (s .pre .0), bytes-few d (s .pre .0))
+
 same-length : tie.Need-same-length Inv-loop μ-loop
-same-length c = search needs
+unfolding recordOf
+same-length c =
+    let s = c .before .before .before .before .before .before in
+    let a = s .args in
+    let o = c .before .loop in
+    turn-length (a .phase) (a .words .now) (a .senders) (a .values .now) (a .round) (a .d .now) (s .pre .0) (o .d) (o .i) (passed c) (o .inv .1)
 
--- src/bytes.rt:93:1
 returns : tie.Need-returns Inv-loop μ-loop
-returns c = search needs
+unfolding recordOf
+returns c =
+    let s = c .before .before .before .before .before .before in
+    let a = s .args in
+    let d = a .d .now in
+    let o = c .before .loop in
+    turn-done (a .phase) (a .words .now) (a .senders) (a .values .now) (a .round) d (s .pre .0) (o .d) (o .i) (passed c) (o .inv .1)
+    (omega (arith, c .loop-test .left, c .before .before .places .ensures, bytes-n d (s .pre .0), bytes-few d (s .pre .0)))
 
 pub turn-places-spec : {M : Type 1} → statement M
 turn-places-spec =
@@ -89,20 +79,23 @@ turn-places-spec =
     (tie.spec
     Inv-loop
     μ-loop
-    slice-read-n
-    slice-write-d
-    cast-d
-    slice-write-d-2
-    cast-d-2
-    slice-write-d-3
-    places-requires
+    (λ c. omega (arith, whole c))
+    (λ c. omega (arith, whole c))
+    (λ c. search needs)
+    (λ c. simp length-set (omega (arith, whole c)))
+    (λ c. search needs)
+    (λ c. simp length-set (omega (arith, whole c)))
+    (λ c κs. search needs)
     loop-holds
-    truck-in-requires
-    event-by-requires
-    update-copy-requires
-    put-in-requires
-    add-i
-    loop-less
+    (λ c κs. search needs)
+    (λ c κs.
+    let n = c .before .before in
+    let s = n .before .before .before .before .before .before in
+    (omega (arith, below n, bytes-few (s .args .d .now) (s .pre .0)), omega (arith, below n, s .pre .1)))
+    (λ c κs. search needs)
+    (λ c κs. search needs)
+    (λ c. search needs)
+    (λ c. search needs)
     loop-again
     same-length
     returns)

@@ -31,8 +31,7 @@ loop-again : tie.Need-loop-again Inv-loop μ-loop
 loop-again c =
     let n = c .before .before in
     let a = n .before .before .before .before .args in
-    let o = n .before .loop in
-    (
+    let o = n .before .loop in (
       omega (arith, n .loop-test .taken),
       fill-step (eventAt (a .phase) (a .words .now) (a .senders) (a .values .now) (a .held .now)) noEvents (o .events) (o .i) (o .inv .1) (c .event-by .result) (place n) (c .event-by .ensures),
     )

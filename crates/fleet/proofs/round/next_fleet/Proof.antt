@@ -32,8 +32,8 @@ returns c =
     let held = senders .last .1 .1 .1 .1 .0 in
     let events = c .before .before .before .events-of in
     let phase = c .before .before .before .before .before .before .before .before .before .phase-of in
-    step-next (s .args .cycle) f w (phase .result) (phase .ensures) (senders .result) values held (senders .ensures .0) (senders .ensures .1 .0)
-    (λ j l. ap (λ (x : List ℕ). getD x j 0) (senders .ensures .1 .1) ∙ getD-filled (estimates (f .trucks)) (f .n) (replicate 32 0) j 0 l) (g .small) (g .counts) (g .most)
+    step-next (s .args .cycle) f w (phase .result) (phase .ensures) (senders .result) values (senders .ensures .0) (senders .ensures .1 .0) (g .small) (g .counts) (g .most) held
+    (λ j l. ap (λ (x : List ℕ). getD x j 0) (senders .ensures .1 .1) ∙ getD-filled (estimates (f .trucks)) (f .n) (replicate 32 0) j 0 l)
     (events .result) (events .ensures) (c .update-first .result) (c .update-first .ensures)
 
 pub next-fleet-spec : {M : Type 1} → statement M

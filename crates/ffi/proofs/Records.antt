@@ -1,5 +1,5 @@
 -- What is left of a lent record: after a start or a run, and after a step.
-use mathlib.Core.Path.{_≡_, refl, ap, sym, _∙_}
+use mathlib.Core.Path.{_≡_, refl, ap, _∙_}
 use mathlib.Core.Bool.{true, false, not}
 use mathlib.Core.List.{List}
 use Prim.Native.Nat.{ℕ, min, _+_, _≤_}
@@ -12,7 +12,7 @@ use Rattle.refusals.specs.declared.Refusal.{Refusal}
 use Rattle.refusals.specs.declared.Refusal.the-variants.{TruckCount, Record, RoundsDone}
 use Rattle.refusals.specs.declared.Outcome.{Outcome}
 use Rattle.refusals.specs.declared.Outcome.the-variants.{Accepted, Refused}
-use Rattle.refusals.specs.Outcomes.{refuse}
+use Rattle.refusals.specs.Outcomes.{refuse, andThen}
 use Rattle.refusals.proofs.Outcomes.{refuse-false}
 use Rattle.recording.specs.Packed.{trucksOf, roundsOf, openingsOf, roundAt}
 use Rattle.recording.specs.Checks.{checkOf, badTrucks, roundCheck}
@@ -23,8 +23,8 @@ use Rattle.protocol.specs.Runs.{openedTrucks}
 use Rattle.protocol.specs.Fleets.{Protocol, blank, startCheck, started, goodFleetIn, stepCheckIn, steppedIn, nextFleetIn, ranIn, fleetIn}
 use Rattle.protocol.proofs.Good.{record-parts}
 use Rattle.protocol.proofs.Steps.{accepted-by, start-by}
-use Rattle.recordbytes.proofs.RoundTrip.{undamaged, taken-whole}
-use Rattle.recordbytes.specs.Layout.{sizeFor, packCheck, packFor, packedRecord, packedWhole, unpacked}
+use Rattle.recordbytes.specs.Layout.{sizeFor, packCheck, packFor, packedWhole, unpacked}
+use Rattle.fleet.specs.Bytes.{bytesCheckIn, bytesStepIn}
 use Rattle.ffi.specs.Calls.{RecordLeft, recordLeft, recordAs, storeCall, runCallIn, startCall, stepCallIn}
 use Rattle.ffi.proofs.Narrow.{many-trucks, narrowed}
 
@@ -46,10 +46,9 @@ pub record-number : (o : Outcome) (m : ℕ) (f : Fleet) (d : List ℕ) → recor
 record-number Accepted m f d = refl
 record-number (Refused r) m f d = refl
 
--- the number and the buffer that packing m places leaves
-packed-as : (f : Fleet) (m : ℕ) (d l : List ℕ) (o : Outcome) (k : ℕ) → o ≡ packCheck (f .n) (length d) → l ≡ packFor (packCheck (f .n) (length d)) m f d → k ≡ outcomeNumber o
-    → recordLeft k l ≡ recordAs (packCheck (f .n) (length d)) m f d
-packed-as f m d l o k p q e = rw (e, p, q) (both (packCheck (f .n) (length d)))
+-- the number of an outcome, and the buffer with m places put by it
+packed-as : (f : Fleet) (m : ℕ) (d l : List ℕ) (c o : Outcome) (k : ℕ) → o ≡ c → l ≡ packFor c m f d → k ≡ outcomeNumber o → recordLeft k l ≡ recordAs c m f d
+packed-as f m d l c o k p q e = rw (e, p, q) (both c)
   where
     both : (o : Outcome) → recordLeft (outcomeNumber o) (packFor o m f d) ≡ recordAs o m f d
     both Accepted = refl
@@ -65,7 +64,7 @@ module _ (a : Answer) (d : List ℕ) where
   pub store-0 : (a .outcome ≡ Accepted → badTrucks (a .fleet .n) ≡ false) → a .outcome ≡ Accepted → (o : Outcome) (l : List ℕ) (k : ℕ)
       → o ≡ packCheck (a .fleet .n) (length d) → l ≡ packedWhole (a .fleet) d → k ≡ outcomeNumber o → recordLeft k l ≡ storeCall a d
   unfolding storeCall packedWhole packCheck
-  store-0 range h o l k p q e = packed-as (a .fleet) 32 d l o k p q e ∙ rw (range h, h)
+  store-0 range h o l k p q e = packed-as (a .fleet) 32 d l (packCheck (a .fleet .n) (length d)) o k p q e ∙ rw (range h, h)
 
 -- ---- a start
 
@@ -98,30 +97,11 @@ step-range p f w h =
     let o = accepted-by (stepCheckIn p f w) (nextFleetIn p f w) f h in
     rw (o .1) (step-trucks p f w (o .0))
 
-module _ (p : Protocol) (d w : List ℕ) (u : Answer) (read : u ≡ unpacked d) where
-  pub step-7 : (r : Refusal) (k : ℕ) → u .outcome ≡ Refused r → k ≡ numberOf r → recordLeft k d ≡ stepCallIn p d w
-  unfolding stepCallIn
-  step-7 r k h e = rw (e, ← read, h)
-
-  module _ (whole : u .outcome ≡ Accepted) (a : Answer) (done : a ≡ steppedIn p (u .fleet) w) where
-    step-as : recordAs (a .outcome) (a .fleet .n) (a .fleet) d ≡ stepCallIn p d w
-    unfolding stepCallIn
-    step-as = rw (← read, whole, ← done)
-
-    pub step-refused : (r : Refusal) (k : ℕ) → a .outcome ≡ Refused r → k ≡ numberOf r → recordLeft k d ≡ stepCallIn p d w
-    step-refused r k h e = rw (e, ← step-as, h)
-
-    step-room : a .outcome ≡ Accepted → packCheck (a .fleet .n) (length d) ≡ Accepted
-    step-room h =
-        room-for (a .fleet .n) d (rw done (step-range p (u .fleet) w (rw done at h))) (undamaged d (taken-whole d (rw read at whole)) .whole)
-
-    pub step-0 : a .outcome ≡ Accepted → (o : Outcome) (l : List ℕ) (k : ℕ)
-        → o ≡ packCheck (a .fleet .n) (length d) → l ≡ packedRecord (a .fleet) d → k ≡ outcomeNumber o → recordLeft k l ≡ stepCallIn p d w
-    unfolding packedRecord
-    step-0 h o l k p q e =
-        packed-as (a .fleet) (a .fleet .n) d l o k p q e
-        ∙ ap (λ (o : Outcome). recordAs o (a .fleet .n) (a .fleet) d) (step-room h ∙ sym h)
-        ∙ step-as
+pub step-left : (p : Protocol) (d w l : List ℕ) (o : Outcome) (k : ℕ) → o ≡ bytesCheckIn p d w → l ≡ bytesStepIn p d w → k ≡ outcomeNumber o → recordLeft k l ≡ stepCallIn p d w
+unfolding stepCallIn bytesCheckIn bytesStepIn
+step-left p d w l o k eo el ek =
+    let a = steppedIn p (unpacked d .fleet) w in
+    packed-as (a .fleet) (a .fleet .n) d l (andThen (unpacked d .outcome) (a .outcome)) o k eo el ek
 
 -- ---- a run
 

@@ -9,7 +9,6 @@ use Rattle.basics.specs.Lists.{filled}
 use Rattle.basics.proofs.Laws.{getD-filled}
 use Rattle.refusals.specs.declared.Refusal.{Refusal}
 use Rattle.refusals.specs.declared.Refusal.the-variants.{Record}
-use Rattle.refusals.specs.declared.Outcome.{Outcome}
 use Rattle.refusals.specs.declared.Outcome.the-variants.{Accepted, Refused}
 use Rattle.refusals.proofs.Outcomes.{then-first}
 use Rattle.protocol.specs.declared.Truck.{Truck}
@@ -19,7 +18,7 @@ use Rattle.protocol.specs.Fleets.{Protocol, stepCheckIn, nextFleetIn, steppedIn
 use Rattle.protocol.proofs.Steps.{answer-outcome}
 use Rattle.truck.specs.declared.Event.{Event}
 use Rattle.truck.specs.Events.{turned}
-use Rattle.recordbytes.specs.Layout.{sizeFor, recordByte, packFor, truckIn, withTruck, damaged, recordOf, unpacked}
+use Rattle.recordbytes.specs.Layout.{sizeFor, recordByte, truckIn, withTruck, damaged, recordOf, unpacked}
 use Rattle.recordbytes.proofs.Laws.{headed, put-holds, put-now, put-length}
 use Rattle.recordbytes.proofs.RoundTrip.{taken-whole}
 use Rattle.recordbytes.proofs.Places.{bytes-whole, bytes-few, head-n, head-trucks, place-kept, place-put}

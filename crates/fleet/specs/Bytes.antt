@@ -3,7 +3,6 @@ use Prim.Native.Nat.{ℕ}
 use mathlib.Core.List.{List}
 use Rattle.refusals.specs.declared.Outcome.{Outcome}
 use Rattle.refusals.specs.Outcomes.{andThen}
-use Rattle.protocol.specs.declared.Fleet.{Fleet}
 use Rattle.protocol.specs.Fleets.{Protocol, steppedIn}
 use Rattle.recordbytes.specs.Layout.{packFor, unpacked}
 

@@ -1,5 +1,5 @@
 -- `step_bytes` meets its contract.
-use mathlib.Core.Path.{_≡_, sym, _∙_}
+use mathlib.Core.Path.{sym, _∙_}
 use borrow.Author.Needs.{needs}
 use Rattle.protocol.specs.Fleets.{chosen}
 use Rattle.fleet.proofs.ByPlaces.{check-undamaged, check-is, bytes-accepted, bytes-refused}

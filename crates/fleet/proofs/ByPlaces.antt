@@ -23,7 +23,8 @@ use Rattle.recordbytes.proofs.Laws.{headed, put-holds, put-now, put-length}
 use Rattle.recordbytes.proofs.RoundTrip.{taken-whole}
 use Rattle.recordbytes.proofs.Places.{bytes-whole, bytes-few, head-n, head-trucks, place-kept, place-put}
 use Rattle.fleet.specs.declared.round.Phase.{Phase}
-use Rattle.fleet.specs.Rounds.{estimates, eventBy, turnedFleet}
+use Rattle.fleet.specs.Rounds.{eventBy, turnedFleet}
+use Rattle.playback.specs.Sets.{estimates}
 use Rattle.fleet.specs.Bytes.{bytesCheckIn, bytesStepIn}
 
 module _ (p : Protocol) (d w : List ℕ) where

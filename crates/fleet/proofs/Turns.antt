@@ -30,14 +30,15 @@ use Rattle.truck.specs.declared.Event.the-variants.{Stop}
 use Rattle.truck.specs.Events.{adds, happened, turned, updatedFirst}
 use Rattle.sets.specs.Sets.{Members}
 use Rattle.sets.proofs.Members.{member-below, member-has}
-use Rattle.fleet.specs.declared.hearing.Values.{Values}
+use Rattle.playback.specs.declared.hearing.Values.{Values}
 use Rattle.fleet.specs.declared.round.Phase.{Phase}
 use Rattle.fleet.specs.declared.round.Phase.the-variants.{Proposals, Vetoes}
-use Rattle.fleet.specs.Sets.{heardSet, valuesOf, Sorted}
-use Rattle.fleet.specs.Rounds.{estimates, phaseOf, sendsIn, stopEvent, playEvent, eventOf, eventBy, eventAt, noEvents, turnedFleet}
+use Rattle.playback.specs.Sets.{heardSet, valuesOf, Sorted}
+use Rattle.fleet.specs.Rounds.{phaseOf, sendsIn, stopEvent, playEvent, eventOf, eventBy, eventAt, noEvents, turnedFleet}
+use Rattle.playback.specs.Sets.{estimates}
 use Rattle.fleet.proofs.Laws.{next-kind, six-phases, message-right}
-use Rattle.fleet.proofs.ByCrusher.{values-right}
-use Rattle.fleet.proofs.Radios.{who-members, some-members, hearers}
+use Rattle.playback.proofs.ByCrusher.{values-right}
+use Rattle.playback.proofs.Radios.{who-members, some-members, hearers}
 use Rattle.fleet.proofs.Steps.{Room}
 
 -- an event that is a stop where b says so, and else what the truck plays

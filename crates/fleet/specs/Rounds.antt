@@ -19,10 +19,7 @@ use Rattle.truck.specs.declared.Event.the-variants as event
 use Rattle.truck.specs.Events.{turned}
 use Rattle.fleet.specs.declared.round.Phase.{Phase}
 use Rattle.fleet.specs.declared.round.Phase.the-variants.{Proposals, Vetoes, Prepare, Bit, Accept}
-use Rattle.fleet.specs.Sets.{heardSet, valuesOf}
-
-abbrev pub estimates : List Truck → ℕ → ℕ
-estimates ts j = truck ts j .estimate
+use Rattle.playback.specs.Sets.{estimates, heardSet, valuesOf}
 
 -- the next round of the six-round cycle, with so many of its rounds done
 abbrev pub sixPhase : ℕ → Phase

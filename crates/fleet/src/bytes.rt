@@ -17,8 +17,9 @@ ghost use Rattle.protocol.specs.Rules.{truck};
 ghost use Rattle.protocol.specs.Fleets.{chosen, goodTruckIn, goodFleetIn, stepCheckIn, nextFleetIn};
 ghost use Rattle.sets.specs.Sets.{Members};
 ghost use Rattle.recordbytes.specs.Layout.{sizeFor, recordByte, damaged, recordOf};
-ghost use Rattle.fleet.specs.Sets.{Sorted};
-ghost use Rattle.fleet.specs.Rounds.{estimates, sendsIn, turnedFleet};
+ghost use Rattle.playback.specs.Sets.{Sorted};
+ghost use Rattle.fleet.specs.Rounds.{sendsIn, turnedFleet};
+ghost use Rattle.playback.specs.Sets.{estimates};
 ghost use Rattle.fleet.specs.Bytes.{bytesCheckIn};
 
 // Refusal 7 lets every truck pass, with so many rounds done.

@@ -2,23 +2,23 @@
 use protocol::Answer;
 use protocol::Cycle;
 use protocol::Fleet;
-use protocol::Grading;
 use refusals::Outcome;
 use refusals::Refusal;
 ghost use mathlib.Core.Path.{_≡_};
-ghost use Rattle.protocol.specs.Fleets.{chosen, stepCheckIn, steppedIn, ranIn, gradedIn, stepped, ran, graded};
+ghost use Rattle.protocol.specs.Fleets.{chosen, stepCheckIn, steppedIn, stepped};
 ghost use Rattle.fleet.specs.Bytes.{bytesCheckIn, bytesStepIn};
 
 mod bytes;
-mod grading;
-mod hearing;
-mod listening;
-mod replay;
 mod round;
-mod six;
 
 // Starting a fleet.
 pub use fleetrecord::start;
+
+// Running and grading a recording.
+pub use playback::grade;
+pub use playback::grade_in;
+pub use playback::run;
+pub use playback::run_in;
 
 fn check_step(cycle: Cycle, f: Fleet, words: &[u32]) -> Outcome
     ensures { λ r. ⌜ r ≡ stepCheckIn (chosen cycle) f (now (words .entry)) ⌝ }
@@ -69,51 +69,4 @@ pub fn step_bytes(cycle: Cycle, d: &mut [u8], words: &[u32]) -> Outcome
         }
         Outcome::Refused(refusal) => Outcome::Refused(refusal),
     }
-}
-
-// Running a recording in a cycle: all its rounds.
-pub fn run_in(cycle: Cycle, s: &[u8]) -> Answer
-    ensures { λ r. ⌜ r ≡ ranIn (chosen cycle) (now (s .entry)) ⌝ }
-{
-    let outcome = recording::check(s);
-    match outcome {
-        Outcome::Accepted => {
-            let end = replay::replay(cycle, s, false);
-            let fleet = end.fleet;
-            Answer {
-                outcome: Outcome::Accepted,
-                fleet,
-            }
-        }
-        Outcome::Refused(refusal) => fleetrecord::refused(refusal),
-    }
-}
-
-// Running a recording in the two-round cycle.
-pub fn run(s: &[u8]) -> Answer
-    ensures { λ r. ⌜ r ≡ ran (now (s .entry)) ⌝ }
-{
-    run_in(Cycle::TwoRound, s)
-}
-
-// Grading a recording in a cycle.
-pub fn grade_in(cycle: Cycle, s: &[u8]) -> Grading
-    ensures { λ r. ⌜ r ≡ gradedIn (chosen cycle) (now (s .entry)) ⌝ }
-{
-    let outcome = recording::check(s);
-    match outcome {
-        Outcome::Accepted => {
-            let end = replay::replay(cycle, s, true);
-            let grades = end.grades;
-            Grading::Graded(grades)
-        }
-        Outcome::Refused(refusal) => Grading::Refused(refusal),
-    }
-}
-
-// Grading a recording in the two-round cycle.
-pub fn grade(s: &[u8]) -> Grading
-    ensures { λ r. ⌜ r ≡ graded (now (s .entry)) ⌝ }
-{
-    grade_in(Cycle::TwoRound, s)
 }

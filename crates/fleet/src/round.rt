@@ -1,6 +1,6 @@
 // One round in plain form makes of a fleet record the next. Bit j of a word and of a set says something of truck j.
-use crate::hearing::heard_by;
-use crate::hearing::values_of;
+use playback::hearing::heard_by;
+use playback::hearing::values_of;
 use protocol::Cycle;
 use protocol::Fleet;
 use protocol::Truck;
@@ -14,8 +14,9 @@ ghost use Rattle.basics.specs.Lists.{filled};
 ghost use Rattle.protocol.specs.Rules.{runs};
 ghost use Rattle.protocol.specs.Fleets.{chosen, stepCheckIn, nextFleetIn};
 ghost use Rattle.sets.specs.Sets.{Members};
-ghost use Rattle.fleet.specs.Sets.{Sorted};
-ghost use Rattle.fleet.specs.Rounds.{estimates, sixPhase, phaseOf, messageIn, sendsIn, stopEvent, eventOf, eventBy, eventAt, noEvents};
+ghost use Rattle.playback.specs.Sets.{Sorted};
+ghost use Rattle.fleet.specs.Rounds.{sixPhase, phaseOf, messageIn, sendsIn, stopEvent, eventOf, eventBy, eventAt, noEvents};
+ghost use Rattle.playback.specs.Sets.{estimates};
 
 // What a round of a cycle is for; a bit round has what its bit is worth.
 pub enum Phase {

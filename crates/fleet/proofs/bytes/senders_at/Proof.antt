@@ -11,8 +11,9 @@ use Rattle.protocol.specs.Rules.{truck, runs}
 use Rattle.sets.proofs.Members.{only-is}
 use Rattle.recordbytes.specs.Layout.{recordOf}
 use Rattle.recordbytes.proofs.Places.{bytes-whole, bytes-few, bytes-n, place-read}
-use Rattle.fleet.specs.Rounds.{estimates, messageIn, sendsIn}
-use Rattle.fleet.proofs.Sorting.{Sending, sending-starts, sending-more, sending-done}
+use Rattle.fleet.specs.Rounds.{messageIn, sendsIn}
+use Rattle.playback.specs.Sets.{estimates}
+use Rattle.playback.proofs.Sorting.{Sending, sending-starts, sending-more, sending-done}
 use Rattle.fleet.proofs.bytes.senders_at.Statement.{statement}
 use Rattle.fleet.proofs.bytes.senders_at.Tie as tie
 

@@ -4,7 +4,7 @@ use Prim.Native.Nat.{_+_}
 use borrow.Author.Needs.{needs}
 use lib.ListN.{getD}
 use Rattle.sets.proofs.Members.{only-is}
-use Rattle.fleet.proofs.Radios.{heard-by-own}
+use Rattle.playback.proofs.Radios.{heard-by-own}
 use Rattle.fleet.proofs.round.event_by.Statement.{statement}
 use Rattle.fleet.proofs.round.event_by.Tie as tie
 

@@ -6,7 +6,7 @@ use native.Mathlib.Omega.{arith}
 use borrow.Author.Needs.{needs}
 use lib.ListN.{getD, replicate}
 use Rattle.basics.proofs.Laws.{getD-filled}
-use Rattle.fleet.specs.Rounds.{estimates}
+use Rattle.playback.specs.Sets.{estimates}
 use Rattle.fleet.proofs.Steps.{step-good}
 use Rattle.fleet.proofs.Turns.{step-next}
 use Rattle.fleet.proofs.round.next_fleet.Statement.{statement}

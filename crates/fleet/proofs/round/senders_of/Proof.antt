@@ -9,8 +9,9 @@ use Rattle.basics.specs.Lists.{filled}
 use Rattle.basics.proofs.Laws.{filled-none, fill-step}
 use Rattle.protocol.specs.Rules.{truck, runs}
 use Rattle.sets.proofs.Members.{only-is}
-use Rattle.fleet.specs.Rounds.{estimates, messageIn, sendsIn}
-use Rattle.fleet.proofs.Sorting.{Sending, sending-starts, sending-more, sending-done}
+use Rattle.fleet.specs.Rounds.{messageIn, sendsIn}
+use Rattle.playback.specs.Sets.{estimates}
+use Rattle.playback.proofs.Sorting.{Sending, sending-starts, sending-more, sending-done}
 use Rattle.fleet.proofs.round.senders_of.Statement.{statement}
 use Rattle.fleet.proofs.round.senders_of.Tie as tie
 

@@ -1,0 +1,15 @@
+pub mod Packed
+pub mod ByCrusher
+pub mod Radios
+pub mod Sorting
+pub mod Reading
+pub mod Places
+pub mod Pairs
+pub mod Stood
+pub mod StoodTwo
+pub mod StoodSix
+pub mod Rounded
+pub mod Halts
+pub mod HaltsSix
+pub mod Judged
+pub mod Graded

@@ -1,0 +1,87 @@
+-- `hearing_some` meets its contract.
+use mathlib.Core.Path.{_≡_, ap, sym, _∙_}
+use mathlib.Core.Bool.{Bool, true, not, _&&_}
+use mathlib.Core.List.{List}
+use Prim.Native.Nat.{ℕ, _-_}
+use native.Mathlib.Omega.{arith}
+use borrow.Author.Needs.{needs}
+use lib.Dec.{eqb}
+use Rattle.basics.specs.Bits.{bit}
+use Rattle.basics.proofs.Laws.{and-left}
+use Rattle.sets.specs.Sets.{Members, without}
+use Rattle.playback.specs.Listens.{rowFrom}
+use Rattle.sets.proofs.Members.{taken-out, own-out, within-removed, seen, seen-none, seen-all, seen-joined}
+use Rattle.playback.proofs.Reading.{product}
+use Rattle.playback.proofs.listening.hearing_some.Statement.{statement}
+use Rattle.playback.proofs.listening.hearing_some.Tie as tie
+
+-- the truck at place p hears a sender
+abbrev heardSome : List ℕ → ℕ → ℕ → ℕ → ℕ → ℕ → Bool
+heardSome s at n senders wanted p = bit wanted p && not (eqb (without senders (rowFrom s at n p)) 0)
+
+abbrev Inv-loop : tie.InvT-loop
+Inv-loop s at n senders wanted out₀ left₀ out left =
+    Members out 32 (seen left (heardSome s at n senders wanted)) × ((j : ℕ) → bit left j ≡ true → bit wanted j ≡ true)
+
+abbrev μ-loop : tie.MeasureT-loop
+μ-loop s at n senders wanted out₀ left₀ out left = left
+
+loop-holds : tie.Need-loop-holds Inv-loop μ-loop
+loop-holds c =
+    let a = c .before .args in (
+      seen-none 32 (a .wanted) (heardSome (a .s .now) (a .at) (a .n) (a .senders) (a .wanted)) (λ j l e. and-left (bit (a .wanted) j) (not (eqb (without (a .senders) (rowFrom (a .s .now) (a .at) (a .n) j)) 0)) e),
+      λ j e. e,
+    )
+
+mul-read-at : tie.Need-mul-read-at Inv-loop μ-loop
+mul-read-at c = let s = c .before .before .before .before in omega (arith, product (31 - c .lowest .result) (s .args .n) (omega (arith, c .lowest .ensures .1 (c .before .loop-test .taken) .0)) (s .pre .0))
+
+add-read-at : tie.Need-add-read-at Inv-loop μ-loop
+add-read-at c = let s = c .before .before .before .before in omega (arith, product (31 - c .lowest .result) (s .args .n) (omega (arith, c .lowest .ensures .1 (c .before .loop-test .taken) .0)) (s .pre .0), s .pre .1)
+
+sub-read-at : tie.Need-sub-read-at Inv-loop μ-loop
+sub-read-at c = omega (arith, c .lowest .ensures .1 (c .before .loop-test .taken) .0)
+
+loop-less : tie.Need-loop-less Inv-loop μ-loop
+loop-less c = let i = c .before .before .before .before .before in taken-out (i .before .loop-test .taken) (i .lowest .ensures) (c .rest .ensures) .less
+
+loop-again : tie.Need-loop-again Inv-loop μ-loop
+loop-again c =
+    let a = c .before .before .before .before .before .before .before .before .before .args in
+    let l = c .before .before .before .before .before .before .before .loop in
+    let i = c .before .before .before .before .before .lowest in
+    let w = c .before .before .without in
+    let some = c .before .before .before .before .before .before .loop-test .taken in
+    let t = taken-out some (i .ensures) (c .rest .ensures) in
+    let own = own-out some (i .ensures .0) (c .before .before .before .only-lowest .ensures) in
+    let q : ℕ → Bool = heardSome (a .s .now) (a .at) (a .n) (a .senders) (a .wanted) in
+    let e : not (eqb (w .result) 0) ≡ q (i .result) =
+    ap (λ (x : ℕ). not (eqb x 0)) (w .ensures ∙ ap (without (a .senders)) (c .before .before .before .before .read-at .ensures))
+    ∙ sym (ap (λ (b : Bool). b && not (eqb (without (a .senders) (rowFrom (a .s .now) (a .at) (a .n) (i .result))) 0)) (l .inv .1 (i .result) (t .held))) in
+    rw (t .rest, c .before .union-where .ensures, own) (
+      seen-joined (l .out) 32 (l .left) (i .result) q (t .below) (t .held) (l .inv .0) (not (eqb (w .result) 0)) e,
+      λ j h. l .inv .1 j (within-removed (l .left) (i .result) (t .held) j h),
+    )
+
+returns : tie.Need-returns Inv-loop μ-loop
+returns c = seen-all (rw (c .loop-test .left) at (c .before .loop .inv .0))
+
+pub hearing-some-spec : {M : Type 1} → statement M
+hearing-some-spec =
+    tie.close
+    (tie.spec
+    Inv-loop
+    μ-loop
+    loop-holds
+    (λ c κs. search needs)
+    sub-read-at
+    mul-read-at
+    add-read-at
+    (λ c κs. search needs)
+    (λ c κs. search needs)
+    (λ c κs. search needs)
+    (λ c κs. search needs)
+    (λ c κs. search needs)
+    loop-less
+    loop-again
+    returns)

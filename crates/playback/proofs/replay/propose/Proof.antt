@@ -1,0 +1,41 @@
+-- `propose` meets its contract.
+use borrow.Author.Needs.{needs}
+use Rattle.playback.proofs.Rounded.{proposes-by}
+use Rattle.playback.proofs.replay.propose.Statement.{statement}
+use Rattle.playback.proofs.replay.propose.Tie as tie
+
+returns : tie.Need-returns
+returns c =
+    let a = c .before .before .before .before .before .before .before .before .before .before .before .before .before .before .before .args in
+    let stop = c .before .before .before .before .before .before .before .before .before .before .before .before .before .bits-at in
+    let active = c .before .before .before .before .before .before .before .before .before .before .before .before .bits-at2 in
+    let mark = c .before .before .before .before .before .before .before .before .before .before .before .bits-at3 in
+    let going = c .before .before .before .before .before .before .before .before .before .before .without in
+    let unread = c .before .before .before .before .before .before .before .before .before .unread in
+    let fewer = c .before .before .before .before .before .before .before .before .without2 in
+    let wanted = c .before .before .before .before .before .before .before .listeners in
+    let h = c .before .before .before .before .before .hear in
+    let changed = c .before .without3 in
+    proposes-by (a .s .now) (a .at) (a .n) (a .left) (a .running) (a .by .now) (c .settle .last .0) (stop .result) (active .result) (mark .result) (going .result) (unread .result) (fewer .result) (wanted .result)
+    (changed .result) (h .result) (stop .ensures) (active .ensures) (mark .ensures) (going .ensures) (unread .ensures) (fewer .ensures) (wanted .ensures) (h .ensures) (changed .ensures) (c .settle .ensures)
+
+pub propose-spec : {M : Type 1} → statement M
+propose-spec =
+    tie.close
+    (tie.spec
+    (λ c κs. search needs)
+    (λ c. search needs)
+    (λ c κs. search needs)
+    (λ c. search needs)
+    (λ c. search needs)
+    (λ c κs. search needs)
+    (λ c κs. search needs)
+    (λ c κs. search needs)
+    (λ c κs. search needs)
+    (λ c κs. search needs)
+    (λ c. search needs)
+    (λ c. search needs)
+    (λ c κs. search needs)
+    (λ c κs. search needs)
+    (λ c κs. search needs)
+    returns)

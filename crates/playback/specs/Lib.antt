@@ -1,0 +1,5 @@
+pub mod Sets
+pub mod Listens
+pub mod Replays
+pub mod Standing
+pub mod Grading

@@ -137,6 +137,8 @@ fn event_of(
     if stop {
         return stop_event(phase);
     }
+    let veto = heard != 0;
+    let noticed = mark | veto;
     match phase {
         Phase::Proposals => {
             let v = values_of(values, heard, estimate);
@@ -148,11 +150,7 @@ fn event_of(
                 least: v.least,
             }
         }
-        Phase::Vetoes => Event::Vetoes {
-            sends,
-            mark,
-            veto: heard != 0,
-        },
+        Phase::Vetoes => Event::Vetoes { sends, mark, veto },
         Phase::Prepare => {
             let v = values_of(values, heard, estimate);
             Event::Prepare {
@@ -162,11 +160,9 @@ fn event_of(
         }
         Phase::Bit(_) => Event::Bit {
             bit: sends,
-            noticed: mark | (heard != 0),
+            noticed,
         },
-        Phase::Accept => Event::Accept {
-            noticed: mark | (heard != 0),
-        },
+        Phase::Accept => Event::Accept { noticed },
     }
 }
 

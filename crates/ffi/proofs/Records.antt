@@ -4,12 +4,12 @@ use mathlib.Core.Bool.{true, false, not}
 use mathlib.Core.List.{List}
 use Prim.Native.Nat.{ℕ, min, _+_, _≤_}
 use native.Mathlib.Omega.{arith}
-use lib.Dec.{eqb}
+use lib.Dec.{eqb, ltb}
 use lib.ListN.{length}
 use borrow.Author.Tests.{le-ltb, not-false}
 use Rattle.refusals.specs.Numbers.{numberOf, outcomeNumber}
 use Rattle.refusals.specs.declared.Refusal.{Refusal}
-use Rattle.refusals.specs.declared.Refusal.the-variants.{TruckCount, Record, RoundsDone}
+use Rattle.refusals.specs.declared.Refusal.the-variants.{TruckCount, Record, ShortBuffer, RoundsDone}
 use Rattle.refusals.specs.declared.Outcome.{Outcome}
 use Rattle.refusals.specs.declared.Outcome.the-variants.{Accepted, Refused}
 use Rattle.refusals.specs.Outcomes.{refuse, andThen}
@@ -24,6 +24,7 @@ use Rattle.protocol.specs.Fleets.{Protocol, blank, startCheck, started, goodFle
 use Rattle.protocol.proofs.Good.{record-parts}
 use Rattle.protocol.proofs.Steps.{accepted-by, start-by}
 use Rattle.recordbytes.specs.Layout.{sizeFor, packCheck, packFor, packedWhole, unpacked}
+use Rattle.playback.specs.Bytes.{runCheckIn, runBytesIn}
 use Rattle.fleet.specs.Bytes.{bytesCheckIn, bytesStepIn}
 use Rattle.ffi.specs.Calls.{RecordLeft, recordLeft, recordAs, storeCall, runCallIn, startCall, stepCallIn}
 use Rattle.ffi.proofs.Narrow.{many-trucks, narrowed}
@@ -112,6 +113,8 @@ run-range p s a e h =
     let g = bytes-good s (o .0) .frame in
     rw (e, o .1) (in-trucks (trucksOf s) (g .some) (g .most))
 
-pub run-stored : (p : Protocol) (s d : List ℕ) (a : Answer) (x : RecordLeft) → a ≡ ranIn p s → x ≡ storeCall a d → x ≡ runCallIn p s d
-unfolding runCallIn
-run-stored p s d a x e h = rw (← e) h
+pub run-left : (p : Protocol) (s d l : List ℕ) (o : Outcome) (k : ℕ) → o ≡ runCheckIn p s d → l ≡ runBytesIn p s d → k ≡ outcomeNumber o → recordLeft k l ≡ runCallIn p s d
+unfolding runCallIn storeCall runCheckIn runBytesIn
+run-left p s d l o k eo el ek =
+    let a = ranIn p s in
+    packed-as (a .fleet) 32 d l (andThen (a .outcome) (refuse (ltb (length d) (sizeFor 32)) ShortBuffer Accepted)) o k eo el ek

@@ -143,8 +143,7 @@ fn store(a: Answer, d: &mut [u8]) -> u32
 pub extern "C" fn rajvokshul_run(bytes: &[u8], fleet: &mut [u8]) -> u32
     ensures { λ r. ⌜ recordLeft r (now (fleet .exit)) ≡ runCall (now (bytes .entry)) (now (fleet .entry)) ⌝ }
 {
-    let a = fleet::run(bytes);
-    store(a, fleet)
+    outcome_number(fleet::run_bytes(Cycle::TwoRound, bytes, fleet))
 }
 
 // The same in the six-round cycle.
@@ -152,8 +151,7 @@ pub extern "C" fn rajvokshul_run(bytes: &[u8], fleet: &mut [u8]) -> u32
 pub extern "C" fn rajvokshul_run_six(bytes: &[u8], fleet: &mut [u8]) -> u32
     ensures { λ r. ⌜ recordLeft r (now (fleet .exit)) ≡ runCallIn sixRound (now (bytes .entry)) (now (fleet .entry)) ⌝ }
 {
-    let a = fleet::run_in(Cycle::SixRound, bytes);
-    store(a, fleet)
+    outcome_number(fleet::run_bytes(Cycle::SixRound, bytes, fleet))
 }
 
 // Runs a recording to its listing.

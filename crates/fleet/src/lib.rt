@@ -18,6 +18,7 @@ pub use fleetrecord::start;
 pub use playback::grade;
 pub use playback::grade_in;
 pub use playback::run;
+pub use playback::run_bytes;
 pub use playback::run_in;
 
 fn check_step(cycle: Cycle, f: Fleet, words: &[u32]) -> Outcome

@@ -13,3 +13,4 @@ pub mod Halts
 pub mod HaltsSix
 pub mod Judged
 pub mod Graded
+pub mod Put

@@ -3,3 +3,4 @@ pub mod Listens
 pub mod Replays
 pub mod Standing
 pub mod Grading
+pub mod Bytes

@@ -68,18 +68,26 @@ standing o e h running decided marked unwilling end c =
 abbrev pub sentBy : List ℕ → ℕ → ℕ → Sent
 sentBy words m p = record { proposals = tally words m p; vetoes = tally words m (32 + p) }
 
--- the truck at place p by these sets, the trucks of each crusher, its opening, the round of its end and what it sent
-abbrev pub truckBy : Sets → List ℕ → ℕ → ℕ → Sent → ℕ → Truck
-truckBy b by opening end c p =
-    standing opening (first (wasHeard by (2 ^ p)) 16) (memoryOf (bit (b .one) p) (bit (b .several) p))
+-- the truck at place p by these sets, its estimate, its opening, the round of its end and what it sent
+abbrev pub truckOf : Sets → ℕ → ℕ → ℕ → Sent → ℕ → Truck
+truckOf b e opening end c p =
+    standing opening e (memoryOf (bit (b .one) p) (bit (b .several) p))
     (bit (b .running) p) (bit (b .decided) p) (bit (b .marked) p) (bit (b .unwilling) p) end c
+
+-- the same by the trucks of each crusher
+abbrev pub truckBy : Sets → List ℕ → ℕ → ℕ → Sent → ℕ → Truck
+truckBy b by opening end c p = truckOf b (first (wasHeard by (2 ^ p)) 16) opening end c p
+
+-- truck i
+abbrev pub builtBy : List ℕ → Sets → List ℕ → List ℕ → List ℕ → ℕ → Truck
+builtBy openings b by ends sent i = truckBy b by (getD openings i 0) (getD ends i 0) (sentBy sent (inUse sent 8) (31 - i)) (31 - i)
 
 -- the record of the trucks by these sets, with all rounds done
 abbrev pub fleetBy : Counts → List ℕ → Sets → List ℕ → List ℕ → List ℕ → Fleet
 fleetBy c openings b by ends sent = record {
   n = c .trucks;
   done = c .rounds;
-  trucks = filled (λ i. truckBy b by (getD openings i 0) (getD ends i 0) (sentBy sent (inUse sent 8) (31 - i)) (31 - i)) (c .trucks) (openedTrucks []);
+  trucks = filled (builtBy openings b by ends sent) (c .trucks) (openedTrucks []);
 }
 
 -- the sets say how n trucks with these openings stand after k rounds of either cycle: in the two-round cycle nobody is unwilling, in the six-round cycle nobody

@@ -3,8 +3,10 @@ use protocol::Answer;
 use protocol::Cycle;
 use protocol::Grading;
 use refusals::Outcome;
+use refusals::Refusal;
 ghost use mathlib.Core.Path.{_≡_};
 ghost use Rattle.protocol.specs.Fleets.{chosen, ranIn, gradedIn, ran, graded};
+ghost use Rattle.playback.specs.Bytes.{runCheckIn, runBytesIn};
 
 mod grading;
 pub mod hearing;
@@ -19,8 +21,7 @@ pub fn run_in(cycle: Cycle, s: &[u8]) -> Answer
     let outcome = recording::check(s);
     match outcome {
         Outcome::Accepted => {
-            let end = replay::replay(cycle, s, false);
-            let fleet = end.fleet;
+            let fleet = replay::ran(cycle, s);
             Answer {
                 outcome: Outcome::Accepted,
                 fleet,
@@ -37,6 +38,24 @@ pub fn run(s: &[u8]) -> Answer
     run_in(Cycle::TwoRound, s)
 }
 
+// Running a recording in a cycle to a whole record as bytes.
+pub fn run_bytes(cycle: Cycle, s: &[u8], d: &mut [u8]) -> Outcome
+    ensures answer { λ r. ⌜ r ≡ runCheckIn (chosen cycle) (now (s .entry)) (now (d .entry)) ⌝ }
+    ensures buffer { λ r. ⌜ now (d .exit) ≡ runBytesIn (chosen cycle) (now (s .entry)) (now (d .entry)) ⌝ }
+{
+    let outcome = recording::check(s);
+    match outcome {
+        Outcome::Accepted => {
+            if d.len() < 323 {
+                return Outcome::Refused(Refusal::ShortBuffer);
+            }
+            replay::run_into(cycle, s, d);
+            Outcome::Accepted
+        }
+        Outcome::Refused(refusal) => Outcome::Refused(refusal),
+    }
+}
+
 // Grading a recording in a cycle.
 pub fn grade_in(cycle: Cycle, s: &[u8]) -> Grading
     ensures { λ r. ⌜ r ≡ gradedIn (chosen cycle) (now (s .entry)) ⌝ }
@@ -44,8 +63,7 @@ pub fn grade_in(cycle: Cycle, s: &[u8]) -> Grading
     let outcome = recording::check(s);
     match outcome {
         Outcome::Accepted => {
-            let end = replay::replay(cycle, s, true);
-            let grades = end.grades;
+            let grades = replay::graded(cycle, s);
             Grading::Graded(grades)
         }
         Outcome::Refused(refusal) => Grading::Refused(refusal),

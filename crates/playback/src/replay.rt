@@ -25,11 +25,12 @@ ghost use Rattle.refusals.specs.declared.Outcome.the-variants.{Accepted};
 ghost use Rattle.recording.specs.Packed.{roundsOf};
 ghost use Rattle.recording.specs.Checks.{frameCheck};
 ghost use Rattle.protocol.specs.declared.Heard.the-variants.{Nothing};
+ghost use Rattle.recordbytes.specs.Layout.{sizeFor, recordByte};
 ghost use Rattle.protocol.specs.Rules.{twoRules};
 ghost use Rattle.protocol.specs.Fleets.{chosen};
 ghost use Rattle.playback.specs.Sets.{Sorted};
 ghost use Rattle.playback.specs.Replays.{fleetAfter, gradesAfter};
-ghost use Rattle.playback.specs.Standing.{stateOf, memoryOf, sentBy, truckBy, fleetBy, unreadOf, Proposes, Vetoes, noted, Due, Halted};
+ghost use Rattle.playback.specs.Standing.{stateOf, memoryOf, sentBy, truckOf, fleetBy, unreadOf, Proposes, Vetoes, noted, Due, Halted};
 
 // Those that go on after a proposal round's stops, its senders and marks, and who heard one value and who several.
 pub struct Proposed {
@@ -61,10 +62,10 @@ pub struct Sets {
     pub grades: Grades,
 }
 
-// What a run has come to, and the grades of its rounds where they are asked for.
+// What a run has come to.
 pub struct Course {
-    pub fleet: Fleet,
-    pub grades: Grades,
+    pub counts: Counts,
+    pub sets: Sets,
 }
 
 // Those of a set came to their end in round k.
@@ -315,18 +316,17 @@ fn sent_at(words: &[u64; 8], m: usize, p: usize) -> Sent
     }
 }
 
-// The truck at place p.
-fn truck_of(b: Sets, by: &[u32; 16], opening: u8, end: u16, sent: Sent, p: usize) -> Truck
-    requires { ⌜ p < 32 ⌝ }
-    ensures { λ r. ⌜ r ≡ truckBy b (now (by .entry)) opening end sent p ⌝ }
+// The truck at place p, with its estimate.
+fn truck_of(b: Sets, e: usize, opening: u8, end: u16, sent: Sent, p: usize) -> Truck
+    requires { ⌜ (p < 32) × (e ≤ 16) ⌝ }
+    ensures { λ r. ⌜ r ≡ truckOf b e opening end sent p ⌝ }
 {
     let running = sets::holds(b.running, p);
     let heard = heard_of(running, sets::holds(b.one, p), sets::holds(b.several, p));
     let state = state_of(running, sets::holds(b.decided, p), end);
-    let c = first_heard(by, sets::only(p), 0);
     Truck {
         opening,
-        estimate: c as u8,
+        estimate: e as u8,
         mark: running & sets::holds(b.marked, p),
         heard,
         unwilling: running & sets::holds(b.unwilling, p),
@@ -355,7 +355,7 @@ fn fleet_of(
     while i < n {
         trucks[i] = truck_of(
             b,
-            by,
+            first_heard(by, sets::only(31 - i), 0),
             openings[i],
             ends[i],
             sent_at(sent, m, 31 - i),
@@ -370,12 +370,50 @@ fn fleet_of(
     }
 }
 
-// The trucks of each opening.
-fn openers(openings: &[u8; 32], all: u32) -> [u32; 16]
-    requires { ⌜ ((i : ℕ) → getD (now openings) i 0 < 16) ⌝ }
-    ensures { λ r. ⌜ Sorted r 32 all (λ p. getD (now (openings .entry)) (31 - p) 0) × (length r ≡ 16) ⌝ }
+// The same record put into bytes, all 32 places.
+fn put_fleet(
+    c: Counts,
+    openings: &[u8; 32],
+    b: Sets,
+    by: &[u32; 16],
+    ends: &[u16; 32],
+    sent: &[u64; 8],
+    d: &mut [u8],
+)
+    requires { ⌜ (c .trucks ≤ 32) × (sizeFor 32 ≤ length (now d)) ⌝ }
+    ensures { λ r. ⌜ now (d .exit)
+        ≡ filled (recordByte (fleetBy c (now (openings .entry)) b (now (by .entry)) (now (ends .entry)) (now (sent .entry)))) (sizeFor 32) (now (d .entry)) ⌝ }
 {
-    let mut by = [0u32; 16];
+    d[0] = c.trucks;
+    d[1] = (c.rounds % 256) as u8;
+    d[2] = (c.rounds / 256) as u8;
+    let n = c.trucks as usize;
+    let m = counters::in_use(sent);
+    let mut i = 0;
+    while i < n {
+        let t = truck_of(
+            b,
+            first_heard(by, sets::only(31 - i), 0),
+            openings[i],
+            ends[i],
+            sent_at(sent, m, 31 - i),
+            31 - i,
+        );
+        recordbytes::put_in(d, i, t);
+        i += 1;
+    }
+    while i < 32 {
+        let t = fleetrecord::opened(0);
+        recordbytes::put_in(d, i, t);
+        i += 1;
+    }
+}
+
+// The trucks of each opening.
+fn openers(openings: &[u8; 32], all: u32, by: &mut [u32; 16])
+    requires { ⌜ ((i : ℕ) → getD (now openings) i 0 < 16) × (now by ≡ replicate 16 0) ⌝ }
+    ensures { λ r. ⌜ Sorted (now (by .exit)) 32 all (λ p. getD (now (openings .entry)) (31 - p) 0) × (length (now (by .exit)) ≡ 16) ⌝ }
+{
     let mut left = all;
     while left != 0 {
         let p = sets::lowest(left);
@@ -383,7 +421,6 @@ fn openers(openings: &[u8; 32], all: u32) -> [u32; 16]
         by[c] = by[c] | sets::only(p);
         left = sets::rest(left);
     }
-    by
 }
 
 // The first n trucks.
@@ -439,32 +476,97 @@ fn rounds_in(
     }
 }
 
-// All rounds of a recording whose frame is good.
-pub(crate) fn replay(cycle: Cycle, s: &[u8], judging: bool) -> Course
-    requires { ⌜ frameCheck (now s) ≡ Accepted ⌝ }
-    ensures { λ r. ⌜ (r .fleet ≡ fleetAfter (chosen cycle) (now (s .entry)) (roundsOf (now (s .entry))))
-        × (r .grades ≡ gradesAfter (chosen cycle .rules) (now (s .entry)) judging (roundsOf (now (s .entry)))) ⌝ }
+// All rounds of a recording whose frame is good, in arrays that are lent as zeros.
+fn play(
+    cycle: Cycle,
+    s: &[u8],
+    openings: &mut [u8; 32],
+    by: &mut [u32; 16],
+    ends: &mut [u16; 32],
+    sent: &mut [u64; 8],
+    judging: bool,
+) -> Course
+    requires { ⌜ (frameCheck (now s) ≡ Accepted) × (now openings ≡ replicate 32 0) × (now by ≡ replicate 16 0) × (now ends ≡ replicate 32 0) × (now sent ≡ replicate 8 0) ⌝ }
+    ensures few { λ r. ⌜ r .counts .trucks ≤ 32 ⌝ }
+    ensures fleet { λ r. ⌜ fleetBy (r .counts) (now (openings .exit)) (r .sets) (now (by .exit)) (now (ends .exit)) (now (sent .exit))
+        ≡ fleetAfter (chosen cycle) (now (s .entry)) (roundsOf (now (s .entry))) ⌝ }
+    ensures grades { λ r. ⌜ r .sets .grades ≡ gradesAfter (chosen cycle .rules) (now (s .entry)) judging (roundsOf (now (s .entry))) ⌝ }
 {
-    let mut openings = [0u8; 32];
-    let c = recording::read_front(s, &mut openings);
+    let c = recording::read_front(s, openings);
     let n = c.trucks as usize;
     let all = everyone(n);
-    let mut by = openers(&openings, all);
-    let mut ends = [0u16; 32];
-    let mut sent = [0u64; 8];
+    openers(openings, all, by);
     let b = rounds_in(
         cycle,
         s,
         recording::word_place(c.trucks, 0),
         n,
         c.rounds,
-        &mut by,
-        &mut ends,
-        &mut sent,
+        by,
+        ends,
+        sent,
         all,
         judging,
     );
-    let grades = b.grades;
-    let fleet = fleet_of(c, &openings, b, &by, &ends, &sent);
-    Course { fleet, grades }
+    Course { counts: c, sets: b }
+}
+
+// The record after all rounds.
+pub(crate) fn ran(cycle: Cycle, s: &[u8]) -> Fleet
+    requires { ⌜ frameCheck (now s) ≡ Accepted ⌝ }
+    ensures { λ r. ⌜ r ≡ fleetAfter (chosen cycle) (now (s .entry)) (roundsOf (now (s .entry))) ⌝ }
+{
+    let mut openings = [0u8; 32];
+    let mut by = [0u32; 16];
+    let mut ends = [0u16; 32];
+    let mut sent = [0u64; 8];
+    let q = play(
+        cycle,
+        s,
+        &mut openings,
+        &mut by,
+        &mut ends,
+        &mut sent,
+        false,
+    );
+    let c = q.counts;
+    let b = q.sets;
+    fleet_of(c, &openings, b, &by, &ends, &sent)
+}
+
+// The same, put into bytes that have room for it: no record is built, which is much of what a run of few trucks and rounds takes.
+pub(crate) fn run_into(cycle: Cycle, s: &[u8], d: &mut [u8])
+    requires { ⌜ (frameCheck (now s) ≡ Accepted) × (sizeFor 32 ≤ length (now d)) ⌝ }
+    ensures { λ r. ⌜ now (d .exit) ≡ filled (recordByte (fleetAfter (chosen cycle) (now (s .entry)) (roundsOf (now (s .entry))))) (sizeFor 32) (now (d .entry)) ⌝ }
+{
+    let mut openings = [0u8; 32];
+    let mut by = [0u32; 16];
+    let mut ends = [0u16; 32];
+    let mut sent = [0u64; 8];
+    let q = play(
+        cycle,
+        s,
+        &mut openings,
+        &mut by,
+        &mut ends,
+        &mut sent,
+        false,
+    );
+    let c = q.counts;
+    let b = q.sets;
+    put_fleet(c, &openings, b, &by, &ends, &sent, d);
+}
+
+// The grades of all rounds.
+pub(crate) fn graded(cycle: Cycle, s: &[u8]) -> Grades
+    requires { ⌜ frameCheck (now s) ≡ Accepted ⌝ }
+    ensures { λ r. ⌜ r ≡ gradesAfter (chosen cycle .rules) (now (s .entry)) true (roundsOf (now (s .entry))) ⌝ }
+{
+    let mut openings = [0u8; 32];
+    let mut by = [0u32; 16];
+    let mut ends = [0u16; 32];
+    let mut sent = [0u64; 8];
+    let q = play(cycle, s, &mut openings, &mut by, &mut ends, &mut sent, true);
+    let b = q.sets;
+    b.grades
 }

@@ -8,15 +8,15 @@ use Rattle.playback.specs.Replays.{gradesAfter}
 use Rattle.playback.proofs.grade_in.Statement.{statement}
 use Rattle.playback.proofs.grade_in.Tie as tie
 
-replay-requires : tie.Need-replay-requires
+graded-requires : tie.Need-graded-requires
 unfolding checkOf
-replay-requires c κs =
+graded-requires c κs =
     let s = c .before .before .before .before .args .s .now in
     then-first (frameCheck s) (ownCheck s) (sym (c .before .before .check .ensures) ∙ c .enum-told .given .1)
 
 returns : tie.Need-returns
 unfolding gradedIn gradesAfter
-returns c = rw (sym (c .before .before .before .before .check .ensures) ∙ c .before .before .enum-told .given .1, c .before .replay .ensures .1)
+returns c = rw (sym (c .before .before .before .check .ensures) ∙ c .before .enum-told .given .1, c .graded .ensures)
 
 returns-2 : tie.Need-returns-2
 unfolding gradedIn
@@ -25,4 +25,4 @@ returns-2 c = rw (sym (c .before .before .before .check .ensures) ∙ c .before 
 pub grade-in-spec : {M : Type 1} → statement M
 grade-in-spec =
     tie.close
-    (tie.spec (λ c κs. search needs) (λ c. search needs) replay-requires (λ c. search needs) returns returns-2)
+    (tie.spec (λ c κs. search needs) (λ c. search needs) graded-requires (λ c. search needs) returns returns-2)

@@ -7,15 +7,15 @@ use Rattle.protocol.specs.Fleets.{ranIn}
 use Rattle.playback.proofs.run_in.Statement.{statement}
 use Rattle.playback.proofs.run_in.Tie as tie
 
-replay-requires : tie.Need-replay-requires
+ran-requires : tie.Need-ran-requires
 unfolding checkOf
-replay-requires c κs =
+ran-requires c κs =
     let s = c .before .before .before .before .args .s .now in
     then-first (frameCheck s) (ownCheck s) (sym (c .before .before .check .ensures) ∙ c .enum-told .given .1)
 
 returns : tie.Need-returns
 unfolding ranIn
-returns c = rw (sym (c .before .before .before .before .check .ensures) ∙ c .before .before .enum-told .given .1, c .before .replay .ensures .0)
+returns c = rw (sym (c .before .before .before .check .ensures) ∙ c .before .enum-told .given .1, c .ran .ensures)
 
 returns-2 : tie.Need-returns-2
 unfolding ranIn
@@ -27,7 +27,7 @@ run-in-spec =
     (tie.spec
     (λ c κs. search needs)
     (λ c. search needs)
-    replay-requires
+    ran-requires
     (λ c. search needs)
     (λ c κs. search needs)
     returns

@@ -4,26 +4,21 @@ use mathlib.Core.List.{List, []}
 use Prim.Native.Nat.{ℕ, _≤_, _-_}
 use native.Mathlib.Omega.{arith}
 use borrow.Author.Needs.{needs}
-use lib.ListN.{length, getD}
+use lib.ListN.{length}
 use Rattle.basics.specs.Lists.{filled}
-use Rattle.basics.proofs.Laws.{filled-none, fill-step}
+use Rattle.basics.proofs.Laws.{filled-none, fill-step, first-none}
 use Rattle.protocol.specs.declared.Fleet.{Fleet}
-use Rattle.protocol.specs.declared.Sent.{Sent}
 use Rattle.protocol.specs.declared.Truck.{Truck}
 use Rattle.protocol.specs.Fleets.{blank}
 use Rattle.protocol.proofs.Opened.{length-opened}
-use Rattle.playback.specs.declared.replay.Sets.{Sets}
-use Rattle.counters.specs.Counters.{inUse}
 use Rattle.counters.proofs.Counts.{in-use-most}
-use Rattle.playback.specs.Standing.{sentBy, truckBy}
+use Rattle.playback.specs.Standing.{builtBy}
+use Rattle.playback.proofs.Put.{heard-most, built-is}
 use Rattle.playback.proofs.replay.fleet_of.Statement.{statement}
 use Rattle.playback.proofs.replay.fleet_of.Tie as tie
 
-abbrev built : List ℕ → Sets → List ℕ → List ℕ → List ℕ → ℕ → Truck
-built openings b by ends sent i = truckBy b by (getD openings i 0) (getD ends i 0) (sentBy sent (inUse sent 8) (31 - i)) (31 - i)
-
 abbrev Inv-loop : tie.InvT-loop
-Inv-loop c openings b by ends sent trucks₀ n m i₀ trucks i = (i ≤ n) × (trucks ≡ filled (built openings b by ends sent) i trucks₀)
+Inv-loop c openings b by ends sent trucks₀ n m i₀ trucks i = (i ≤ n) × (trucks ≡ filled (builtBy openings b by ends sent) i trucks₀)
 
 abbrev μ-loop : tie.MeasureT-loop
 μ-loop c openings b by ends sent trucks₀ n m i₀ trucks i = n - i
@@ -31,28 +26,33 @@ abbrev μ-loop : tie.MeasureT-loop
 loop-holds : tie.Need-loop-holds Inv-loop μ-loop
 loop-holds c =
     let a = c .before .before .before .before .args in
-    (search needs, sym (filled-none (built (a .openings .now) (a .b) (a .by .now) (a .ends .now) (a .sent .now)) (c .before .before .before .blank .result .trucks)))
+    (search needs, sym (filled-none (builtBy (a .openings .now) (a .b) (a .by .now) (a .ends .now) (a .sent .now)) (c .before .before .before .blank .result .trucks)))
+
+first-heard-requires : tie.Need-first-heard-requires Inv-loop μ-loop
+first-heard-requires c κs = (search needs, first-none _)
 
 sent-at-requires : tie.Need-sent-at-requires Inv-loop μ-loop
 sent-at-requires c κs =
-    let u = c .before .before .before .before .in-use in
-    let a = c .before .before .before .before .before .before .before .before .args in
+    let u = c .before .before .before .before .before .before .in-use in
+    let a = c .before .before .before .before .before .before .before .before .before .before .args in
     (omega (arith, u .ensures, in-use-most (a .sent .now) 8), omega arith)
+
+truck-of-requires : tie.Need-truck-of-requires Inv-loop μ-loop
+truck-of-requires c κs = (omega arith, heard-most _ _ (c .before .before .before .first-heard .ensures))
 
 loop-again : tie.Need-loop-again Inv-loop μ-loop
 unfolding blank
 loop-again c =
-    let z = c .before .before .before .before .before .before .before .before .before .before in
+    let z = c .before .before .before .before .before .before .before .before .before .before .before .before in
     let a = z .args in
-    let g = c .before .before .before .before .before .before .before .before .before .blank in
-    let l = c .before .before .before .before .before .loop in
-    let u = c .before .before .before .before .before .before .in-use in (
+    let g = c .before .before .before .before .before .before .before .before .before .before .before .blank in
+    let l = c .before .before .before .before .before .before .before .loop in
+    let u = c .before .before .before .before .before .before .before .before .in-use in (
       search needs,
-      fill-step (built (a .openings .now) (a .b) (a .by .now) (a .ends .now) (a .sent .now)) (g .result .trucks) (l .trucks) (l .i) (l .inv .1) (c .truck-of .result)
+      fill-step (builtBy (a .openings .now) (a .b) (a .by .now) (a .ends .now) (a .sent .now)) (g .result .trucks) (l .trucks) (l .i) (l .inv .1) (c .truck-of .result)
           (omega (arith, z .pre, ap (λ (f : Fleet). length (f .trucks)) (g .ensures), length-opened []))
-          (c .truck-of .ensures
-          ∙ ap (λ (x : Sent). truckBy (a .b) (a .by .now) (getD (a .openings .now) (l .i) 0) (getD (a .ends .now) (l .i) 0) x (31 - l .i))
-          (c .before .sent-at .ensures ∙ ap (λ (m : ℕ). sentBy (a .sent .now) m (31 - l .i)) (u .ensures))),
+          (built-is (a .openings .now) (a .b) (a .by .now) (a .ends .now) (a .sent .now) (l .i) _ _ _ _ _ (omega (arith, z .pre))
+          (c .before .before .before .before .before .only .ensures) (c .before .before .before .before .first-heard .ensures) (u .ensures) (c .before .sent-at .ensures) (c .truck-of .ensures)),
     )
 
 returns : tie.Need-returns Inv-loop μ-loop
@@ -62,7 +62,7 @@ returns c =
     let l = c .before .loop in
     ap (λ (x : List Truck). record { n = a .c .trucks; done = a .c .rounds; trucks = x })
     (l .inv .1
-    ∙ ap₂ (λ (i : ℕ) (x : List Truck). filled (built (a .openings .now) (a .b) (a .by .now) (a .ends .now) (a .sent .now)) i x)
+    ∙ ap₂ (λ (i : ℕ) (x : List Truck). filled (builtBy (a .openings .now) (a .b) (a .by .now) (a .ends .now) (a .sent .now)) i x)
     (omega (arith, l .inv .0, c .loop-test .left)) (ap (λ (f : Fleet). f .trucks) (c .before .before .before .before .before .blank .ensures)))
 
 pub fleet-of-spec : {M : Type 1} → statement M
@@ -76,12 +76,15 @@ fleet-of-spec =
     (λ c κs. search needs)
     loop-holds
     (λ c. search needs)
+    (λ c κs. search needs)
+    first-heard-requires
+    (λ c. search needs)
     (λ c. search needs)
     (λ c. search needs)
     (λ c. search needs)
     sent-at-requires
     (λ c. search needs)
-    (λ c κs. search needs)
+    truck-of-requires
     (λ c. search needs)
     (λ c. search needs)
     (λ c. search needs)

@@ -72,7 +72,7 @@ loop2-again c =
     let p = c .before .before .put-in2 in (
       omega (arith, l .inv .0),
       omega (arith, n .loop2-test .taken),
-      puts-more none _ 32 _ (l .i) (l .d) (l .inv .2) (l .inv .0) (n .loop2-test .taken) (omega arith) (c .before .before .before .before .opened .result) (p .last .0) (c .before .before .before .before .opened .ensures) (p .ensures),
+      puts-more none _ 32 _ (l .i) (l .d) (l .inv .2) (l .inv .0) (omega (arith, n .loop2-test .taken)) (omega arith) (c .before .before .before .before .opened .result) (p .last .0) (c .before .before .before .before .opened .ensures) (p .ensures),
     )
 
 -- what the bytes hold in the end

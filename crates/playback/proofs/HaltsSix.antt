@@ -1,14 +1,13 @@
 -- A run of the six-round cycle by sets, from round to round.
 use mathlib.Core.Path.{_≡_, refl, ap, ap₂, sym, subst, subst₂, _∙_}
-use mathlib.Core.Bool.{Bool, true, false, cond, not, _&&_, _||_, true≢false, false≢true}
+use mathlib.Core.Bool.{Bool, true, false, cond, not, _&&_, _||_, true≢false}
 use mathlib.Core.List.{List}
-use Prim.Native.Nat.{ℕ, suc, _+_, _*_, _-_, _%_, _^_, _≤_, _<_}
+use Prim.Native.Nat.{ℕ, suc, _+_, _*_, _-_, _%_, _≤_, _<_}
 use native.Mathlib.Decide.{ℕ-discrete}
 use native.Mathlib.Omega.{arith}
-use borrow.Author.Tests.{eq-eqb, ne-eqb, le-ltb, ltb-false, ltb-true, eqb-true, not-false, not-true}
+use borrow.Author.Tests.{eq-eqb, ne-eqb, ltb-false, ltb-true, not-true}
 use lib.Bits.{bitAnd, bitOr, and-zero-r}
 use lib.Dec.{eqb, ltb}
-use lib.ListN.{replicate}
 use Rattle.basics.specs.Lists.{filled}
 use Rattle.basics.proofs.Laws.{and-left, and-right}
 use Rattle.sets.specs.Sets.{without}
@@ -19,11 +18,10 @@ use Rattle.protocol.specs.declared.Grades.{Grades}
 use Rattle.protocol.specs.Six.{sixRules}
 use Rattle.protocol.proofs.SixRound.{sound-six}
 use Rattle.playback.specs.declared.six.Played.{Played}
-use Rattle.playback.specs.declared.replay.Sets.{Sets}
 use Rattle.playback.specs.Sets.{estimates}
 use Rattle.playback.specs.Replays.{gradesAfter}
 use Rattle.playback.specs.Grading.{carriedBy, RadioSets}
-use Rattle.playback.specs.Standing.{nextTrucks, holds, trucksAfter, Stands, Prepares, Listens, Accepts, SixPlays, noted, Due, Halted}
+use Rattle.playback.specs.Standing.{nextTrucks, holds, trucksAfter, Stands, SixPlays, noted, Due, Halted}
 use Rattle.playback.proofs.Graded.{radioAfter}
 use Rattle.playback.proofs.StoodSix.{prepare-stands, prepare-radio, bit-stands, bit-radio, accept-stands, accept-radio}
 use Rattle.playback.proofs.Halts.{few, small, read-as, at-place, recount, graded-next, halts}

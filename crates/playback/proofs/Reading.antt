@@ -1,7 +1,7 @@
 -- Rounds read from the bytes of a recording.
 use mathlib.Core.Path.{_≡_, ap, sym, _∙_}
 use mathlib.Core.List.{List}
-use Prim.Native.Nat.{ℕ, _+_, _*_, _≤_, _<_}
+use Prim.Native.Nat.{ℕ, _+_, _*_, _-_, _^_, _≤_, _<_}
 use native.Mathlib.Nat.{add-mul, mul-le-mul}
 use native.Mathlib.Omega.{arith}
 use lib.ListN.{getD}
@@ -11,6 +11,12 @@ use Rattle.recording.proofs.Rounds.{word-round}
 
 pub product : (i n : ℕ) → i < 32 → n ≤ 32 → i * n ≤ 32 * 32
 product i n l m = mul-le-mul (let e : i ≤ 32 = omega arith in e) m
+
+-- the row of the truck at place p begins where a place can be
+pub row-place : (at n p : ℕ) → at < 2 ^ 32 → n ≤ 32 → p < 32 → ((31 - p) * n < 2 ^ 33) × (at + (31 - p) * n < 2 ^ 33)
+row-place at n p a m l =
+    let e : (31 - p) * n ≤ 32 * 32 = product (31 - p) n (omega arith) m in
+    (omega (arith, e), omega (arith, e, a))
 
 -- ---- the words of round k
 module _ (s : List ℕ) (k : ℕ) where

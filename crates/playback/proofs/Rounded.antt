@@ -10,7 +10,6 @@ use Rattle.basics.specs.Lists.{filled}
 use Rattle.protocol.specs.Rules.{isOne, isSeveral}
 use Rattle.playback.specs.declared.listening.Hearing.{Hearing}
 use Rattle.playback.specs.declared.listening.Taking.{Taking}
-use Rattle.playback.specs.declared.six.Played.{Played}
 use Rattle.sets.specs.Sets.{Members, without}
 use Rattle.playback.specs.Sets.{Sorted}
 use Rattle.playback.specs.Listens.{rowFrom, heardFrom, someValue, settled}

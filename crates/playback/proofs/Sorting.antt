@@ -6,21 +6,26 @@ use Prim.Native.Nat.{ℕ, suc, _^_, _≤_, _<_}
 use native.Mathlib.Omega.{arith}
 use native.Mathlib.Decide.{ℕ-discrete}
 use borrow.Author.Tests.{eq-eqb, ne-eqb}
-use lib.Bits.{bitOr, bitXor}
+use lib.Bits.{bitAnd, bitOr, bitXor}
 use lib.Dec.{eqb}
 use lib.ListN.{length, getD, set, replicate, getD-replicate, length-set}
 use lib.Seq.{getD-set-same, getD-set-other}
 use Rattle.basics.specs.Bits.{bit}
-use Rattle.basics.proofs.Laws.{and-left}
-use Rattle.sets.specs.Sets.{Members}
-use Rattle.playback.specs.Sets.{Sorted}
-use Rattle.sets.proofs.Members.{members-none, members-next, within-removed, seen, seen-none, seen-all, seen-in, seen-out}
+use Rattle.basics.specs.Lists.{first}
+use Rattle.basics.proofs.Laws.{first-le}
+use Rattle.sets.specs.Sets.{Members, without}
+use Rattle.protocol.specs.declared.Heard.the-variants.{Nothing, One, Several}
+use Rattle.playback.specs.declared.hearing.Values.{Values}
+use Rattle.playback.specs.Sets.{Sorted, heardSet, wasHeard, valuesOf}
+use Rattle.sets.proofs.Members.{TakenOut, members-none, members-next, within-removed, Picked, picked-none, picked-more, picked-all}
+use Rattle.playback.proofs.ByCrusher.{values-hit, values-none, first-from}
+use Rattle.playback.proofs.Radios.{heard-by-own, heard-sends, heard-fits}
 
 -- the trucks of `senders` that were taken already, sorted by crusher
 pub record Sorting (n senders : ℕ) (est : ℕ → ℕ) (values : List ℕ) (left : ℕ) : Type 0 where
   pub long : length values ≡ 16
   pub within : (j : ℕ) → bit left j ≡ true → bit senders j ≡ true
-  pub sorted : (c : ℕ) → c < 16 → Members (getD values c 0) n (seen left (λ j. bit senders j && eqb (est j) c))
+  pub sorted : (c : ℕ) → c < 16 → Picked n senders (λ j. eqb (est j) c) left (getD values c 0)
 
 module _ (n senders : ℕ) (est : ℕ → ℕ) where
   pub sorting-starts : Sorting n senders est (replicate 16 0) senders
@@ -28,7 +33,7 @@ module _ (n senders : ℕ) (est : ℕ → ℕ) where
       record {
         long = refl;
         within = λ j e. e;
-        sorted = λ c l. rw (getD-replicate {A = ℕ} 16 c 0 0 l) (seen-none n senders (λ j. bit senders j && eqb (est j) c) (λ j lj e. and-left (bit senders j) (eqb (est j) c) e));
+        sorted = λ c l. rw (getD-replicate {A = ℕ} 16 c 0 0 l) (picked-none n senders (λ j. eqb (est j) c));
       }
 
   pub sorting-more : {values : List ℕ} {left : ℕ} → Sorting n senders est values left → (i : ℕ) → i < n → bit left i ≡ true → est i < 16
@@ -43,13 +48,13 @@ module _ (n senders : ℕ) (est : ℕ → ℕ) where
       more : List ℕ
       more = set values (est i) (bitOr (getD values (est i) 0) (2 ^ i))
 
-      go : (c : ℕ) → c < 16 → Dec (c ≡ est i) → Members (getD more c 0) n (seen (bitXor left (2 ^ i)) (λ j. bit senders j && eqb (est j) c))
+      go : (c : ℕ) → c < 16 → Dec (c ≡ est i) → Picked n senders (λ j. eqb (est j) c) (bitXor left (2 ^ i)) (getD more c 0)
       go c lc (yes d) =
           rw (d, getD-set-same values (est i) (bitOr (getD values (est i) 0) (2 ^ i)) 0 (omega (arith, s .long)))
-          (seen-in (getD values (est i) 0) n left i (λ j. bit senders j && eqb (est j) (est i)) l h (s .sorted (est i) small) (rw (s .within i h, eq-eqb (est i) (est i) refl)))
+          (picked-more n senders (λ j. eqb (est j) (est i)) left (s .sorted (est i) small) i l h (s .within i h) true (sym (eq-eqb (est i) (est i) refl)))
       go c lc (no d) =
           rw (getD-set-other values (est i) c (bitOr (getD values (est i) 0) (2 ^ i)) 0 d)
-          (seen-out (getD values c 0) n left i (λ j. bit senders j && eqb (est j) c) l h (s .sorted c lc) (rw (s .within i h, ne-eqb (est i) c (λ q. d (sym q)))))
+          (picked-more n senders (λ j. eqb (est j) c) left (s .sorted c lc) i l h (s .within i h) false (sym (ne-eqb (est i) c (λ q. d (sym q)))))
 
   -- one that belongs to none
   pub sorting-skip : {values : List ℕ} {left : ℕ} → Sorting n senders est values left → (i : ℕ) → i < n → bit left i ≡ true → 16 ≤ est i
@@ -59,12 +64,39 @@ module _ (n senders : ℕ) (est : ℕ → ℕ) where
         long = s .long;
         within = λ j o. s .within j (within-removed left i h j o);
         sorted = λ c lc.
-            seen-out (getD values c 0) n left i (λ j. bit senders j && eqb (est j) c) l h (s .sorted c lc)
-            (rw (s .within i h, ne-eqb (est i) c (λ q. absurd (omega (arith, q, large, lc)))));
+            picked-more n senders (λ j. eqb (est j) c) left (s .sorted c lc) i l h (s .within i h) false (sym (ne-eqb (est i) c (λ q. absurd (omega (arith, q, large, lc)))));
       })
 
   pub sorting-done : {values : List ℕ} {left : ℕ} → Sorting n senders est values left → left ≡ 0 → Sorted values n senders est
-  sorting-done s z c l = seen-all (rw z at (s .sorted c l))
+  sorting-done s z c l = picked-all n senders (λ j. eqb (est j) c) (s .sorted c l) z
+
+-- what the truck at place p hears was sent, so a search for its least value may begin with the least that anybody sends
+pub sent-from : (by : List ℕ) (senders row p : ℕ) {own w low : ℕ} → senders < 2 ^ 32 → own ≡ 2 ^ p → w ≡ bitOr (without senders row) (bitAnd senders own)
+    → low ≡ first (wasHeard by senders) 16 → (low ≤ 16) × (first (wasHeard by w) low ≡ low)
+sent-from by senders row p {own} {w} {low} fits q e l =
+    let o : w ≡ heardSet senders row p = heard-by-own senders row p own w e q in
+    first-from by senders w low (rw o (heard-fits senders row p fits)) (λ j h. heard-sends senders row p j (sym (ap (λ (x : ℕ). bit x j) o) ∙ h)) l
+
+-- the least values that those wanted heard are sorted. The truck at place p is next, and w are those that it hears
+module _ (by : List ℕ) (wanted : ℕ) (h : ℕ → Values) {left p left′ : ℕ} (t : TakenOut left p left′) (c w : ℕ) (is : h p ≡ valuesOf by w 16)
+    (least : c ≡ first (wasHeard by w) 16) {taking taking′ : List ℕ} (s : Sorting 32 wanted (λ j. h j .least) taking left) where
+  -- it hears something, and one value alone where nobody else is heard than those that sent it
+  pub least-heard : {own : ℕ} → own ≡ 2 ^ p → c < 16 → taking′ ≡ set taking c (bitOr (getD taking c 0) own)
+      → (lone : Bool) → lone ≡ eqb (bitXor w (bitAnd w (getD by c 0))) 0 → (h p .heard ≡ cond lone One Several) × Sorting 32 wanted (λ j. h j .least) taking′ left′
+  least-heard q small e lone o =
+      let v : h p ≡ record { heard = cond (eqb (bitXor w (bitAnd w (getD by c 0))) 0) One Several; least = c } = is ∙ values-hit by w 16 c small (sym least) in
+      let m : c ≡ h p .least = sym (ap (λ (x : Values). x .least) v) in (
+        rw o (ap (λ (x : Values). x .heard) v),
+        rw (e, q, m) (sorting-more 32 wanted (λ j. h j .least) s p (t .below) (t .held) (rw m at small) left′ (t .rest)),
+      )
+
+  -- it hears nothing
+  pub none-heard : 16 ≤ c → taking′ ≡ taking → (h p .heard ≡ Nothing) × Sorting 32 wanted (λ j. h j .least) taking′ left′
+  none-heard large e =
+      let v : h p ≡ record { heard = Nothing; least = 16 } = is ∙ values-none by w 16 (omega (arith, first-le (wasHeard by w) 16, least, large)) in (
+        ap (λ (x : Values). x .heard) v,
+        rw e (sorting-skip 32 wanted (λ j. h j .least) s p (t .below) (t .held) (omega (arith, ap (λ (x : Values). x .least) v)) left′ (t .rest)),
+      )
 
 -- the trucks below i are looked at: those that send, and those of them of each crusher
 pub record Sending (sends : ℕ → Bool) (est : ℕ → ℕ) (i senders : ℕ) (values : List ℕ) : Type 0 where

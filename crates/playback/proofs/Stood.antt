@@ -6,7 +6,7 @@ use Prim.Native.Nat.{ℕ, suc, _+_, _*_, _-_, _^_, _≤_, _<_}
 use native.Mathlib.Nat.{add-mul}
 use native.Mathlib.Decide.{decLt, ℕ-discrete}
 use native.Mathlib.Omega.{arith}
-use borrow.Author.Tests.{eq-eqb, ne-eqb, eqb-true, lt-ltb, le-ltb, not-true}
+use borrow.Author.Tests.{ne-eqb, eqb-true, lt-ltb, le-ltb, not-true}
 use lib.Bits.{bitAnd, bitOr, and-zero-l, or-zero-r, xor-lt, and-le-l}
 use lib.Dec.{eqb, ltb}
 use lib.Pow.{pow-mono}

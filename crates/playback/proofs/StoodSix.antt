@@ -1,6 +1,6 @@
 -- The sets after a round of the six-round cycle stand for the trucks after it.
 use mathlib.Core.Path.{_≡_, refl, ap, ap₂, sym, subst, _∙_}
-use mathlib.Core.Bool.{Bool, true, false, cond, not, _&&_, _||_, and-true, and-false, true≢false, false≢true}
+use mathlib.Core.Bool.{Bool, true, false, cond, not, _&&_, _||_, and-true, and-false, true≢false}
 use mathlib.Core.List.{List}
 use Prim.Native.Nat.{ℕ, suc, _+_, _*_, _-_, _%_, _^_, _≤_, _<_}
 use native.Mathlib.Decide.{ℕ-discrete}
@@ -21,7 +21,7 @@ use Rattle.sets.proofs.Words.{bit-without, bit-zero}
 use Rattle.protocol.specs.declared.Heard.{Heard}
 use Rattle.protocol.specs.declared.Heard.the-variants.{Nothing}
 use Rattle.protocol.specs.declared.Sent.{Sent}
-use Rattle.protocol.specs.declared.State.the-variants.{Running, Decided}
+use Rattle.protocol.specs.declared.State.the-variants.{Decided}
 use Rattle.protocol.specs.declared.Truck.{Truck}
 use Rattle.protocol.specs.Cycles.{radioIn, playsIn}
 use Rattle.protocol.specs.Rules.{truck, isOne, isSeveral, different, leastOr, valuesHeard}
@@ -34,11 +34,11 @@ use Rattle.playback.specs.declared.replay.Vetoed.{Vetoed}
 use Rattle.playback.specs.Sets.{estimates}
 use Rattle.playback.specs.Listens.{rowFrom, heardFrom, someValue}
 use Rattle.playback.specs.Sets.{heardSet}
-use Rattle.playback.specs.Standing.{ReadsAs, nextTrucks, holds, wordFrom, stateOf, memoryOf, standing, sentBy, Stands, goingOn, proposersOf, mayOf, vetoersOf, Vetoes, noted, unmarkedOf, Prepares, withBit, quietOf, askedIn, Listens, willingOf, Accepts, SixPlays}
+use Rattle.playback.specs.Standing.{ReadsAs, nextTrucks, holds, wordFrom, stateOf, memoryOf, standing, sentBy, Stands, goingOn, proposersOf, mayOf, Vetoes, noted, unmarkedOf, Prepares, quietOf, Listens, willingOf, Accepts}
 use Rattle.playback.specs.Grading.{RadioSets}
 use Rattle.playback.proofs.Places.{placed}
-use Rattle.playback.proofs.Stood.{truck-same, memory-back, heard-silent, heard-others, nextRadio, runs-is, opening-is, running-is, mark-is, unwilling-is, next-plays, estimate-after, sorted-kept, stands-next, mark-bit, going-bit, going-lt, going-none, any-heard, radio-sets, senders-lt, proposers-are, wanted-none, listens, now-sorted, crushers-kept}
-use Rattle.playback.proofs.Stood.{own-veto, done-bit, on-bit, on-none, on-lt, done-goes, veto-radio}
+use Rattle.playback.proofs.Stood.{truck-same, memory-back, heard-silent, heard-others, nextRadio, runs-is, opening-is, running-is, mark-is, unwilling-is, estimate-after, sorted-kept, stands-next, mark-bit, going-bit, going-lt, going-none, any-heard, radio-sets, senders-lt, proposers-are, wanted-none, listens, now-sorted, crushers-kept}
+use Rattle.playback.proofs.Stood.{done-bit, on-bit, on-none, on-lt, done-goes, veto-radio}
 
 or-false : (b : Bool) → (b || false) ≡ b
 or-false true = refl

@@ -20,10 +20,8 @@ use Rattle.sets.specs.Sets.{without}
 use Rattle.sets.proofs.Words.{bit-high, bit-without, bit-zero, bit-shifted, bit-below}
 use Rattle.counters.specs.Counters.{digitOf, tally, countedUp}
 use Rattle.counters.proofs.Counts.{tally-more, length-up}
-use Rattle.protocol.specs.declared.Heard.{Heard}
 use Rattle.protocol.specs.declared.Heard.the-variants.{Nothing}
-use Rattle.protocol.specs.declared.State.the-variants.{Running, Decided}
-use Rattle.protocol.specs.declared.State.{State}
+use Rattle.protocol.specs.declared.State.the-variants.{Decided}
 use Rattle.protocol.specs.declared.Sent.{Sent}
 use Rattle.protocol.specs.declared.Truck.{Truck}
 use Rattle.protocol.specs.Cycles.{radioIn}
@@ -35,10 +33,10 @@ use Rattle.playback.specs.declared.replay.Proposed.{Proposed}
 use Rattle.playback.specs.declared.replay.Vetoed.{Vetoed}
 use Rattle.playback.specs.Sets.{estimates}
 use Rattle.playback.specs.Listens.{heardFrom, someValue}
-use Rattle.playback.specs.Standing.{ReadsAs, nextTrucks, holds, wordFrom, stateOf, standing, sentBy, Stands, unreadOf, wantedOf, proposersOf, vetoersOf, Proposes, Vetoes, noted}
+use Rattle.playback.specs.Standing.{ReadsAs, nextTrucks, holds, wordFrom, stateOf, standing, sentBy, Stands, unreadOf, wantedOf, proposersOf, Proposes, Vetoes, noted}
 use Rattle.playback.specs.Grading.{RadioSets}
-use Rattle.playback.proofs.Stood.{truck-same, nextRadio, opening-is, running-is, mark-is, unwilling-is, next-plays, estimate-after, sorted-kept, StopsTo, PlaysTo, end-now, stands-next, mark-bit, going-bit, going-lt, going-none, radio-sets, senders-lt, proposers-bit, proposers-are, wanted-none, listens, now-sorted, crushers-kept}
-use Rattle.playback.proofs.Stood.{vetoers-lt, vetoers-bit, own-veto, decidesNow, done-bit, on-bit, on-none, on-lt, done-goes}
+use Rattle.playback.proofs.Stood.{truck-same, nextRadio, opening-is, running-is, mark-is, unwilling-is, next-plays, estimate-after, sorted-kept, end-now, stands-next, mark-bit, going-bit, going-lt, going-none, radio-sets, senders-lt, proposers-bit, proposers-are, wanted-none, listens, now-sorted, crushers-kept}
+use Rattle.playback.proofs.Stood.{vetoers-lt, vetoers-bit, own-veto, done-bit, on-bit, on-none, on-lt, done-goes}
 use Rattle.playback.proofs.Stood as stood
 
 added : (b : Bool) (c : ℕ) → counted b c ≡ c + digitOf b

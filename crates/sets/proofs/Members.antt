@@ -154,6 +154,27 @@ module _ (m n left i : ℕ) (q : ℕ → Bool) (l : i < n) (h : bit left i ≡ t
   seen-joined true e = seen-in (sym e)
   seen-joined false e = seen-out (sym e)
 
+-- ---- those wanted are taken one by one, and `out` holds those of them that were taken already and have f
+abbrev pub Picked : ℕ → ℕ → (ℕ → Bool) → ℕ → ℕ → Type 0
+Picked n wanted f left out = Members out n (seen left (λ j. bit wanted j && f j))
+
+module _ (n wanted : ℕ) (f : ℕ → Bool) where
+  pub picked-none : Picked n wanted f wanted 0
+  picked-none = seen-none n wanted (λ j. bit wanted j && f j) (λ j l e. and-left (bit wanted j) (f j) e)
+
+  -- the next one joins where it has f
+  pub picked-more : (left : ℕ) {out : ℕ} → Picked n wanted f left out → (i : ℕ) → i < n → bit left i ≡ true → bit wanted i ≡ true → (b : Bool) → b ≡ f i
+      → Picked n wanted f (bitXor left (2 ^ i)) (cond b (bitOr out (2 ^ i)) out)
+  picked-more left {out} m i l h w b e = seen-joined out n left i (λ j. bit wanted j && f j) l h m b (e ∙ sym (ap (λ (x : Bool). x && f i) w))
+
+  pub picked-all : {left out : ℕ} → Picked n wanted f left out → left ≡ 0 → Members out n (λ j. bit wanted j && f j)
+  picked-all m z = seen-all (rw z at m)
+
+-- the same where the next one is the lowest, whose set is own
+pub picked-lowest : (wanted : ℕ) (f : ℕ → Bool) {left p left′ own out out′ : ℕ} → TakenOut left p left′ → own ≡ 2 ^ p → bit wanted p ≡ true → (b : Bool) → b ≡ f p
+    → out′ ≡ cond b (bitOr out own) out → Picked 32 wanted f left out → Picked 32 wanted f left′ out′
+picked-lowest wanted f {left} {p} {left′} t q w b e o m = rw (t .rest, o, q) (picked-more 32 wanted f left m p (t .below) (t .held) w b e)
+
 -- ---- a list whose elements are replaced one by one
 module _ {A : Type 0} (z : A) (d : List A) (new : ℕ → A) (n : ℕ) where
   abbrev pub half : ℕ → ℕ → A

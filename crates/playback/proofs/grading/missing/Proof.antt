@@ -1,41 +1,30 @@
 -- `missing` meets its contract.
-use mathlib.Core.Path.{_≡_, ap, sym, _∙_}
+use mathlib.Core.Path.{_≡_, ap, _∙_}
 use mathlib.Core.Bool.{Bool, true, cond, _&&_}
 use mathlib.Core.List.{List}
-use Prim.Native.Nat.{ℕ, _-_, _^_, _<_}
+use Prim.Native.Nat.{ℕ, _^_}
 use native.Mathlib.Omega.{arith}
 use borrow.Author.Needs.{needs}
-use lib.Bits.{bitOr, bitXor}
+use lib.Bits.{bitOr}
 use Rattle.basics.specs.Bits.{bit}
-use Rattle.basics.proofs.Laws.{and-left}
 use Rattle.sets.specs.Sets.{Members}
 use Rattle.playback.specs.Sets.{heardSet}
 use Rattle.playback.specs.Grading.{heardAt, missesSome, missesAll, missesHalf}
-use Rattle.sets.proofs.Members.{taken-out, own-out, within-removed, seen, seen-none, seen-all, seen-joined}
-use Rattle.playback.proofs.Reading.{product}
+use Rattle.sets.proofs.Members.{taken-out, own-out, within-removed, Picked, picked-none, picked-lowest, picked-all}
+use Rattle.playback.proofs.Reading.{row-place}
 use Rattle.playback.proofs.Radios.{heard-by-own}
 use Rattle.playback.proofs.grading.missing.Statement.{statement}
 use Rattle.playback.proofs.grading.missing.Tie as tie
 
--- of those wanted, the truck at place p has what f asks of the senders it heard
-abbrev of-wanted : (ℕ → Bool) → List ℕ → ℕ → ℕ → ℕ → ℕ → ℕ → Bool
-of-wanted f s at n senders wanted p = bit wanted p && f (heardAt s at n senders p)
-
--- one truck more
-more : (f : ℕ → Bool) (s : List ℕ) (at n senders wanted left left′ p own h set set′ : ℕ) → p < 32 → bit left p ≡ true → left′ ≡ bitXor left (2 ^ p) → bit wanted p ≡ true → own ≡ 2 ^ p
-    → h ≡ heardAt s at n senders p → set′ ≡ cond (f h) (bitOr set own) set → Members set 32 (seen left (of-wanted f s at n senders wanted))
-    → Members set′ 32 (seen left′ (of-wanted f s at n senders wanted))
-more f s at n senders wanted left left′ p own h set set′ l b out w q e es m =
-    rw (es, q, out) (seen-joined set 32 left p (of-wanted f s at n senders wanted) l b m (f h) (ap f e ∙ sym (ap (λ (x : Bool). x && f (heardAt s at n senders p)) w)))
-
-nobody : (f : ℕ → Bool) (s : List ℕ) (at n senders wanted : ℕ) → Members 0 32 (seen wanted (of-wanted f s at n senders wanted))
-nobody f s at n senders wanted = seen-none 32 wanted (of-wanted f s at n senders wanted) (λ j l e. and-left (bit wanted j) (f (heardAt s at n senders j)) e)
+-- the truck at place p has what f asks of the senders that it heard
+abbrev asked : (ℕ → Bool) → List ℕ → ℕ → ℕ → ℕ → ℕ → Bool
+asked f s at n senders p = f (heardAt s at n senders p)
 
 abbrev Inv-loop : tie.InvT-loop
 Inv-loop s at n senders wanted sent m₀ left₀ m left =
-    Members (m .some) 32 (seen left (of-wanted (missesSome senders) s at n senders wanted))
-    × (Members (m .all) 32 (seen left (of-wanted (missesAll senders) s at n senders wanted))
-    × (Members (m .half) 32 (seen left (of-wanted (missesHalf senders) s at n senders wanted)) × ((j : ℕ) → bit left j ≡ true → bit wanted j ≡ true)))
+    Picked 32 wanted (asked (missesSome senders) s at n senders) left (m .some)
+    × (Picked 32 wanted (asked (missesAll senders) s at n senders) left (m .all)
+    × (Picked 32 wanted (asked (missesHalf senders) s at n senders) left (m .half) × ((j : ℕ) → bit left j ≡ true → bit wanted j ≡ true)))
 
 abbrev μ-loop : tie.MeasureT-loop
 μ-loop s at n senders wanted sent m₀ left₀ m left = left
@@ -43,18 +32,18 @@ abbrev μ-loop : tie.MeasureT-loop
 loop-holds : tie.Need-loop-holds Inv-loop μ-loop
 loop-holds c =
     let a = c .before .args in (
-      nobody (missesSome (a .senders)) (a .s .now) (a .at) (a .n) (a .senders) (a .wanted),
+      picked-none 32 (a .wanted) (asked (missesSome (a .senders)) (a .s .now) (a .at) (a .n) (a .senders)),
       (
-        nobody (missesAll (a .senders)) (a .s .now) (a .at) (a .n) (a .senders) (a .wanted),
-        (nobody (missesHalf (a .senders)) (a .s .now) (a .at) (a .n) (a .senders) (a .wanted), λ j e. e),
+        picked-none 32 (a .wanted) (asked (missesAll (a .senders)) (a .s .now) (a .at) (a .n) (a .senders)),
+        (picked-none 32 (a .wanted) (asked (missesHalf (a .senders)) (a .s .now) (a .at) (a .n) (a .senders)), λ j e. e),
       ),
     )
 
 mul-read-at : tie.Need-mul-read-at Inv-loop μ-loop
-mul-read-at c = let z = c .before .before .before .before .before in omega (arith, product (31 - c .before .lowest .result) (z .args .n) (omega (arith, c .before .lowest .ensures .1 (c .before .before .loop-test .taken) .0)) (z .pre .0))
+mul-read-at c = let z = c .before .before .before .before .before in let e = row-place (z .args .at) (z .args .n) (c .before .lowest .result) (z .pre .1) (z .pre .0) (c .before .lowest .ensures .1 (c .before .before .loop-test .taken) .0) in omega (arith, e .0)
 
 add-read-at : tie.Need-add-read-at Inv-loop μ-loop
-add-read-at c = let z = c .before .before .before .before .before in omega (arith, product (31 - c .before .lowest .result) (z .args .n) (omega (arith, c .before .lowest .ensures .1 (c .before .before .loop-test .taken) .0)) (z .pre .0), z .pre .1)
+add-read-at c = let z = c .before .before .before .before .before in let e = row-place (z .args .at) (z .args .n) (c .before .lowest .result) (z .pre .1) (z .pre .0) (c .before .lowest .ensures .1 (c .before .before .loop-test .taken) .0) in omega (arith, e .1)
 
 sub-read-at : tie.Need-sub-read-at Inv-loop μ-loop
 sub-read-at c = omega (arith, c .before .lowest .ensures .1 (c .before .before .loop-test .taken) .0)
@@ -78,9 +67,9 @@ loop-again c =
     let is : h .result ≡ heardAt (a .s .now) (a .at) (a .n) (a .senders) p =
     heard-by-own (a .senders) (r .result) p (o .result) (h .result) (h .ensures) own ∙ ap (λ (x : ℕ). heardSet (a .senders) x p) (r .ensures) in
     let joins : (f : ℕ → Bool) (set set′ : ℕ) → set′ ≡ cond (f (h .result)) (bitOr set (o .result)) set
-    → Members set 32 (seen (l .left) (of-wanted f (a .s .now) (a .at) (a .n) (a .senders) (a .wanted)))
-    → Members set′ 32 (seen (c .rest .result) (of-wanted f (a .s .now) (a .at) (a .n) (a .senders) (a .wanted)))
-    = λ f set set′ e m. more f (a .s .now) (a .at) (a .n) (a .senders) (a .wanted) (l .left) (c .rest .result) p (o .result) (h .result) set set′ (t .below) (t .held) (t .rest) (l .inv .1 .1 .1 p (t .held)) own is e m in (
+    → Picked 32 (a .wanted) (asked f (a .s .now) (a .at) (a .n) (a .senders)) (l .left) set
+    → Picked 32 (a .wanted) (asked f (a .s .now) (a .at) (a .n) (a .senders)) (c .rest .result) set′
+    = λ f set set′ e m. picked-lowest (a .wanted) (asked f (a .s .now) (a .at) (a .n) (a .senders)) t own (l .inv .1 .1 .1 p (t .held)) (f (h .result)) (ap f is) e m in (
       joins (missesSome (a .senders)) (l .m .some) (w .result .some) (w .ensures .0) (l .inv .0),
       (
         joins (missesAll (a .senders)) (l .m .all) (w .result .all) (w .ensures .1 .0) (l .inv .1 .0),
@@ -92,7 +81,16 @@ loop-again c =
     )
 
 returns : tie.Need-returns Inv-loop μ-loop
-returns c = let i = c .before .loop .inv in (seen-all (rw (c .loop-test .left) at (i .0)), (seen-all (rw (c .loop-test .left) at (i .1 .0)), seen-all (rw (c .loop-test .left) at (i .1 .1 .0))))
+returns c =
+    let a = c .before .before .before .args in
+    let i = c .before .loop .inv in
+    let all : (f : ℕ → Bool) (set : ℕ) → Picked 32 (a .wanted) (asked f (a .s .now) (a .at) (a .n) (a .senders)) (c .before .loop .left) set
+    → Members set 32 (λ p. bit (a .wanted) p && f (heardAt (a .s .now) (a .at) (a .n) (a .senders) p))
+    = λ f set m. picked-all 32 (a .wanted) (asked f (a .s .now) (a .at) (a .n) (a .senders)) m (c .loop-test .left) in
+    let m = c .before .loop .m in (
+      all (missesSome (a .senders)) (m .some) (i .0),
+      (all (missesAll (a .senders)) (m .all) (i .1 .0), all (missesHalf (a .senders)) (m .half) (i .1 .1 .0)),
+    )
 
 pub missing-spec : {M : Type 1} → statement M
 missing-spec =

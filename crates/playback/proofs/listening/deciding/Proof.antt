@@ -1,43 +1,38 @@
 -- `deciding` meets its contract.
-use mathlib.Core.Path.{_≡_, ap, sym, _∙_}
-use mathlib.Core.Bool.{Bool, true, _&&_}
+use mathlib.Core.Path.{_≡_, ap, _∙_}
+use mathlib.Core.Bool.{Bool, true}
 use mathlib.Core.List.{List}
-use Prim.Native.Nat.{ℕ, _-_}
+use Prim.Native.Nat.{ℕ}
 use native.Mathlib.Omega.{arith}
 use borrow.Author.Needs.{needs}
 use lib.Dec.{eqb}
 use Rattle.basics.specs.Bits.{bit}
-use Rattle.basics.proofs.Laws.{and-left}
-use Rattle.sets.specs.Sets.{Members, without}
+use Rattle.sets.specs.Sets.{without}
 use Rattle.playback.specs.Listens.{rowFrom}
-use Rattle.sets.proofs.Members.{taken-out, own-out, within-removed, seen, seen-none, seen-all, seen-joined}
-use Rattle.playback.proofs.Reading.{product}
+use Rattle.sets.proofs.Members.{taken-out, own-out, within-removed, Picked, picked-none, picked-lowest, picked-all}
+use Rattle.playback.proofs.Reading.{row-place}
 use Rattle.playback.proofs.listening.deciding.Statement.{statement}
 use Rattle.playback.proofs.listening.deciding.Tie as tie
 
--- the truck at place p decides
-abbrev decided : List ℕ → ℕ → ℕ → ℕ → ℕ → ℕ → Bool
-decided s at n senders wanted p = bit wanted p && eqb (without senders (rowFrom s at n p)) 0
+-- the truck at place p hears none of the senders
+abbrev hearsNone : List ℕ → ℕ → ℕ → ℕ → ℕ → Bool
+hearsNone s at n senders p = eqb (without senders (rowFrom s at n p)) 0
 
 abbrev Inv-loop : tie.InvT-loop
 Inv-loop s at n senders wanted out₀ left₀ out left =
-    Members out 32 (seen left (decided s at n senders wanted)) × ((j : ℕ) → bit left j ≡ true → bit wanted j ≡ true)
+    Picked 32 wanted (hearsNone s at n senders) left out × ((j : ℕ) → bit left j ≡ true → bit wanted j ≡ true)
 
 abbrev μ-loop : tie.MeasureT-loop
 μ-loop s at n senders wanted out₀ left₀ out left = left
 
 loop-holds : tie.Need-loop-holds Inv-loop μ-loop
-loop-holds c =
-    let a = c .before .args in (
-      seen-none 32 (a .wanted) (decided (a .s .now) (a .at) (a .n) (a .senders) (a .wanted)) (λ j l e. and-left (bit (a .wanted) j) (eqb (without (a .senders) (rowFrom (a .s .now) (a .at) (a .n) j)) 0) e),
-      λ j e. e,
-    )
+loop-holds c = let a = c .before .args in (picked-none 32 (a .wanted) (hearsNone (a .s .now) (a .at) (a .n) (a .senders)), λ j e. e)
 
 mul-read-at : tie.Need-mul-read-at Inv-loop μ-loop
-mul-read-at c = let s = c .before .before .before .before in omega (arith, product (31 - c .lowest .result) (s .args .n) (omega (arith, c .lowest .ensures .1 (c .before .loop-test .taken) .0)) (s .pre .0))
+mul-read-at c = let s = c .before .before .before .before in let e = row-place (s .args .at) (s .args .n) (c .lowest .result) (s .pre .1) (s .pre .0) (c .lowest .ensures .1 (c .before .loop-test .taken) .0) in omega (arith, e .0)
 
 add-read-at : tie.Need-add-read-at Inv-loop μ-loop
-add-read-at c = let s = c .before .before .before .before in omega (arith, product (31 - c .lowest .result) (s .args .n) (omega (arith, c .lowest .ensures .1 (c .before .loop-test .taken) .0)) (s .pre .0), s .pre .1)
+add-read-at c = let s = c .before .before .before .before in let e = row-place (s .args .at) (s .args .n) (c .lowest .result) (s .pre .1) (s .pre .0) (c .lowest .ensures .1 (c .before .loop-test .taken) .0) in omega (arith, e .1)
 
 sub-read-at : tie.Need-sub-read-at Inv-loop μ-loop
 sub-read-at c = omega (arith, c .lowest .ensures .1 (c .before .loop-test .taken) .0)
@@ -54,17 +49,14 @@ loop-again c =
     let some = c .before .before .before .before .before .before .loop-test .taken in
     let t = taken-out some (i .ensures) (c .rest .ensures) in
     let own = own-out some (i .ensures .0) (c .before .before .before .only-lowest .ensures) in
-    let q : ℕ → Bool = decided (a .s .now) (a .at) (a .n) (a .senders) (a .wanted) in
-    let e : eqb (w .result) 0 ≡ q (i .result) =
-    ap (λ (x : ℕ). eqb x 0) (w .ensures ∙ ap (without (a .senders)) (c .before .before .before .before .read-at .ensures))
-    ∙ sym (ap (λ (b : Bool). b && eqb (without (a .senders) (rowFrom (a .s .now) (a .at) (a .n) (i .result))) 0) (l .inv .1 (i .result) (t .held))) in
-    rw (t .rest, c .before .union-where .ensures, own) (
-      seen-joined (l .out) 32 (l .left) (i .result) q (t .below) (t .held) (l .inv .0) (eqb (w .result) 0) e,
-      λ j h. l .inv .1 j (within-removed (l .left) (i .result) (t .held) j h),
+    let e : eqb (w .result) 0 ≡ hearsNone (a .s .now) (a .at) (a .n) (a .senders) (i .result) =
+    ap (λ (x : ℕ). eqb x 0) (w .ensures ∙ ap (without (a .senders)) (c .before .before .before .before .read-at .ensures)) in (
+      picked-lowest (a .wanted) (hearsNone (a .s .now) (a .at) (a .n) (a .senders)) t own (l .inv .1 (i .result) (t .held)) (eqb (w .result) 0) e (c .before .union-where .ensures) (l .inv .0),
+      λ j h. l .inv .1 j (within-removed (l .left) (i .result) (t .held) j (rw (t .rest) at h)),
     )
 
 returns : tie.Need-returns Inv-loop μ-loop
-returns c = seen-all (rw (c .loop-test .left) at (c .before .loop .inv .0))
+returns c = let a = c .before .before .before .args in picked-all 32 (a .wanted) (hearsNone (a .s .now) (a .at) (a .n) (a .senders)) (c .before .loop .inv .0) (c .loop-test .left)
 
 pub deciding-spec : {M : Type 1} → statement M
 deciding-spec =

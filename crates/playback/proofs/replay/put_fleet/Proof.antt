@@ -1,10 +1,9 @@
 -- `put_fleet` meets its contract: the first loop puts the trucks' places, the second the others.
-use mathlib.Core.Path.{_≡_, ap, sym, _∙_}
-use mathlib.Core.List.{List}
+use mathlib.Core.Path.{_≡_}
 use Prim.Native.Nat.{ℕ, _≤_, _-_}
 use native.Mathlib.Omega.{arith}
 use borrow.Author.Needs.{needs}
-use lib.ListN.{length, length-set}
+use lib.ListN.{length-set}
 use Rattle.basics.specs.Lists.{filled}
 use Rattle.basics.proofs.Laws.{first-none, fill-length}
 use Rattle.protocol.specs.declared.Truck.{Truck}
@@ -12,7 +11,7 @@ use Rattle.protocol.specs.Rules.{opened}
 use Rattle.counters.proofs.Counts.{in-use-most}
 use Rattle.recordbytes.specs.Layout.{sizeFor, recordByte}
 use Rattle.playback.specs.Standing.{builtBy, fleetBy}
-use Rattle.playback.proofs.Put.{heard-most, built-is, Puts, puts-starts, puts-more, puts-all}
+use Rattle.playback.proofs.Put.{heard-most, built-is, Puts, puts-more, puts-all}
 use Rattle.playback.proofs.replay.put_fleet.Statement.{statement}
 use Rattle.playback.proofs.replay.put_fleet.Tie as tie
 

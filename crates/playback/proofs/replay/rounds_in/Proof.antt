@@ -1,5 +1,5 @@
 -- `rounds_in` meets its contract.
-use mathlib.Core.Path.{_≡_, refl, subst}
+use mathlib.Core.Path.{refl, subst}
 use mathlib.Core.List.{List}
 use Prim.Native.Nat.{ℕ, _+_}
 use native.Mathlib.Nat.{zero-add}
@@ -7,7 +7,7 @@ use borrow.Author.Needs.{needs}
 use Rattle.protocol.specs.Rules.{twoRules}
 use Rattle.protocol.specs.Six.{sixRules}
 use Rattle.playback.specs.declared.replay.Sets.{Sets}
-use Rattle.playback.specs.Standing.{Due, Halted}
+use Rattle.playback.specs.Standing.{Halted}
 use Rattle.playback.proofs.Graded.{grades-none}
 use Rattle.playback.proofs.replay.rounds_in.Statement.{statement}
 use Rattle.playback.proofs.replay.rounds_in.Tie as tie

@@ -1,7 +1,7 @@
 #!/usr/bin/env python3
 """Every name that docs/PROMISES.md puts in backticks is declared where its column says.
 
-The rows have four columns: a sentence, definitions, promises or theorems, and tests with wrong versions. `crate/label` is an edit, `crate::name` a test of
+The rows have four columns: a sentence, definitions, promises or theorems, and tests with wrong versions. `crate/label` is a wrong version, `crate::name` a test of
 rust/crate, a path is a file (a case without its ending). Any other name is a declaration: in the second column of specs/ or of src/, in the third of those or
 of proofs/, in the fourth a constructor of the table's questions. Names outside the rows are declarations of any kind."""
 import pathlib
@@ -41,6 +41,13 @@ for crate in root.glob("rust/*"):
     tests[crate.name] = {name for text in sources for name in re.findall(r"#\[test\]\s*(?:#\[[^\]]*\]\s*)*fn ([a-z0-9_]+)\(", text)}
 
 
+# an edit that holds several wrong versions has a line for each; any other is named as its file
+versions = set()
+for edit in root.glob("crates/*/must-fail/*.edit"):
+    labels = re.findall(r"(?m)^version: (\S+)", edit.read_text()) or [edit.stem]
+    versions |= {f"{edit.parent.parent.name}/{label}" for label in labels}
+
+
 def there(name, column):
     if "::" in name:
         crate, _, test = name.partition("::")
@@ -50,8 +57,7 @@ def there(name, column):
     if name.startswith(("tests/", "docs/", "rust/", "c/")):
         return (root / name).exists() or any(root.glob(name + ".hex"))
     if re.fullmatch(r"[a-z]+/[a-z0-9_]+", name):
-        crate, _, label = name.partition("/")
-        return (root / "crates" / crate / "must-fail" / f"{label}.edit").exists()
+        return name in versions
     if name in ("requires", "src/"):
         return True
     if column == 2:

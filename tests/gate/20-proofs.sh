@@ -15,13 +15,19 @@ fi
 [ "$status" -eq 0 ] || grep -E 'error|NOT PROVED' "$log" | head -n 40
 rm -f "$log"
 
-. tests/first-error.sh
+. tests/wrong-versions.sh
 expect "there are must-fail edits" test -n "$(ls crates/*/must-fail/*.edit 2> /dev/null)"
 for edit in crates/*/must-fail/*.edit; do
     name=$(basename "$(dirname "$(dirname "$edit")")")
-    label=$(basename "$edit" .edit)
-    out=target/must-fail/$name/$label/.log
-    first=$(first_error "$out")
-    if is_fact "$first"; then pass; else fail "must-fail $name/$label is refused for its form: $first"; fi
+    log=target/must-fail/$name/$(basename "$edit" .edit)/.log
+    while read -r label function; do
+        refusal=$(refusal_of "$log" "$name" "$function")
+        if is_fact "$refusal"; then pass; else fail "must-fail $name/$label is not refused for a fact: $refusal"; fi
+    done < <(versions_of "$edit")
+done
+# a label names one wrong version
+for name in crates/*/must-fail; do
+    twice=$(for edit in "$name"/*.edit; do versions_of "$edit"; done | cut -d ' ' -f 1 | sort | uniq -d)
+    expect "two wrong versions of $name have one label: $twice" test -z "$twice"
 done
 finished=yes

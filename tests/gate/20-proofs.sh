@@ -25,6 +25,17 @@ for edit in crates/*/must-fail/*.edit; do
         if is_fact "$refusal"; then pass; else fail "must-fail $name/$label is not refused for a fact: $refusal"; fi
     done < <(versions_of "$edit")
 done
+# the look at the log itself: a function that is proved there, or that only calls a refused one, is not taken for a refused one
+for end in ': proved$' ', which is not proved'; do
+    looked=0 taken=''
+    for log in target/must-fail/ffi/bodies_*/.log; do
+        while read -r function; do
+            looked=$((looked + 1))
+            ! is_fact "$(refusal_of "$log" ffi "$function")" || taken="$taken $function"
+        done < <(sed -n -E "/$end/s/^fn ffi::([a-z0-9_]*): .*/\1/p" "$log")
+    done
+    expect "of $looked functions with '$end' these are taken for refused:$taken" test "$looked" -gt 0 -a -z "$taken"
+done
 # a label names one wrong version
 for name in crates/*/must-fail; do
     twice=$(for edit in "$name"/*.edit; do versions_of "$edit"; done | cut -d ' ' -f 1 | sort | uniq -d)

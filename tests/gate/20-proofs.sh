@@ -36,9 +36,4 @@ for end in ': proved$' ', which is not proved'; do
     done
     expect "of $looked functions with '$end' these are taken for refused:$taken" test "$looked" -gt 0 -a -z "$taken"
 done
-# a label names one wrong version
-for name in crates/*/must-fail; do
-    twice=$(for edit in "$name"/*.edit; do versions_of "$edit"; done | cut -d ' ' -f 1 | sort | uniq -d)
-    expect "two wrong versions of $name have one label: $twice" test -z "$twice"
-done
 finished=yes

@@ -270,10 +270,6 @@ module _ (p : ℕ → Bool) where
   unfolding someBelow
   some-first m h = ltb-true (first p m) m h
 
-  pub none-first : (m : ℕ) → someBelow p m ≡ false → m ≤ first p m
-  unfolding someBelow
-  none-first m h = ltb-false (first p m) m h
-
   -- none at all
   pub some-none : someBelow p 0 ≡ false
   some-none = none-someBelow 0 (λ k l. absurd (omega arith))

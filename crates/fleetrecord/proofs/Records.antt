@@ -15,15 +15,9 @@ use Rattle.protocol.proofs.Opened.{length-opened, truck-opened, truck-unopened}
 use Rattle.protocol.specs.declared.Truck.{Truck}
 use Rattle.protocol.specs.declared.Fleet.{Fleet}
 use Rattle.protocol.specs.Rules.{opened, truck}
-use Rattle.radio.specs.Runs.{stateAt}
-use Rattle.protocol.specs.Runs.{openedTrucks, trucksAt, trucksIn}
+use Rattle.protocol.specs.Runs.{openedTrucks}
 use Rattle.protocol.specs.Fleets.{Protocol, blank, goodTruckIn, goodFleetIn}
 use Rattle.fleetrecord.specs.Opens.{openFleet}
-
--- a run before round 1
-pub length-start : (n : ℕ) (openings : List ℕ) (rounds : ℕ → List ℕ) → length (trucksAt n openings rounds 0) ≡ 32
-unfolding trucksIn stateAt
-length-start n openings rounds = length-opened openings
 
 module _ (openings : List ℕ) where
   abbrev each : ℕ → Truck

@@ -2,7 +2,7 @@
 use mathlib.Core.Path.{_≡_, refl, ap, sym, subst, _∙_}
 use mathlib.Core.Bool.{Bool, true, false, cond, false≢true, true≢false}
 use mathlib.Core.List.{List, [], _∷_, _++_}
-use Prim.Native.Nat.{ℕ, _+_, _≤_, _<_}
+use Prim.Native.Nat.{ℕ, _≤_, _<_}
 use native.Mathlib.Omega.{arith}
 use native.Mathlib.Decide.{decLe}
 use borrow.Author.Tests.{le-leb, lt-leb, le-ltb, lt-ltb}
@@ -15,7 +15,7 @@ use Rattle.refusals.specs.declared.Outcome.{Outcome}
 use Rattle.refusals.specs.declared.Outcome.the-variants as outcome
 use Rattle.refusals.specs.Numbers.{numbered}
 use Rattle.refusals.specs.Outcomes.{refuse, andThen}
-use Rattle.recording.specs.Packed.{trucksOf, roundsOf, openingsOf, roundAt, largestRecording}
+use Rattle.recording.specs.Packed.{trucksOf, roundsOf, openingsOf, roundAt}
 use Rattle.recording.specs.Checks.{checkOf}
 use Rattle.protocol.specs.declared.Fleet.{Fleet}
 use Rattle.protocol.specs.declared.Answer.{Answer}

@@ -20,7 +20,6 @@ use Rattle.refusals.specs.Numbers.{numberOf}
 use Rattle.refusals.specs.Locations.{locationOf}
 use Rattle.refusals.proofs.Numbers.{number-range}
 use Rattle.refusals.proofs.Locations.{named-6}
-use Rattle.recording.specs.Packed.{trucksOf, roundsOf}
 use Rattle.recording.specs.Checks.{badTrucks, checkOf}
 use Rattle.recording.proofs.Accepted.{bytes-good}
 use Rattle.recording.proofs.Named.{check-in}

@@ -48,9 +48,6 @@ Puts ts from to d₀ i d =
     (f : Fleet) (e : List ℕ) → sizeFor 32 ≤ length e → ((j : ℕ) → from ≤ j → j < to → truck (f .trucks) j ≡ ts j)
     → d₀ ≡ filled (recordByte f) (sizeFor from) e → d ≡ filled (recordByte f) (sizeFor i) e
 
-pub puts-starts : (ts : ℕ → Truck) (from to : ℕ) (d₀ : List ℕ) → Puts ts from to d₀ from d₀
-puts-starts ts from to d₀ = λ f e room there start. start
-
 pub puts-more : (ts : ℕ → Truck) (from to : ℕ) (d₀ : List ℕ) (i : ℕ) (d : List ℕ) → Puts ts from to d₀ i d → from ≤ i → i < to → to ≤ 32
     → (t : Truck) (r : List ℕ) → t ≡ ts i → r ≡ withTruck d i t → Puts ts from to d₀ (i + 1) r
 puts-more ts from to d₀ i d h after below most t r et er f e room there start =

@@ -187,12 +187,6 @@ goodTruck = goodTruckIn twoRound
 abbrev pub goodFleet : Fleet → Bool
 goodFleet = goodFleetIn twoRound
 
-abbrev pub stepCheck : Fleet → List ℕ → Outcome
-stepCheck = stepCheckIn twoRound
-
-abbrev pub nextFleet : Fleet → List ℕ → Fleet
-nextFleet = nextFleetIn twoRound
-
 abbrev pub stepped : Fleet → List ℕ → Answer
 stepped = steppedIn twoRound
 

@@ -43,15 +43,12 @@ gradesFor radios R =
 abbrev pub openedTrucks : List ℕ → List Truck
 openedTrucks = openedIn recorded
 
--- of the two-round cycle: the trucks after k rounds, round k on the radio, and a grading
+-- of the two-round cycle: the trucks after k rounds, and round k on the radio
 abbrev pub trucksAt : ℕ → List ℕ → (ℕ → List ℕ) → ℕ → List Truck
 trucksAt = trucksIn twoRules
 
 abbrev pub radioAt : ℕ → List ℕ → (ℕ → List ℕ) → ℕ → Radio
 radioAt = radiosIn twoRules
-
-abbrev pub gradesOf : ℕ → List ℕ → (ℕ → List ℕ) → ℕ → Grades
-gradesOf n openings rounds = gradesFor (radioAt n openings rounds)
 
 -- the R rounds are calm from S with b: rounds S to S + 4
 unfoldable pub calm : ℕ → List ℕ → (ℕ → List ℕ) → ℕ → ℕ → ℕ → Bool

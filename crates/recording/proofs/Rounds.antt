@@ -1,5 +1,5 @@
 -- Each round of a recording is read as its words; a recording made of accepted rounds is accepted, and gives each of them back.
-use mathlib.Core.Path.{_≡_, refl, ap, ap₂, sym, _∙_}
+use mathlib.Core.Path.{_≡_, ap, ap₂, sym, _∙_}
 use mathlib.Core.Bool.{false}
 use mathlib.Core.List.{List, [], _∷_, _++_}
 use Prim.Native.Nat.{ℕ, zero, suc, _+_, _*_, _/_, _%_, _^_, _≤_, _<_, min}
@@ -11,7 +11,7 @@ use lib.Seq.{ext-getD, getD-append-add}
 use Rattle.refusals.specs.declared.Outcome.the-variants.{Accepted}
 use Rattle.basics.specs.Bits.{bit}
 use Rattle.basics.proofs.Laws.{length-tab, getD-tab}
-use Rattle.recording.specs.Packed.{bitAt, rowAt, trucksOf, roundsOf, wordPlace, wordAt, wordsOf, roundAt, bitsFor, bytesFor, packed, joined}
+use Rattle.recording.specs.Packed.{bitAt, rowAt, trucksOf, roundsOf, wordPlace, wordAt, wordsOf, roundAt, packed, joined}
 use Rattle.recording.specs.Checks.{ownBit, badOpenings, roundCheck, plainCheck}
 use Rattle.recording.proofs.Accepted.{GoodRounds, GoodPlain, good-plain, rounds-good, openings-in}
 use Rattle.recording.proofs.RoundTrip.{word-read, trucks-back, rounds-back, words-back}

@@ -176,9 +176,6 @@ module _ (s : List ℕ) (f : Outcome) (n R : ℕ) (framed : f ≡ frameCheck s) 
   good : GoodFrame s
   good = frame-good s (sym framed ∙ kept)
 
-  pub trucks-some : 0 < n
-  trucks-some = omega (arith, good .some)
-
   pub trucks-fit : n ≤ 32
   trucks-fit = omega (arith, good .most)
 

@@ -10,6 +10,15 @@ use Rattle.plain.proofs.read.Tie as tie
 mul-count : tie.Need-mul-count
 mul-count c = omega (arith, words-small (c .read-counts .result .trucks) (c .read-counts .result .rounds) (omega arith) (omega arith))
 
+returns : tie.Need-returns
+returns c = search (read-9, counts-trucks, counts-rounds)
+
+returns-2 : tie.Need-returns-2
+returns-2 c = search read-refused
+
+returns-3 : tie.Need-returns-3
+returns-3 c = search (read-0, counts-trucks, counts-rounds)
+
 pub read-spec : {M : Type 1} → statement M
 read-spec =
     tie.close
@@ -22,10 +31,10 @@ read-spec =
     (λ c. search needs)
     (λ c. search needs)
     mul-count
-    (λ c. search (read-9, counts-trucks, counts-rounds))
+    returns
     (λ c κs. search needs)
     (λ c κs. search (counts-trucks, counts-rounds, read-most, words-room, words-small))
-    (λ c. search read-refused)
+    returns-2
     (λ c. search needs)
     (λ c. search needs)
-    (λ c. search (read-0, counts-trucks, counts-rounds)))
+    returns-3)

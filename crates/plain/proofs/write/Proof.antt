@@ -4,6 +4,15 @@ use Rattle.plain.proofs.Answers.{write-refused, write-9, plain-kept, by
 use Rattle.plain.proofs.write.Statement.{statement}
 use Rattle.plain.proofs.write.Tie as tie
 
+returns : tie.Need-returns
+returns c = search write-9
+
+returns-2 : tie.Need-returns-2
+returns-2 c = search write-refused
+
+returns-3 : tie.Need-returns-3
+returns-3 c = search write-0
+
 pub write-spec : {M : Type 1} → statement M
 write-spec =
     tie.close
@@ -12,8 +21,8 @@ write-spec =
     (λ c. search needs)
     (λ c. search needs)
     (λ c κs. search needs)
-    (λ c. search write-9)
+    returns
     (λ c κs. search (plain-kept, bytes-room))
-    (λ c. search write-refused)
+    returns-2
     (λ c. search needs)
-    (λ c. search write-0))
+    returns-3)

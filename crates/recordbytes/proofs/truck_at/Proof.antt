@@ -4,6 +4,9 @@ use Rattle.recordbytes.proofs.Laws.{truck-is}
 use Rattle.recordbytes.proofs.truck_at.Statement.{statement}
 use Rattle.recordbytes.proofs.truck_at.Tie as tie
 
+returns : tie.Need-returns
+returns c = search truck-is
+
 pub truck-at-spec : {M : Type 1} → statement M
 truck-at-spec =
     tie.close
@@ -19,4 +22,4 @@ truck-at-spec =
     (λ c κs. search needs)
     (λ c κs. search needs)
     (λ c κs. search needs)
-    (λ c. search truck-is))
+    returns)

@@ -5,6 +5,12 @@ use Rattle.recording.proofs.Searches.{trucks-fit, rounds-fit, bits-fit,
 use Rattle.recording.proofs.check.Statement.{statement}
 use Rattle.recording.proofs.check.Tie as tie
 
+returns : tie.Need-returns
+returns c = search check-refused
+
+returns-2 : tie.Need-returns-2
+returns-2 c = search (check-own, counts-trucks, counts-rounds)
+
 pub check-spec : {M : Type 1} → statement M
 check-spec =
     tie.close
@@ -14,5 +20,5 @@ check-spec =
     (λ c. search needs)
     (λ c. search needs)
     (λ c κs. search (counts-trucks, counts-rounds, trucks-fit, rounds-fit, bits-fit))
-    (λ c. search check-refused)
-    (λ c. search (check-own, counts-trucks, counts-rounds)))
+    returns
+    returns-2)

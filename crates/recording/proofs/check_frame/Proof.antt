@@ -13,17 +13,35 @@ end-bit-requires c κs =
     (start .args .rounds) (sized .before .before .if2 .left) (start .pre .1) (sized .bytes-for .result) (sized .before .if3 .left) (sized .bytes-for .ensures)
     (c .bits-for .result) (c .before .if4 .left) (c .bits-for .ensures)
 
+returns : tie.Need-returns
+returns c = search frame-1
+
+returns-2 : tie.Need-returns-2
+returns-2 c = search frame-2
+
+returns-3 : tie.Need-returns-3
+returns-3 c = search frame-3
+
+returns-4 : tie.Need-returns-4
+returns-4 c = search frame-4
+
+returns-5 : tie.Need-returns-5
+returns-5 c = search frame-5
+
+returns-6 : tie.Need-returns-6
+returns-6 c = search frame-0
+
 pub check-frame-spec : {M : Type 1} → statement M
 check-frame-spec =
     tie.close
     (tie.spec
-    (λ c. search frame-1)
+    returns
     (λ c κs. search needs)
-    (λ c. search frame-2)
-    (λ c. search frame-3)
+    returns-2
+    returns-3
     (λ c κs. search needs)
-    (λ c. search frame-4)
+    returns-4
     (λ c κs. search needs)
     end-bit-requires
-    (λ c. search frame-5)
-    (λ c. search frame-0))
+    returns-5
+    returns-6)

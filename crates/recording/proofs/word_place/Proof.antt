@@ -15,5 +15,8 @@ add-result c =
     let s = c .before in
     omega (arith, c .opening-place .ensures, run-small (s .args .trucks) (s .args .w) (s .fits .trucks .fits) (s .fits .w .fits))
 
+returns : tie.Need-returns
+returns c = search needs
+
 pub word-place-spec : {M : Type 1} → statement M
-word-place-spec = tie.close (tie.spec (λ c κs. search needs) mul-result add-result (λ c. search needs))
+word-place-spec = tie.close (tie.spec (λ c κs. search needs) mul-result add-result returns)

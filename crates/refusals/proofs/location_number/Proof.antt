@@ -8,6 +8,9 @@ use Rattle.refusals.proofs.location_number.Tie as tie
 returns-2 : tie.Need-returns-2
 returns-2 c = ap locationNumber (sym (c .before .p .given .1))
 
+returns : tie.Need-returns
+returns c = search needs
+
 pub location-number-spec : {M : Type 1} → statement M
 location-number-spec =
     tie.close
@@ -18,5 +21,5 @@ location-number-spec =
     (λ c. search needs)
     (λ c. search needs)
     (λ c. search needs)
-    (λ c. search needs)
+    returns
     returns-2)

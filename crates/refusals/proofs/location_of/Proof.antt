@@ -8,6 +8,9 @@ use Rattle.refusals.proofs.location_of.Tie as tie
 returns-6 : tie.Need-returns-6
 returns-6 c = ap locationOf (sym (c .before .r .given .1))
 
+returns : tie.Need-returns
+returns c = search needs
+
 pub location-of-spec : {M : Type 1} → statement M
 location-of-spec =
     tie.close
@@ -26,7 +29,7 @@ location-of-spec =
     (λ c. search needs)
     (λ c. search needs)
     (λ c. search needs)
-    (λ c. search needs)
+    returns
     (λ c. search needs)
     (λ c. search needs)
     (λ c. search needs)

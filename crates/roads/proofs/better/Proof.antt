@@ -4,6 +4,18 @@ use Rattle.roads.proofs.Choice.{better-idle, better-first, better-less,
 use Rattle.roads.proofs.better.Statement.{statement}
 use Rattle.roads.proofs.better.Tie as tie
 
+returns : tie.Need-returns
+returns c = search better-idle
+
+returns-2 : tie.Need-returns-2
+returns-2 c = search better-first
+
+returns-3 : tie.Need-returns-3
+returns-3 c = search better-less
+
+returns-4 : tie.Need-returns-4
+returns-4 c = search better-kept
+
 pub better-spec : {M : Type 1} → statement M
 better-spec =
     tie.close
@@ -12,7 +24,7 @@ better-spec =
     (λ c. search needs)
     (λ c. search needs)
     (λ c. search needs)
-    (λ c. search better-idle)
-    (λ c. search better-first)
-    (λ c. search better-less)
-    (λ c. search better-kept))
+    returns
+    returns-2
+    returns-3
+    returns-4)

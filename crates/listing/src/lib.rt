@@ -248,7 +248,7 @@ pub fn refusal_line(r: Refusal, buf: &mut [u8]) -> Listed
 pub fn list(s: &[u8], buf: &mut [u8]) -> Listed
     ensures { λ r. ⌜ left r (now (buf .exit)) ≡ listed (now (s .entry)) (now (buf .entry)) ⌝ }
 {
-    let a = fleet::run(s);
+    let a = playback::run(s);
     let outcome = a.outcome;
     match outcome {
         Outcome::Refused(r) => Listed::Refused(r),

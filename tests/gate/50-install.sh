@@ -89,8 +89,8 @@ expect "install where nothing can be written" install_ends 1 'could not be writt
 mkdir -p "$box/bin" "$box/tree/target/staticlib" "$box/tree/crates"
 printf '#!/bin/sh\necho "rt: NOT PROVED"\nexit 1\n' > "$box/bin/rt"
 chmod +x "$box/bin/rt"
-cp install "$box/tree"
-touch "$box/tree/crates.txt"
+cp install prove "$box/tree"
+printf 'replay:\nffi: replay\n' > "$box/tree/crates.txt"
 unproved() { PATH=$box/bin:$PATH "$box/tree/install" "$box/three" 2> "$box/err"; [ $? -eq 1 ] && grep -qx 'rt: NOT PROVED' "$box/err" && grep -q 'nothing is installed' "$box/err" && [ ! -e "$box/three" ]; }
 expect "install of what is not proved" unproved
 rm -rf "$box"

@@ -1,16 +1,17 @@
--- What follows from what is sent, heard and missed in one round: two majorities share a message, a truck without a mark heard what its class promises; and calm rounds.
+-- What follows from what is sent, heard and missed in one round: two majorities share a message, a truck without a mark heard what its class promises; and calm rounds,
+-- and the first round that breaks a class.
 use mathlib.Core.Path.{_≡_, refl, ap, sym, subst, _∙_}
 use mathlib.Core.Bool.{Bool, true, false, cond, not, _&&_, _||_, true≢false, false≢true}
 use mathlib.Core.List.{[], _∷_}
 use Prim.Native.Nat.{ℕ, zero, suc, _+_, _-_, _*_, _≤_, _<_}
 use native.Mathlib.Decide.{decLt}
 use native.Mathlib.Omega.{arith}
-use borrow.Author.Tests.{ltb-true, lt-ltb, leb-true, leb-false, eq-eqb, eqb-true, not-true}
+use borrow.Author.Tests.{ltb-true, lt-ltb, ltb-false, leb-true, leb-false, eq-eqb, eqb-true, not-true, not-false}
 use lib.Dec.{ltb, leb, eqb}
 use lib.ListN.{length, length-append}
-use Rattle.basics.specs.Lists.{who, allBelow, someBelow}
-use Rattle.basics.proofs.Laws.{who-ext, and-left, and-right, and-both, allBelow-at, allBelow-all, someBelow-at, someBelow-by, someBelow-none, none-someBelow}
-use Rattle.radio.specs.Radio.{Radio, implies, sent, hears, heardBy, heard, misses, missesAny, judged, complete, majorityComplete, zeroComplete, accurate, inFull, fewSenders, someRunning, calmRound, calmFor, timesSent}
+use Rattle.basics.specs.Lists.{who, allBelow, someBelow, first}
+use Rattle.basics.proofs.Laws.{who-ext, and-left, and-right, and-both, allBelow-at, allBelow-all, someBelow-at, someBelow-by, someBelow-none, none-someBelow, first-before, first-at}
+use Rattle.radio.specs.Radio.{Radio, implies, sent, hears, heardBy, heard, misses, missesAny, judged, complete, majorityComplete, zeroComplete, accurate, inFull, fewSenders, someRunning, calmRound, calmFor, firstBreak, FirstToBreak, timesSent}
 
 -- how many of the first m have p
 abbrev count : (ℕ → Bool) → ℕ → ℕ
@@ -294,3 +295,37 @@ calm-parts d proposes radios R S b h =
   where
     round : ℕ → Bool
     round e = calmRound b (proposes (S + e)) (radios (S + e))
+
+-- what the first break of a class says: 0 that there is none, any other number which round it is
+module _ (class : Radio → Bool) (radios : ℕ → Radio) (R : ℕ) where
+  abbrev breaks : ℕ → Bool
+  breaks e = not (class (radios (suc e)))
+
+  -- the rounds before it have the class
+  unbroken : (k : ℕ) → 1 ≤ k → k ≤ first breaks R → class (radios k) ≡ true
+  unbroken k s l =
+      subst (λ (j : ℕ). class (radios j) ≡ true) (let e : suc (k - 1) ≡ k = omega arith in e)
+      (not-false (class (radios (suc (k - 1)))) (first-before breaks R (k - 1) (omega arith)))
+
+  pub break-never : firstBreak class radios R ≡ 0 → (k : ℕ) → 1 ≤ k → k ≤ R → class (radios k) ≡ true
+  unfolding firstBreak
+  break-never h k s l = go (ltb (first breaks R) R) refl h
+    where
+      go : (b : Bool) → ltb (first breaks R) R ≡ b → cond b (suc (first breaks R)) 0 ≡ 0 → class (radios k) ≡ true
+      go true e z = absurd (omega arith)
+      go false e z = unbroken k s (omega (arith, ltb-false (first breaks R) R e))
+
+  pub break-first : (firstBreak class radios R ≡ 0 → ⊥) → FirstToBreak class radios R (firstBreak class radios R)
+  unfolding firstBreak
+  break-first h = go (ltb (first breaks R) R) refl h
+    where
+      go : (b : Bool) → ltb (first breaks R) R ≡ b → (cond b (suc (first breaks R)) 0 ≡ 0 → ⊥) → FirstToBreak class radios R (cond b (suc (first breaks R)) 0)
+      go true e z =
+          let l : first breaks R < R = ltb-true (first breaks R) R e in
+          record {
+            some = omega arith;
+            most = l;
+            breaks = not-true (class (radios (suc (first breaks R)))) (first-at breaks R l);
+            before = λ j s o. unbroken j s (omega arith);
+          }
+      go false e z = absurd (z refl)

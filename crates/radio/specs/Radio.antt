@@ -1,7 +1,8 @@
 -- One round on the radio, and what a mark is worth (document 01, 'What a mark is worth').
 -- A protocol says who is running and who sends; all else here holds for any of them.
-use Prim.Native.Nat.{ℕ, suc, _+_, _*_}
-use mathlib.Core.Bool.{Bool, cond, not, _&&_, _||_}
+use Prim.Native.Nat.{ℕ, suc, _+_, _*_, _≤_, _<_}
+use mathlib.Core.Path.{_≡_}
+use mathlib.Core.Bool.{Bool, true, false, cond, not, _&&_, _||_}
 use mathlib.Core.List.{List}
 use lib.Dec.{eqb, leb, ltb}
 use lib.ListN.{length}
@@ -94,6 +95,13 @@ unfoldable pub firstBreak : (Radio → Bool) → (ℕ → Radio) → ℕ → ℕ
 firstBreak class radios R =
     let k = first (λ e. not (class (radios (suc e)))) R in
     cond (ltb k R) (suc k) 0
+
+-- round k is the first of the rounds 1 to R that breaks a class
+pub record FirstToBreak (class : Radio → Bool) (radios : ℕ → Radio) (R k : ℕ) : Type 0 where
+  pub some : 1 ≤ k
+  pub most : k ≤ R
+  pub breaks : class (radios k) ≡ false
+  pub before : (j : ℕ) → 1 ≤ j → j < k → class (radios j) ≡ true
 
 -- in how many of the rounds 1 to R that are of a kind truck i sends
 unfoldable pub timesSent : (ℕ → Bool) → (ℕ → Radio) → ℕ → ℕ → ℕ

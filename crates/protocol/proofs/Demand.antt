@@ -57,7 +57,7 @@ pub record Facts (p : Protocol) : Type 0 where
       → EndedIn recorded n (trucksIn (p .rules) n openings rounds (S + p .calmSpan))
 
 -- what an accepted start fixes
-accepted-start : (n : ℕ) (openings : List ℕ) → started n openings .outcome ≡ Accepted → Start n openings
+pub accepted-start : (n : ℕ) (openings : List ℕ) → started n openings .outcome ≡ Accepted → Start n openings
 unfolding started
 accepted-start n openings h =
     start-by n openings (accepted-by (startCheck n openings) (record { n = n; done = 0; trucks = openedTrucks openings }) blank h .0)

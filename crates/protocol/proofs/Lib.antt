@@ -18,6 +18,7 @@ pub mod SixAgree
 pub mod SixCalm
 pub mod SixWhole
 pub mod SixDemand
+pub mod Gradings
 pub mod HandsOn
 pub mod Counts
 pub mod CalmCases

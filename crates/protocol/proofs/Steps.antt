@@ -123,6 +123,40 @@ start-by n openings h =
       accept = h;
     }
 
+-- the recording of a list is accepted, and what was put into it is read out of it
+pub record RecordingBack (n : ℕ) (openings : List ℕ) (ws : List (List ℕ)) : Type 0 where
+  pub accept : checkOf (recordingOf n openings ws) ≡ Accepted
+  pub trucks : trucksOf (recordingOf n openings ws) ≡ n
+  pub rounds : roundsOf (recordingOf n openings ws) ≡ length (taken n ws)
+  pub crushers : openingsOf (recordingOf n openings ws) ≡ openings
+  pub words : (k : ℕ) → k < length (taken n ws) → roundAt (recordingOf n openings ws) k ≡ roundIn (taken n ws) k
+
+pub recording-back : (n : ℕ) (openings : List ℕ) → Start n openings → (ws : List (List ℕ)) → RecordingBack n openings ws
+unfolding recordingOf
+recording-back n openings start ws =
+    record {
+      accept = back .0;
+      trucks = back .1;
+      rounds = back .2;
+      crushers = back .3;
+      words = round-back n rs each openings (start .some) (start .most) few (start .crushers);
+    }
+  where
+    rs : List (List ℕ)
+    rs = taken n ws
+
+    s : List ℕ
+    s = packed n (length rs) openings (joined rs)
+
+    each : (k : ℕ) → k < length rs → GoodRound n (getD rs k [])
+    each = taken-good n 0 ws
+
+    few : length rs ≤ 400
+    few = omega (arith, taken-few n 0 ws (omega arith))
+
+    back : (checkOf s ≡ Accepted) × (trucksOf s ≡ n) × (roundsOf s ≡ length rs) × (openingsOf s ≡ openings) × (wordsOf s ≡ joined rs)
+    back = read-back n (length rs) openings (joined rs) (joined-accepted n rs each openings (start .some) (start .most) few (start .crushers))
+
 module _ (p : Protocol) (sound : Sound p) (n : ℕ) (openings : List ℕ) (start : Start n openings) where
   abbrev c : Rules recorded
   c = p .rules
@@ -218,26 +252,19 @@ module _ (p : Protocol) (sound : Sound p) (n : ℕ) (openings : List ℕ) (start
   -- running the list's recording
   pub recording-run : (ws : List (List ℕ))
       → ranIn p (recordingOf n openings ws) ≡ record { outcome = Accepted; fleet = fleetIn p n openings (roundIn (taken n ws)) (length (taken n ws)) }
-  unfolding ranIn recordingOf fleetIn
+  unfolding ranIn fleetIn
   recording-run ws =
-      ap (λ (o : Outcome). answer o (fleetIn p (trucksOf s) (openingsOf s) (roundAt s) (roundsOf s)) blank) (back .0)
+      ap (λ (o : Outcome). answer o (fleetIn p (trucksOf s) (openingsOf s) (roundAt s) (roundsOf s)) blank) (back .accept)
       ∙ ap (λ (f : Fleet). record { outcome = Accepted; fleet = f })
-      (ap₂ (λ (m R : ℕ). fleetIn p m (openingsOf s) (roundAt s) R) (back .1) (back .2)
-      ∙ ap (λ (os : List ℕ). fleetIn p n os (roundAt s) (length rs)) (back .3)
-      ∙ ap (λ (ts : List Truck). record { n = n; done = length rs; trucks = ts })
-      (rounds-ext c n openings (roundAt s) (roundIn rs) (length rs) (round-back n rs each openings (start .some) (start .most) few (start .crushers))))
+      (ap₂ (λ (m R : ℕ). fleetIn p m (openingsOf s) (roundAt s) R) (back .trucks) (back .rounds)
+      ∙ ap (λ (os : List ℕ). fleetIn p n os (roundAt s) (length rs)) (back .crushers)
+      ∙ ap (λ (ts : List Truck). record { n = n; done = length rs; trucks = ts }) (rounds-ext c n openings (roundAt s) (roundIn rs) (length rs) (back .words)))
     where
       rs : List (List ℕ)
       rs = taken n ws
 
       s : List ℕ
-      s = packed n (length rs) openings (joined rs)
+      s = recordingOf n openings ws
 
-      each : (k : ℕ) → k < length rs → GoodRound n (getD rs k [])
-      each = taken-good n 0 ws
-
-      few : length rs ≤ 400
-      few = omega (arith, taken-few n 0 ws (omega arith))
-
-      back : (checkOf s ≡ Accepted) × (trucksOf s ≡ n) × (roundsOf s ≡ length rs) × (openingsOf s ≡ openings) × (wordsOf s ≡ joined rs)
-      back = read-back n (length rs) openings (joined rs) (joined-accepted n rs each openings (start .some) (start .most) few (start .crushers))
+      back : RecordingBack n openings ws
+      back = recording-back n openings start ws

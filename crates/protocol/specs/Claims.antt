@@ -1,5 +1,5 @@
 -- What demand 3 says (document 01, 'Whole lists of steps'), for any protocol. Who runs, sends, hears, misses, stops and decides is `trucksIn` and `radiosIn`:
--- it follows from n, the openings and the words of the rounds.
+-- it follows from n, the openings and the words of the rounds. Besides, what a grade says, and what the counts of messages are.
 use mathlib.Core.Path.{_≡_}
 use mathlib.Core.Bool.{Bool, true, false, cond, not, _&&_}
 use mathlib.Core.List.{List}
@@ -8,7 +8,7 @@ use lib.Dec.{eqb}
 use lib.ListN.{length, getD}
 use Rattle.basics.specs.Bits.{odd}
 use Rattle.radio.specs.Round.{activeBit}
-use Rattle.radio.specs.Radio.{Radio, majorityComplete, zeroComplete, calmFor, timesSent}
+use Rattle.radio.specs.Radio.{Radio, complete, majorityComplete, zeroComplete, accurate, calmFor, FirstToBreak, timesSent}
 use Rattle.refusals.specs.declared.Outcome.the-variants.{Accepted}
 use Rattle.refusals.specs.declared.Refusal.the-variants.{RoundsDone}
 use Rattle.refusals.specs.Outcomes.{refuse}
@@ -17,9 +17,11 @@ use Rattle.recording.specs.Packed.{trucksOf, roundsOf, openingsOf, roundAt}
 use Rattle.protocol.specs.declared.State.{State}
 use Rattle.protocol.specs.declared.State.the-variants.{Running, Stopped, Decided}
 use Rattle.protocol.specs.declared.Fleet.{Fleet}
+use Rattle.protocol.specs.declared.Grades.{Grades}
+use Rattle.protocol.specs.declared.Grading.the-variants.{Graded}
 use Rattle.protocol.specs.Rules.{truck, radioOf}
 use Rattle.protocol.specs.Runs.{radiosIn, radioAt}
-use Rattle.protocol.specs.Fleets.{Protocol, twoRound, sixRound, started, steppedIn, stepped, ranIn}
+use Rattle.protocol.specs.Fleets.{Protocol, twoRound, sixRound, started, steppedIn, stepped, ranIn, gradedIn}
 use Rattle.protocol.specs.Steps.{lastRecordIn, taken, roundIn, recordingOf}
 
 abbrev pub isDecided : State → Bool
@@ -114,6 +116,47 @@ ZeroMarks = MarksIn sixRound (λ k. zeroComplete)
 -- marks; with eleven calm rounds from S, in whose prepare rounds there are senders, each truck is decided or stopped by round S + 10; stepped or run the same
 abbrev pub SixDemand : Type 0
 SixDemand = DemandIn sixRound ZeroMarks
+
+-- the four classes of marks that a grading judges
+pub data Class : Type 0 where
+  Complete : Class
+  MajorityComplete : Class
+  ZeroComplete : Class
+  Accurate : Class
+
+-- what a class asks of a round
+abbrev pub asks : Class → Radio → Bool
+asks Complete = complete
+asks MajorityComplete = majorityComplete
+asks ZeroComplete = zeroComplete
+asks Accurate = accurate
+
+-- its grade
+abbrev pub gradeOf : Class → Grades → ℕ
+gradeOf Complete g = g .complete
+gradeOf MajorityComplete g = g .majority
+gradeOf ZeroComplete g = g .zero
+gradeOf Accurate g = g .accurate
+
+module _ (p : Protocol) (c : Class) where
+  -- marks are of the class in every round
+  abbrev pub MarksOf : Marks
+  MarksOf = MarksIn p (λ k. asks c)
+
+  -- what its grade says of a recording: 0 that marks are of the class in every round, any other number which round is the first that breaks it
+  pub record GradeSays (s : List ℕ) (grade : ℕ) : Type 0 where
+    pub never : grade ≡ 0 → MarksOf (trucksOf s) (openingsOf s) (roundAt s) (roundsOf s)
+    pub first : (grade ≡ 0 → ⊥) → FirstToBreak (asks c) (radiosIn (p .rules) (trucksOf s) (openingsOf s) (roundAt s)) (roundsOf s) grade
+
+  -- what a grading says of every recording that it is given of
+  abbrev pub GradesSay : Type 0
+  GradesSay = (s : List ℕ) (g : Grades) → gradedIn p s ≡ Graded g → GradeSays s (gradeOf c g)
+
+  -- a grade of 0 gives agreement, and decisions being openings, to the run of an accepted recording; and to a list of steps whose recording has it
+  pub record AgreesByGrade : Type 0 where
+    pub steps : (n : ℕ) (openings : List ℕ) (steps : List (List ℕ)) (g : Grades) → started n openings .outcome ≡ Accepted
+        → gradedIn p (recordingOf n openings steps) ≡ Graded g → gradeOf c g ≡ 0 → Agreed n openings (lastRecordIn p (started n openings .fleet) steps)
+    pub run : (s : List ℕ) (g : Grades) → gradedIn p s ≡ Graded g → gradeOf c g ≡ 0 → Agreed (trucksOf s) (openingsOf s) (ranIn p s .fleet)
 
 -- each truck below n has sent as many proposals as there are odd rounds in which it sends, and as many vetoes as there are even ones
 abbrev pub countsSent : Claim

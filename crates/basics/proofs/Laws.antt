@@ -111,6 +111,21 @@ module _ {ℓ} {A : Type ℓ} where
       ∙ drop-drop (m - k) k d
       ∙ ap (λ (i : ℕ). drop i d) (let e : k + (m - k) ≡ m = omega arith in e))
 
+  -- filled once more, less far, where the two agree past that
+  pub filled-part : (z : A) (f g : ℕ → A) (m k : ℕ) (d : List A) → m ≤ k → k ≤ length d → ((i : ℕ) → m ≤ i → i < k → f i ≡ g i)
+      → filled g m (filled f k d) ≡ filled g k d
+  filled-part z f g m k d h l same =
+      ext-getD z (filled g m (filled f k d)) (filled g k d)
+      (length-filled g m (filled f k d) (omega (arith, length-filled f k d l)) ∙ length-filled f k d l ∙ sym (length-filled g k d l))
+      (λ i o. at i (decLt i m) (decLt i k))
+    where
+      at : (i : ℕ) → Dec (i < m) → Dec (i < k) → getD (filled g m (filled f k d)) i z ≡ getD (filled g k d) i z
+      at i (yes a) b = getD-filled g m (filled f k d) i z a ∙ sym (getD-filled g k d i z (omega arith))
+      at i (no a) (yes b) =
+          getD-filled-past g m (filled f k d) i z (omega arith) ∙ getD-filled f k d i z b ∙ same i (omega arith) b ∙ sym (getD-filled g k d i z b)
+      at i (no a) (no b) =
+          getD-filled-past g m (filled f k d) i z (omega arith) ∙ getD-filled-past f k d i z (omega arith) ∙ sym (getD-filled-past g k d i z (omega arith))
+
   -- a list that is filled with what it holds
   pub filled-same : (z : A) (g : ℕ → A) (m : ℕ) (d : List A) → m ≤ length d → ((k : ℕ) → k < m → g k ≡ getD d k z) → filled g m d ≡ d
   filled-same z g m d h e = ext-getD z (filled g m d) d (length-filled g m d h) (λ k l. at k (decLt k m))

@@ -67,6 +67,11 @@ place-byte f q =
     let e : 3 + q - 3 ≡ q = omega arith in
     rw (le-ltb (3 + q) 3 (omega arith), e)
 
+-- it is by the truck in its place alone
+pub same-byte : (f g : Fleet) (q : ℕ) → 3 ≤ q → truck (f .trucks) ((q - 3) / 10) ≡ truck (g .trucks) ((q - 3) / 10) → recordByte f q ≡ recordByte g q
+unfolding recordByte
+same-byte f g q h e = rw (le-ltb q 3 h, e)
+
 -- byte j of place i
 pub byte-of-place : (f : Fleet) (i j : ℕ) → j < 10 → getD (truckBytes (truck (f .trucks) i)) j 0 ≡ recordByte f (sizeFor i + j)
 byte-of-place f i j h =

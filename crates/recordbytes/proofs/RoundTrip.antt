@@ -2,7 +2,7 @@
 use mathlib.Core.Path.{_≡_, refl, ap, ap₂, sym, _∙_}
 use mathlib.Core.Bool.{Bool, true, false, cond, _&&_, _||_}
 use mathlib.Core.List.{List, []}
-use Prim.Native.Nat.{ℕ, zero, suc, _+_, _*_, _/_, _%_, _≤_, _<_}
+use Prim.Native.Nat.{ℕ, zero, suc, _+_, _*_, _-_, _/_, _%_, _≤_, _<_}
 use native.Mathlib.Decide.{decLt}
 use native.Mathlib.Omega.{arith}
 use lib.Dec.{eqb, ltb}
@@ -10,7 +10,7 @@ use lib.ListN.{length, getD}
 use lib.Seq.{ext-getD}
 use borrow.Author.Tests.{le-ltb, ltb-false}
 use Rattle.basics.specs.Lists.{filled, someBelow}
-use Rattle.basics.proofs.Laws.{length-filled, getD-filled, getD-filled-past, filled-same, or-left, or-right, someBelow-none, none-someBelow}
+use Rattle.basics.proofs.Laws.{length-filled, getD-filled, getD-filled-past, filled-same, filled-part, or-left, or-right, someBelow-none, none-someBelow}
 use Rattle.refusals.specs.declared.Outcome.{Outcome}
 use Rattle.refusals.specs.declared.Outcome.the-variants.{Accepted}
 use Rattle.recording.proofs.Accepted.{trucks-in}
@@ -25,7 +25,7 @@ use Rattle.protocol.specs.Rules.{truck, opened}
 use Rattle.protocol.specs.Runs.{openedTrucks}
 use Rattle.protocol.proofs.Opened.{length-opened, truck-unopened}
 use Rattle.recordbytes.specs.Layout.{sizeFor, boolByte, heardByte, stateByte, roundOf, truckBytes, recordByte, packCheck, packFor, packedRecord, packedWhole, heardOfByte, stateOfByte, pairOf, placeByte, placeRound, truckAt, damagedAt, damaged, recordOf, noRecord, unpacked}
-use Rattle.recordbytes.proofs.Laws.{place-byte, byte-of-place, accepted-is, pack-0}
+use Rattle.recordbytes.proofs.Laws.{place-byte, same-byte, byte-of-place, accepted-is, pack-0}
 
 -- ---- numbers of two bytes
 
@@ -226,6 +226,16 @@ module _ (d : List ℕ) (i : ℕ) (t : Truck) (holds : (j : ℕ) → j < 10 → 
 pub record Tidy (n : ℕ) (ts : List Truck) : Type 0 where
   pub places : length ts ≡ 32
   pub rest : (i : ℕ) → n ≤ i → truck ts i ≡ opened 0
+
+-- brought up to date over another record of n trucks that stands whole in a buffer, such a record stands whole in it
+pub tidy-over : (n : ℕ) (f g : Fleet) (d : List ℕ) → n ≤ 32 → sizeFor 32 ≤ length d → Tidy n (f .trucks) → Tidy n (g .trucks)
+    → filled (recordByte g) (sizeFor n) (filled (recordByte f) (sizeFor 32) d) ≡ filled (recordByte g) (sizeFor 32) d
+tidy-over n f g d few room tf tg = filled-part 0 (recordByte f) (recordByte g) (sizeFor n) (sizeFor 32) d (omega arith) room (λ q l o. same q l)
+  where
+    same : (q : ℕ) → sizeFor n ≤ q → recordByte f q ≡ recordByte g q
+    same q l =
+        let i : n ≤ (q - 3) / 10 = omega arith in
+        same-byte f g q (omega arith) (tf .rest ((q - 3) / 10) i ∙ sym (tg .rest ((q - 3) / 10) i))
 
 tidy-read : (d : List ℕ) → getD d 0 0 ≤ 32 → Tidy (recordOf d .n) (recordOf d .trucks)
 unfolding recordOf

@@ -5,7 +5,6 @@ use mathlib.Core.List.{List, [], _∷_}
 use Prim.Native.Nat.{ℕ, suc, _+_, _≤_}
 use native.Mathlib.Omega.{arith}
 use lib.ListN.{length}
-use borrow.Author.Tests.{le-ltb}
 use Rattle.basics.specs.Lists.{filled}
 use Rattle.basics.proofs.Laws.{length-tab, length-filled, getD-filled-past}
 use Rattle.refusals.specs.Numbers.{outcomeNumber, accepted}
@@ -28,10 +27,10 @@ use Rattle.protocol.specs.Fleets.{Protocol, answer, blank as blankFleet, startC
 use Rattle.protocol.specs.Steps.{lastRecordIn}
 use Rattle.protocol.proofs.Opened.{length-opened, truck-unopened}
 use Rattle.protocol.proofs.Steps.{accepted-by, start-by}
-use Rattle.recordbytes.specs.Layout.{sizeFor, recordByte, packedRecord, packedWhole, unpacked}
-use Rattle.recordbytes.proofs.RoundTrip.{Tidy, record-tidy, whole-tidy, undamaged, taken-whole}
-use Rattle.ffi.specs.Calls.{recordAs, storeCall, startCall, stepCallIn, runCallIn, bytesAfterIn}
-use Rattle.ffi.proofs.Records.{record-number, step-trucks, room-for, start-range, step-range, run-range}
+use Rattle.recordbytes.specs.Layout.{sizeFor, recordByte, packedWhole, unpacked}
+use Rattle.recordbytes.proofs.RoundTrip.{Tidy, tidy-over, whole-tidy}
+use Rattle.ffi.specs.Calls.{RecordLeft, recordAs, storeCall, startCall, stepCallIn, runCallIn, bytesAfterIn}
+use Rattle.ffi.proofs.Records.{record-number, store-whole, step-trucks, room-for, start-range, step-range, run-range}
 
 -- a round keeps the places n and above
 tidy-after : (rules : Rules recorded) (n : ℕ) (active : ℕ → Bool) (k : ℕ) (w : List ℕ) (ts : List Truck) → n ≤ 32 → Tidy n ts → Tidy n (afterIn rules n active k w ts)
@@ -42,18 +41,24 @@ tidy-after rules n active k w ts most b =
       rest = λ i l. getD-filled-past _ n ts i (opened 0) l ∙ b .rest i l;
     }
 
--- the bytes hold the record
-record Holds (d : List ℕ) (f : Fleet) : Type 0 where
-  read : unpacked d ≡ record { outcome = Accepted; fleet = f }
+-- the bytes b hold the record: it stands whole in the buffer d, with the places n and above as a start makes them
+record Holds (d b : List ℕ) (f : Fleet) : Type 0 where
+  laid : b ≡ filled (recordByte f) (sizeFor 32) d
+  range : badTrucks (f .n) ≡ false
   clean : Tidy (f .n) (f .trucks)
+
+held-read : (d : List ℕ) → sizeFor 32 ≤ length d → (b : List ℕ) (f : Fleet) → Holds d b f → unpacked b ≡ record { outcome = Accepted; fleet = f }
+unfolding packedWhole
+held-read d room b f h =
+    let fits = room-for (f .n) d (h .range) room in
+    let e : b ≡ packedWhole f d = rw fits (h .laid) in
+    rw e (whole-tidy f d fits (h .clean))
 
 -- ---- a whole record in a buffer with room for it
 
-stored : (a : Answer) (d : List ℕ) → a .outcome ≡ Accepted → badTrucks (a .fleet .n) ≡ false → sizeFor 32 ≤ length d → Tidy (a .fleet .n) (a .fleet .trucks) → Holds (storeCall a d .bytes) (a .fleet)
-unfolding storeCall packedWhole
-stored a d h range room t =
-    let e : storeCall a d .bytes ≡ packedWhole (a .fleet) d = rw (h, le-ltb (length d) (sizeFor 32) room, room-for (a .fleet .n) d range room) in
-    record { read = rw e (whole-tidy (a .fleet) d (room-for (a .fleet .n) d range room) t); clean = t }
+stored : (a : Answer) (d : List ℕ) → a .outcome ≡ Accepted → badTrucks (a .fleet .n) ≡ false → sizeFor 32 ≤ length d → Tidy (a .fleet .n) (a .fleet .trucks)
+    → Holds d (storeCall a d .bytes) (a .fleet)
+stored a d h range room t = record { laid = ap (λ (x : RecordLeft). x .bytes) (store-whole a d h room); range = range; clean = t }
 
 start-tidy : (n : ℕ) (openings : List ℕ) → started n openings .outcome ≡ Accepted → Tidy (started n openings .fleet .n) (started n openings .fleet .trucks)
 unfolding started
@@ -82,50 +87,70 @@ step-kept p f w r h = go (stepCheckIn p f w) h
     go Accepted e = absurd (true≢false (ap accepted e))
     go (Refused q) e = refl
 
-module _ (p : Protocol) (d w : List ℕ) (f : Fleet) (holds : Holds d f) where
-  step-as : stepCallIn p d w ≡ recordAs (steppedIn p f w .outcome) (steppedIn p f w .fleet .n) (steppedIn p f w .fleet) d
-  unfolding stepCallIn
-  step-as = rw (holds .read)
+-- a step keeps n
+step-n : (p : Protocol) (f : Fleet) (w : List ℕ) → steppedIn p f w .fleet .n ≡ f .n
+unfolding steppedIn nextFleetIn
+step-n p f w = go (stepCheckIn p f w)
+  where
+    go : (o : Outcome) → answer o (nextFleetIn p f w) f .fleet .n ≡ f .n
+    go Accepted = refl
+    go (Refused r) = refl
 
-  step-number : stepCallIn p d w .number ≡ outcomeNumber (steppedIn p f w .outcome)
-  step-number = rw step-as (record-number (steppedIn p f w .outcome) (steppedIn p f w .fleet .n) (steppedIn p f w .fleet) d)
+module _ (p : Protocol) (d : List ℕ) (room : sizeFor 32 ≤ length d) where
+  module _ (b w : List ℕ) (f : Fleet) (holds : Holds d b f) where
+    step-as : stepCallIn p b w ≡ recordAs (steppedIn p f w .outcome) (steppedIn p f w .fleet .n) (steppedIn p f w .fleet) b
+    unfolding stepCallIn
+    step-as = rw (held-read d room b f holds)
 
-  step-holds : Holds (stepCallIn p d w .bytes) (steppedIn p f w .fleet)
-  unfolding packedRecord
-  step-holds = rw step-as (go (steppedIn p f w .outcome) refl)
-    where
-      g : Fleet
-      g = steppedIn p f w .fleet
+    step-number : stepCallIn p b w .number ≡ outcomeNumber (steppedIn p f w .outcome)
+    step-number = rw step-as (record-number (steppedIn p f w .outcome) (steppedIn p f w .fleet .n) (steppedIn p f w .fleet) b)
 
-      go : (o : Outcome) → steppedIn p f w .outcome ≡ o → Holds (recordAs o (g .n) g d .bytes) g
-      go Accepted e =
-          let room = room-for (g .n) d (step-range p f w e) (undamaged d (taken-whole d (ap (λ (a : Answer). a .outcome) (holds .read))) .whole) in
-          let s : filled (recordByte g) (sizeFor (g .n)) d ≡ packedRecord g d = rw room in
-          record { read = rw s (record-tidy g d room (step-tidy p f w (holds .clean))); clean = step-tidy p f w (holds .clean) }
-      go (Refused r) e = rw (step-kept p f w r e) holds
+    step-holds : Holds d (stepCallIn p b w .bytes) (steppedIn p f w .fleet)
+    step-holds = rw step-as (go (steppedIn p f w .outcome) refl)
+      where
+        g : Fleet
+        g = steppedIn p f w .fleet
 
-steps-hold : (p : Protocol) (ws : List (List ℕ)) (d : List ℕ) (f : Fleet) → Holds d f → Holds (bytesAfterIn p d ws) (lastRecordIn p f ws)
-unfolding bytesAfterIn lastRecordIn
-steps-hold p [] d f h = h
-steps-hold p (w ∷ ws) d f h = steps-hold p ws (stepCallIn p d w .bytes) (steppedIn p f w .fleet) (step-holds p d w f h)
+        before : Tidy (g .n) (f .trucks)
+        before = rw (step-n p f w) (holds .clean)
+
+        go : (o : Outcome) → steppedIn p f w .outcome ≡ o → Holds d (recordAs o (g .n) g b .bytes) g
+        go Accepted e =
+            let range = step-range p f w e in
+            let clean = step-tidy p f w (holds .clean) in
+            record {
+              laid = rw (holds .laid) (tidy-over (g .n) f g d (trucks-in (g .n) range .1) room before clean);
+              range = range;
+              clean = clean;
+            }
+        go (Refused r) e = rw (step-kept p f w r e) holds
+
+  steps-hold : (ws : List (List ℕ)) (b : List ℕ) (f : Fleet) → Holds d b f → Holds d (bytesAfterIn p b ws) (lastRecordIn p f ws)
+  unfolding bytesAfterIn lastRecordIn
+  steps-hold [] b f h = h
+  steps-hold (w ∷ ws) b f h = steps-hold ws (stepCallIn p b w .bytes) (steppedIn p f w .fleet) (step-holds b w f h)
 
 -- ---- lists of steps and runs on bytes
 
 module _ (p : Protocol) (n : ℕ) (openings d : List ℕ) (accepted : started n openings .outcome ≡ Accepted) (room : sizeFor 32 ≤ length d) (ws : List (List ℕ)) where
-  held : Holds (bytesAfterIn p (startCall n openings d .bytes) ws) (lastRecordIn p (started n openings .fleet) ws)
+  held : Holds d (bytesAfterIn p (startCall n openings d .bytes) ws) (lastRecordIn p (started n openings .fleet) ws)
   unfolding startCall
   held =
-      steps-hold p ws (startCall n openings d .bytes) (started n openings .fleet)
+      steps-hold p d room ws (startCall n openings d .bytes) (started n openings .fleet)
       (stored (started n openings) d accepted (start-range n openings (started n openings) refl accepted) room (start-tidy n openings accepted))
 
   -- after a start and steps on bytes, refused ones included, the bytes are the record that the start and the steps return
   pub bytes-hold : unpacked (bytesAfterIn p (startCall n openings d .bytes) ws) ≡ record { outcome = Accepted; fleet = lastRecordIn p (started n openings .fleet) ws }
-  bytes-hold = held .read
+  bytes-hold = held-read d room (bytesAfterIn p (startCall n openings d .bytes) ws) (lastRecordIn p (started n openings .fleet) ws) held
+
+  -- all of them: 323, and past these what the buffer held
+  pub bytes-laid : bytesAfterIn p (startCall n openings d .bytes) ws ≡ filled (recordByte (lastRecordIn p (started n openings .fleet) ws)) (sizeFor 32) d
+  bytes-laid = held .laid
 
   -- and the next step answers the number that it answers of that record
   pub next-number : (w : List ℕ)
       → stepCallIn p (bytesAfterIn p (startCall n openings d .bytes) ws) w .number ≡ outcomeNumber (steppedIn p (lastRecordIn p (started n openings .fleet) ws) w .outcome)
-  next-number w = step-number p (bytesAfterIn p (startCall n openings d .bytes) ws) w (lastRecordIn p (started n openings .fleet) ws) held
+  next-number w = step-number p d room (bytesAfterIn p (startCall n openings d .bytes) ws) w (lastRecordIn p (started n openings .fleet) ws) held
 
 -- ---- runs
 
@@ -147,6 +172,8 @@ run-clean p s h =
     rw (o .1) (run-tidy (p .rules) s (bytes-good s (o .0) .frame .most))
 
 -- the bytes that an accepted run leaves are the record that it returns
-pub run-holds : (p : Protocol) (s d : List ℕ) → ranIn p s .outcome ≡ Accepted → sizeFor 32 ≤ length d → unpacked (runCallIn p s d .bytes) ≡ record { outcome = Accepted; fleet = ranIn p s .fleet }
+pub run-holds : (p : Protocol) (s d : List ℕ) → ranIn p s .outcome ≡ Accepted → sizeFor 32 ≤ length d
+    → unpacked (runCallIn p s d .bytes) ≡ record { outcome = Accepted; fleet = ranIn p s .fleet }
 unfolding runCallIn
-run-holds p s d h room = stored (ranIn p s) d h (run-range p s (ranIn p s) refl h) room (run-clean p s h) .read
+run-holds p s d h room =
+    held-read d room (runCallIn p s d .bytes) (ranIn p s .fleet) (stored (ranIn p s) d h (run-range p s (ranIn p s) refl h) room (run-clean p s h))

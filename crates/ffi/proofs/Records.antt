@@ -6,14 +6,16 @@ use Prim.Native.Nat.{ℕ, min, _+_, _≤_}
 use native.Mathlib.Omega.{arith}
 use lib.Dec.{eqb, ltb}
 use lib.ListN.{length}
-use borrow.Author.Tests.{le-ltb, not-false}
+use borrow.Author.Tests.{le-ltb, ltb-false, not-false}
+use Rattle.basics.specs.Lists.{filled}
 use Rattle.refusals.specs.Numbers.{numberOf, outcomeNumber}
 use Rattle.refusals.specs.declared.Refusal.{Refusal}
 use Rattle.refusals.specs.declared.Refusal.the-variants.{TruckCount, Record, ShortBuffer, RoundsDone}
 use Rattle.refusals.specs.declared.Outcome.{Outcome}
 use Rattle.refusals.specs.declared.Outcome.the-variants.{Accepted, Refused}
 use Rattle.refusals.specs.Outcomes.{refuse, andThen}
-use Rattle.refusals.proofs.Outcomes.{refuse-false}
+use Rattle.refusals.proofs.Outcomes.{refuse-false, then-first, then-second}
+use Rattle.refusals.proofs.Numbers.{outcome-0}
 use Rattle.recording.specs.Packed.{trucksOf, roundsOf, openingsOf, roundAt}
 use Rattle.recording.specs.Checks.{checkOf, badTrucks, roundCheck}
 use Rattle.recording.proofs.Accepted.{in-trucks, bytes-good}
@@ -23,7 +25,7 @@ use Rattle.protocol.specs.Runs.{openedTrucks}
 use Rattle.protocol.specs.Fleets.{Protocol, blank, startCheck, started, goodFleetIn, stepCheckIn, steppedIn, nextFleetIn, ranIn, fleetIn}
 use Rattle.protocol.proofs.Good.{record-parts}
 use Rattle.protocol.proofs.Steps.{accepted-by, start-by}
-use Rattle.recordbytes.specs.Layout.{sizeFor, packCheck, packFor, packedWhole, unpacked}
+use Rattle.recordbytes.specs.Layout.{sizeFor, recordByte, packCheck, packFor, packedWhole, unpacked}
 use Rattle.playback.specs.Bytes.{runCheckIn, runBytesIn}
 use Rattle.fleet.specs.Bytes.{bytesCheckIn, bytesStepIn}
 use Rattle.ffi.specs.Calls.{RecordLeft, recordLeft, recordAs, storeCall, runCallIn, startCall, stepCallIn}
@@ -66,6 +68,20 @@ module _ (a : Answer) (d : List ℕ) where
       → o ≡ packCheck (a .fleet .n) (length d) → l ≡ packedWhole (a .fleet) d → k ≡ outcomeNumber o → recordLeft k l ≡ storeCall a d
   unfolding storeCall packedWhole packCheck
   store-0 range h o l k p q e = packed-as (a .fleet) 32 d l (packCheck (a .fleet .n) (length d)) o k p q e ∙ rw (range h, h)
+
+  -- an accepted answer in a buffer with room, and the number 0 by which a caller knows of both
+  pub store-whole : a .outcome ≡ Accepted → sizeFor 32 ≤ length d → storeCall a d ≡ recordLeft 0 (filled (recordByte (a .fleet)) (sizeFor 32) d)
+  unfolding storeCall
+  store-whole h room = rw (h, le-ltb (length d) (sizeFor 32) room)
+
+  pub store-accepted : storeCall a d .number ≡ 0 → (a .outcome ≡ Accepted) × (sizeFor 32 ≤ length d)
+  unfolding storeCall
+  store-accepted z =
+      let fits = refuse (ltb (length d) (sizeFor 32)) ShortBuffer Accepted in
+      let o = outcome-0 (andThen (a .outcome) fits) (rw record-number at z) in (
+        then-first (a .outcome) fits o,
+        ltb-false (length d) (sizeFor 32) (refuse-false (ltb (length d) (sizeFor 32)) ShortBuffer Accepted (then-second (a .outcome) fits o)),
+      )
 
 -- ---- a start
 

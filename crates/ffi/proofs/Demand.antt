@@ -1,24 +1,36 @@
--- Demand 3 on bytes, from demand 3 of the records that they are.
+-- Demand 3 on bytes, from demand 3 of the records that they are; and agreement by a grade of 0.
 use mathlib.Core.Path.{_≡_, refl, ap, sym, subst, _∙_}
-use mathlib.Core.List.{List}
+use mathlib.Core.Bool.{Bool, true, false, cond}
+use mathlib.Core.List.{List, _∷_}
 use Prim.Native.Nat.{ℕ, _≤_}
-use lib.ListN.{length, getD}
+use native.Mathlib.Omega.{arith}
+use lib.Dec.{ltb}
+use lib.ListN.{length, getD, drop}
 use Rattle.basics.specs.Lists.{filled}
 use Rattle.basics.proofs.Laws.{getD-filled, filled-ext}
-use Rattle.refusals.specs.Numbers.{outcomeNumber}
+use Rattle.refusals.specs.Numbers.{numberOf, outcomeNumber}
+use Rattle.refusals.specs.declared.Refusal.the-variants.{ShortBuffer}
 use Rattle.refusals.specs.declared.Outcome.the-variants.{Accepted}
+use Rattle.refusals.proofs.Numbers.{number-range}
 use Rattle.recording.specs.Packed.{trucksOf, roundsOf, openingsOf, roundAt}
 use Rattle.protocol.specs.declared.Fleet.{Fleet}
 use Rattle.protocol.specs.declared.Answer.{Answer}
-use Rattle.protocol.specs.Fleets.{Protocol, twoRound, sixRound, started, ranIn}
+use Rattle.protocol.specs.declared.Grades.{Grades}
+use Rattle.protocol.specs.declared.Grading.{Grading}
+use Rattle.protocol.specs.declared.Grading.the-variants as grading
+use Rattle.protocol.specs.Fleets.{Protocol, twoRound, sixRound, started, ranIn, gradedIn, gradeAnswer}
 use Rattle.protocol.specs.Steps.{lastRecordIn, taken, roundIn, recordingOf}
-use Rattle.protocol.specs.Claims.{Marks, Claim, agreesWith, decidesIn, HoldsIn, SameIn, DemandIn, MajorityMarks, MixedMarks, ZeroMarks, countsSent}
+use Rattle.protocol.specs.Claims.{Agreed, Marks, Claim, agreesWith, decidesIn, HoldsIn, SameIn, DemandIn, MajorityMarks, MixedMarks, ZeroMarks, countsSent}
+use Rattle.protocol.specs.Claims.{Class, Complete, MajorityComplete, ZeroComplete, Accurate, gradeOf, AgreesByGrade}
 use Rattle.protocol.proofs.Demand3.{demand-3, mixed-agreement}
 use Rattle.protocol.proofs.SixDemand.{six-demand}
+use Rattle.protocol.proofs.Gradings.{two-grade, six-grade}
 use Rattle.protocol.proofs.Counts.{sent-counts}
 use Rattle.recordbytes.specs.Layout.{sizeFor, recordByte, unpacked}
-use Rattle.ffi.specs.Calls.{recordLeft, storeCall, startCall, runCallIn}
+use Rattle.ffi.specs.Calls.{GradeLeft, gradeLeft, gradeLeftAs, gradeCallIn, recordLeft, storeCall, startCall, runCallIn}
 use Rattle.ffi.specs.Claims.{RecordWith, bytesOf, HoldsOnBytes, SameOnBytes, DemandOnBytes, BytesDemand, SixBytesDemand, MixedBytesAgreement, BytesSentCounts}
+use Rattle.ffi.specs.Claims.{gradePlace, BytesAgreeByGrade}
+use Rattle.ffi.proofs.Answers.{grades-refused}
 use Rattle.ffi.proofs.Records.{store-whole, store-accepted}
 use Rattle.ffi.proofs.Lists.{bytes-hold, bytes-laid, next-number, run-holds}
 
@@ -99,3 +111,53 @@ mixed-bytes-agreement = holds-on-bytes twoRound (agreesWith MixedMarks) mixed-ag
 
 pub bytes-sent-counts : BytesSentCounts
 bytes-sent-counts = holds-on-bytes twoRound countsSent sent-counts
+
+-- ---- by a grade
+
+-- each grade stands in its place
+grade-placed : (c : Class) (g : Grades) (rest : List ℕ) → getD (g .complete ∷ g .majority ∷ g .zero ∷ g .accurate ∷ rest) (gradePlace c) 0 ≡ gradeOf c g
+grade-placed Complete g rest = refl
+grade-placed MajorityComplete g rest = refl
+grade-placed ZeroComplete g rest = refl
+grade-placed Accurate g rest = refl
+
+-- a grading that answers 0 was given
+grade-accepted : (p : Protocol) (c : Class) (s d : List ℕ) → gradeCallIn p s d .number ≡ 0
+    → (g : Grades) × (gradedIn p s ≡ grading.Graded g) × (getD (gradeCallIn p s d .grades) (gradePlace c) 0 ≡ gradeOf c g)
+unfolding gradeCallIn
+grade-accepted p c s d z = go (gradedIn p s) z
+  where
+    fits : (b : Bool) (g : Grades) → let values = g .complete ∷ g .majority ∷ g .zero ∷ g .accurate ∷ drop 4 d in
+        let left = cond b (gradeLeft (numberOf ShortBuffer) d) (gradeLeft 0 values) in
+        left .number ≡ 0 → getD (left .grades) (gradePlace c) 0 ≡ gradeOf c g
+    fits true g z = absurd (omega arith)
+    fits false g z = grade-placed c g (drop 4 d)
+
+    go : (x : Grading) → gradeLeftAs (gradeAnswer x) d .number ≡ 0
+        → (g : Grades) × (x ≡ grading.Graded g) × (getD (gradeLeftAs (gradeAnswer x) d .grades) (gradePlace c) 0 ≡ gradeOf c g)
+    go (grading.Graded g) z = (g, refl, fits (ltb (length d) 4) g z)
+    go (grading.Refused r) z =
+        let e : numberOf r ≡ 0 = ap (λ (x : GradeLeft). x .number) (grades-refused d (grading.Refused r) r (numberOf r) refl refl) ∙ z in
+        absurd (omega (arith, number-range r .0))
+
+pub grade-on-bytes : (p : Protocol) (c : Class) → AgreesByGrade p c → BytesAgreeByGrade p c
+grade-on-bytes p c agrees =
+    record {
+      steps = λ n openings d grades steps z h.
+          (let a = start-accepted n openings d z in
+          let g = grade-accepted p c (recordingOf n openings steps) grades (h .0) in
+          record-with (Agreed n openings) (bytesOf p n openings d steps) (lastRecordIn p (started n openings .fleet) steps)
+          (bytes-hold p n openings d (a .0) (a .1) steps) (agrees .steps n openings steps (g .0) (a .0) (g .1) (sym (g .2) ∙ h .1)));
+      run = λ s d grades z h.
+          (let a = run-accepted p s d z in
+          let g = grade-accepted p c s grades (h .0) in
+          record-with (Agreed (trucksOf s) (openingsOf s)) (runCallIn p s d .bytes) (ranIn p s .fleet) (run-holds p s d (a .0) (a .1))
+          (agrees .run s (g .0) (g .1) (sym (g .2) ∙ h .1)));
+    }
+
+-- in the two-round cycle where the grade of majority complete is 0, in the six-round cycle where that of zero complete is
+pub two-grade-bytes : BytesAgreeByGrade twoRound MajorityComplete
+two-grade-bytes = grade-on-bytes twoRound MajorityComplete two-grade
+
+pub six-grade-bytes : BytesAgreeByGrade sixRound ZeroComplete
+six-grade-bytes = grade-on-bytes sixRound ZeroComplete six-grade

@@ -15,9 +15,10 @@ use Rattle.recording.specs.Checks.{roundCheck}
 use Rattle.protocol.specs.declared.Fleet.{Fleet}
 use Rattle.protocol.specs.Fleets.{Protocol, twoRound, sixRound}
 use Rattle.protocol.specs.Steps.{taken, roundIn, recordingOf}
-use Rattle.protocol.specs.Claims.{Marks, Claim, agreesWith, decidesIn, MajorityMarks, MixedMarks, ZeroMarks, countsSent}
+use Rattle.protocol.specs.Claims.{Agreed, Marks, Claim, agreesWith, decidesIn, MajorityMarks, MixedMarks, ZeroMarks, countsSent}
+use Rattle.protocol.specs.Claims.{Class, Complete, MajorityComplete, ZeroComplete, Accurate}
 use Rattle.recordbytes.specs.Layout.{sizeFor, unpacked}
-use Rattle.ffi.specs.Calls.{recordLeft, startCall, stepCallIn, runCallIn, bytesAfterIn}
+use Rattle.ffi.specs.Calls.{gradeCallIn, recordLeft, startCall, stepCallIn, runCallIn, bytesAfterIn}
 
 -- the bytes are a record, of which this is claimed
 pub record RecordWith (claimed : Fleet → Type 0) (bytes : List ℕ) : Type 0 where
@@ -68,3 +69,22 @@ MixedBytesAgreement = HoldsOnBytes twoRound (agreesWith MixedMarks)
 
 abbrev pub BytesSentCounts : Type 0
 BytesSentCounts = HoldsOnBytes twoRound countsSent
+
+-- where the grade of a class stands among the four numbers of a grading
+abbrev pub gradePlace : Class → ℕ
+gradePlace Complete = 0
+gradePlace MajorityComplete = 1
+gradePlace ZeroComplete = 2
+gradePlace Accurate = 3
+
+module _ (p : Protocol) (c : Class) where
+  -- grading a recording into a buffer answers 0 and puts there a grade of 0 for the class
+  abbrev pub GradedZero : List ℕ → List ℕ → Type 0
+  GradedZero s grades = (gradeCallIn p s grades .number ≡ 0) × (getD (gradeCallIn p s grades .grades) (gradePlace c) 0 ≡ 0)
+
+  -- a grade of 0 gives agreement, and decisions being openings, to the bytes of a run; and to those of a list of steps whose recording has it
+  pub record BytesAgreeByGrade : Type 0 where
+    pub steps : (n : ℕ) (openings d grades : List ℕ) (steps : List (List ℕ)) → startCall n openings d .number ≡ 0
+        → GradedZero (recordingOf n openings steps) grades → RecordWith (Agreed n openings) (bytesOf p n openings d steps)
+    pub run : (s d grades : List ℕ) → runCallIn p s d .number ≡ 0
+        → GradedZero s grades → RecordWith (Agreed (trucksOf s) (openingsOf s)) (runCallIn p s d .bytes)

@@ -320,12 +320,6 @@ module _ (f : Fleet) (d : List ℕ) (room : packCheck (f .n) (length d) ≡ Acce
       rw room (same-back f d 32 (g .0) (g .2) (g .1) (omega arith))
 
   -- and where its places n and above are as a start makes them, every place of it
-  pub record-tidy : Tidy (f .n) (f .trucks) → unpacked (packedRecord f d) ≡ record { outcome = Accepted; fleet = f }
-  unfolding packedRecord
-  record-tidy t =
-      let g = accepted-is (f .n) (length d) room in
-      rw room (tidy-back f d (f .n) (g .0) (g .2) (omega arith) (g .1) t)
-
   pub whole-tidy : Tidy (f .n) (f .trucks) → unpacked (packedWhole f d) ≡ record { outcome = Accepted; fleet = f }
   unfolding packedWhole
   whole-tidy t =

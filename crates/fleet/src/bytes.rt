@@ -113,7 +113,7 @@ fn turn_places(
     while i < end {
         let t = recordbytes::truck_in(d, i);
         let event = event_by(phase, words, senders, values, t.estimate, i);
-        let next = truck::update_copy(t, round, event);
+        let next = truck::updated(t, round, event);
         recordbytes::put_in(d, i, next);
         i += 1;
     }

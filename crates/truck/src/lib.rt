@@ -247,14 +247,6 @@ pub fn update(t: &mut Truck, round: u16, event: Event)
     *t = updated(*t, round, event);
 }
 
-// A record that is nowhere yet: the function's own copy is lent to `update`.
-pub fn update_copy(mut t: Truck, round: u16, event: Event) -> Truck
-    ensures { λ r. ⌜ r ≡ turned round event t ⌝ }
-{
-    update(&mut t, round, event);
-    t
-}
-
 // The first n trucks of a fleet, each brought up to date where it stands in the fleet: events[i] is what the round is to truck i. There are 32 places, so a
 // larger n means all of them.
 pub fn update_first(mut f: Fleet, n: usize, round: u16, events: [Event; 32]) -> Fleet

@@ -44,8 +44,8 @@ loop-again c =
     let o = n .before .loop in (
       omega (arith, n .loop-test .taken),
       turn-more (a .phase) (a .words .now) (a .senders) (a .values .now) (a .round) (a .d .now) (s .pre .0) (o .d) (o .i) (omega (arith, below n)) (o .inv .1) (below n)
-          (c .before .before .before .before .before .before .truck-in .result) (c .before .before .before .before .update-copy .result) (c .before .before .before .before .before .event-by .result) (c .before .before .put-in .last .0)
-          (c .before .before .before .before .before .before .truck-in .ensures) (c .before .before .before .before .before .event-by .ensures) (c .before .before .before .before .update-copy .ensures) (c .before .before .put-in .ensures),
+          (c .before .before .before .before .before .before .truck-in .result) (c .before .before .before .before .updated .result) (c .before .before .before .before .before .event-by .result) (c .before .before .put-in .last .0)
+          (c .before .before .before .before .before .before .truck-in .ensures) (c .before .before .before .before .before .event-by .ensures) (c .before .before .before .before .updated .ensures) (c .before .before .put-in .ensures),
     )
 
 -- at most n places are passed

@@ -50,7 +50,7 @@ record-number Accepted m f d = refl
 record-number (Refused r) m f d = refl
 
 -- the number of an outcome, and the buffer with m places put by it
-packed-as : (f : Fleet) (m : ℕ) (d l : List ℕ) (c o : Outcome) (k : ℕ) → o ≡ c → l ≡ packFor c m f d → k ≡ outcomeNumber o → recordLeft k l ≡ recordAs c m f d
+pub packed-as : (f : Fleet) (m : ℕ) (d l : List ℕ) (c o : Outcome) (k : ℕ) → o ≡ c → l ≡ packFor c m f d → k ≡ outcomeNumber o → recordLeft k l ≡ recordAs c m f d
 packed-as f m d l c o k p q e = rw (e, p, q) (both c)
   where
     both : (o : Outcome) → recordLeft (outcomeNumber o) (packFor o m f d) ≡ recordAs o m f d

@@ -88,7 +88,7 @@ pub extern "C" fn rajvokshul_read(
 }
 
 // A count as a narrower number, the largest where it does not fit: every check refuses that one too, for the same reason.
-fn narrow_trucks(n: u32) -> u8
+pub fn narrow_trucks(n: u32) -> u8
     ensures { λ r. ⌜ r ≡ min n 255 ⌝ }
 {
     if n < 255 { n as u8 } else { 255 }

@@ -1,7 +1,8 @@
-# From outside the proofs: the archive for other languages and that of the bit reader for tests, the Rust tests (the independent reading of document 01, its comparison with the library, the bit reader bit by bit, the safe crate), and the examples.
+# From outside the proofs: the archive for other languages, those of the bit reader and of whole records for tests, the Rust tests (the independent reading of document 01, its comparison with the library and with steps of whole records, the bit reader bit by bit, the safe crate), and the examples.
 build() { rt staticlib "$1" > /dev/null 2>&1; }
 expect "rt staticlib ffi" build ffi
 expect "rt staticlib bitcalls" build bitcalls
+expect "rt staticlib recordcalls" build recordcalls
 log=$(mktemp)
 (cd rust && cargo test --offline --release) > "$log" 2>&1
 status=$?
@@ -65,5 +66,6 @@ clean_test() { # PROGRAM TEST
 expect "the comparison under valgrind" clean_test compare small_set
 expect "the comparison of the six-round cycle under valgrind" clean_test compare_six small_set
 expect "the bit reader under valgrind" clean_test boundaries blocks_of_their_own_length
+expect "steps of whole records under valgrind" clean_test in_place small_set
 rm -rf "$out"
 finished=yes

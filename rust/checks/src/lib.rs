@@ -4,6 +4,7 @@ use oracle::{Cycle, OwnBit};
 
 pub mod inputs;
 pub mod same;
+pub mod steps;
 
 mod raw {
     extern "C" {

@@ -3,7 +3,7 @@
 use oracle::bytes::{record_bytes, RECORD};
 use oracle::{Cycle, Fleet};
 
-use crate::own_loss_number;
+use crate::steps::EXPORTED;
 
 /// What a buffer holds before a call, so that a stray write shows.
 pub const FILL: u8 = 0xA5;
@@ -33,18 +33,7 @@ pub fn grade(cycle: Cycle, bytes: &[u8]) {
     }
 }
 
-/// One step of a record. The number answered and the record that it leaves.
+/// One step of a record by the exported call. The number answered and the record that it leaves.
 pub fn step(cycle: Cycle, f: &Fleet, words: &[u32]) -> (u32, Fleet) {
-    let mut d = record_bytes(f);
-    let number = crate::step_in(cycle, &mut d, words);
-    let (expected, next) = oracle::step_in(cycle, f, words);
-    let own_bit = oracle::step_own_bit_in(cycle, f, words);
-    assert_eq!(own_bit.is_some(), expected == 6);
-    if own_bit.is_some() {
-        let own_loss = crate::round_own_loss(u32::from(f.n), u32::from(f.done) + 1, words);
-        assert_eq!(own_loss, own_loss_number(own_bit));
-    }
-    assert_eq!(number, u32::from(expected));
-    assert_eq!(d, record_bytes(&next));
-    (number, next)
+    EXPORTED.same_step(cycle, f, words)
 }

@@ -1,10 +1,11 @@
 //! The library compared with the independent reading, on inputs from fixed seeds.
 
 use checks::same::{self, FILL};
+use checks::steps::EXPORTED;
 use checks::{own_loss_number, times};
-use oracle::bytes::{self, place_of, record_bytes, RECORD};
+use oracle::bytes::{place_of, record_bytes, RECORD};
 use oracle::gen::{self, Limits, Rng, FULL, SMALL, TINY};
-use oracle::{fleet, lists, marks, Cycle, Header, State};
+use oracle::{lists, marks, Cycle, Header, State};
 
 /// Mostly tiny recordings, some small ones, now and then one of any size.
 fn mixed(k: usize) -> Limits {
@@ -254,76 +255,23 @@ fn step_both(f: &oracle::Fleet, words: &[u32]) -> oracle::Fleet {
 
 #[test]
 fn lists_of_steps() {
-    let mut rng = Rng::new(7);
-    let mut full = 0;
-    for k in 0..times(20_000) {
-        let list = match k {
-            k if k % 2000 == 0 => gen::long_list(&mut rng, 5),
-            k if k % 20 == 0 => gen::list(&mut rng, SMALL),
-            _ => gen::list(&mut rng, TINY),
-        };
-        let (number, mut fleet) = oracle::start(list.n, &list.openings);
-        let mut d = [FILL; RECORD];
-        assert_eq!(checks::start(list.n as u32, &list.openings, &mut d), u32::from(number));
-        if number != 0 {
-            assert_eq!(d, [FILL; RECORD]);
-            continue;
-        }
-        assert_eq!(d, record_bytes(&fleet));
-        for words in &list.steps {
-            fleet = step_both(&fleet, words);
-        }
-        full += usize::from(fleet.done == 400);
+    EXPORTED.lists_of_steps(Cycle::TwoRound, 7, 20_000, |list, fleet| {
         // stepped or run, the same record
-        let plain = lists::recording_of(&list);
-        let bytes = gen::bytes_of(&plain);
+        let bytes = gen::bytes_of(&lists::recording_of(list));
+        let mut d = [FILL; RECORD];
         assert_eq!(checks::run(&bytes, &mut d), 0);
-        assert_eq!(d, record_bytes(&fleet));
-    }
-    assert!(full > 0);
+        assert_eq!(d, record_bytes(fleet));
+    });
 }
 
 #[test]
 fn starts() {
-    let mut rng = Rng::new(8);
-    for k in 0..times(9_000) {
-        let s = gen::starting(&mut rng, [0, 2, 7][k % 3]);
-        let mut d = [FILL; RECORD];
-        let n = u32::try_from(s.n).unwrap_or(u32::MAX);
-        let number = checks::start(n, &s.openings, &mut d);
-        assert_eq!(number, u32::from(s.refusal));
-        let expected = oracle::start(s.n, &s.openings);
-        if number == 0 {
-            assert_eq!(d, record_bytes(&expected.1));
-        } else {
-            assert_eq!(d, [FILL; RECORD]);
-        }
-        let mut short = [FILL; RECORD - 1];
-        let refused = checks::start(n, &s.openings, &mut short);
-        assert_eq!(refused, if number == 0 { 9 } else { number });
-        assert_eq!(short, [FILL; RECORD - 1]);
-    }
+    EXPORTED.starts(8, 9_000);
 }
 
 #[test]
 fn records_handed_in() {
-    let mut rng = Rng::new(9);
-    for _ in 0..times(200) {
-        for broken in gen::broken_records(&mut rng) {
-            let f = broken.fleet;
-            let n = usize::from(f.n.clamp(1, 32));
-            let words = a_round(&mut rng, n, usize::from(f.done) + 1);
-            assert_eq!(fleet::record_refused(&f), broken.refused, "{}", broken.condition);
-            step_both(&f, &words);
-        }
-    }
-    for _ in 0..times(20_000) {
-        let f = gen::record(&mut rng);
-        let words = a_round(&mut rng, usize::from(f.n), usize::from(f.done) + 1);
-        step_both(&f, &words);
-        let (bad, _) = gen::bad_round(&mut rng, usize::from(f.n));
-        step_both(&f, &bad);
-    }
+    EXPORTED.records_handed_in(Cycle::TwoRound, 9, 200, 20_000);
 }
 
 /// The counts of what the library runs are the rounds in which the rules made a truck send, and its listing's totals are their sums.
@@ -373,25 +321,7 @@ fn counts_at_their_limits() {
 
 #[test]
 fn damaged_record_bytes() {
-    let mut rng = Rng::new(10);
-    for _ in 0..times(20_000) {
-        let damaged = gen::damaged_record(&mut rng);
-        let f = damaged.fleet;
-        let n = usize::from(f.n);
-        let words = a_round(&mut rng, n, usize::from(f.done) + 1);
-        let mut d = damaged.bytes;
-        let number = checks::step(&mut d, &words);
-        let mut expected = damaged.bytes;
-        assert_eq!(number, u32::from(bytes::step(&mut expected, &words, oracle::step)));
-        assert_eq!(number, if damaged.refused { 7 } else { 0 }, "{}", damaged.how);
-        assert_eq!(d, expected);
-        assert_eq!(d[place_of(n)..], damaged.bytes[place_of(n)..]);
-    }
-    for length in 0..RECORD {
-        let mut d = vec![1; length];
-        assert_eq!(checks::step(&mut d, &[0; 4]), 7);
-        assert_eq!(d, vec![1; length]);
-    }
+    EXPORTED.damaged_record_bytes(Cycle::TwoRound, 10, 20_000);
 }
 
 /// The crushers of a record's decided trucks.

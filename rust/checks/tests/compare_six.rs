@@ -1,13 +1,13 @@
 //! The calls of the six-round cycle compared with the independent reading, records that change the cycle included, and the claims of that cycle held against the library.
 
-use std::collections::{BTreeMap, BTreeSet};
+use std::collections::BTreeMap;
 
 use checks::same::{self, FILL};
+use checks::steps::{a_round, EXPORTED};
 use checks::times;
-use oracle::bytes::{self, place_of, record_bytes, record_of, RECORD};
-use oracle::fleet::record_refused_in;
+use oracle::bytes::{place_of, record_bytes, RECORD};
 use oracle::gen::{self, Limits, Rng, FULL, SMALL, TINY_SIX};
-use oracle::{lists, marks, Cycle, Fleet, Header, Plain, State, Truck};
+use oracle::{lists, marks, Cycle, Header, Plain, State, Truck};
 use Cycle::{SixRound, TwoRound};
 
 /// Mostly tiny recordings, some small ones, now and then one of any size.
@@ -23,12 +23,6 @@ fn mixed(k: usize) -> Limits {
 fn whole(bytes: &[u8]) -> u32 {
     same::grade(SixRound, bytes);
     same::run(SixRound, bytes)
-}
-
-fn a_round(rng: &mut Rng, fleet: &Fleet) -> Vec<u32> {
-    let habits = gen::habits(rng);
-    let n = usize::from(fleet.n.clamp(1, 32));
-    gen::round_in(SixRound, rng, n, usize::from(fleet.done) + 1, &habits)
 }
 
 // Runs and gradings
@@ -115,109 +109,26 @@ fn short_buffers() {
 
 // Steps
 
-/// Starts a list on both sides.
-fn started(list: &lists::List) -> Fleet {
-    let (number, fleet) = oracle::start(list.n, &list.openings);
-    let mut d = [FILL; RECORD];
-    assert_eq!((number, checks::start(list.n as u32, &list.openings, &mut d)), (0, 0));
-    assert_eq!(d, record_bytes(&fleet));
-    fleet
-}
-
 #[test]
 fn lists_of_steps() {
-    let mut rng = Rng::new(107);
-    let mut full = 0;
-    for k in 0..times(7_000) {
-        let list = match k {
-            k if k % 1000 == 0 => gen::long_list_in(SixRound, &mut rng, 5),
-            k if k % 20 == 0 => gen::list_in(SixRound, &mut rng, SMALL),
-            _ => gen::list_in(SixRound, &mut rng, TINY_SIX),
-        };
-        let mut fleet = started(&list);
-        for words in &list.steps {
-            fleet = same::step(SixRound, &fleet, words).1;
-        }
-        full += usize::from(fleet.done == 400);
+    EXPORTED.lists_of_steps(SixRound, 107, 7_000, |list, fleet| {
         // stepped or run, the same record
-        let bytes = gen::bytes_of(&lists::recording_of(&list));
+        let bytes = gen::bytes_of(&lists::recording_of(list));
         let mut d = [FILL; RECORD];
         assert_eq!(checks::run_in(SixRound, &bytes, &mut d), 0);
-        assert_eq!(d, record_bytes(&fleet));
-    }
-    assert!(full > 0);
+        assert_eq!(d, record_bytes(fleet));
+    });
 }
 
-/// Each step in a cycle of its own, seldom or often another than before. Both cycles take such records and refuse them.
 #[test]
 fn lists_that_change_the_cycle() {
-    let mut rng = Rng::new(108);
-    let mut met = BTreeMap::new();
-    for k in 0..times(7_000) {
-        let list = match k {
-            k if k % 1000 == 0 => gen::long_list_in(SixRound, &mut rng, 5),
-            k if k % 20 == 0 => gen::list_in(SixRound, &mut rng, SMALL),
-            _ => gen::list_in(SixRound, &mut rng, TINY_SIX),
-        };
-        let mut fleet = started(&list);
-        let change = rng.pick(&[8, 64, 256]);
-        let mut cycle = rng.pick(&Cycle::BOTH);
-        for words in &list.steps {
-            if rng.chance(change) {
-                cycle = rng.pick(&Cycle::BOTH);
-            }
-            let number;
-            (number, fleet) = same::step(cycle, &fleet, words);
-            *met.entry((cycle, number)).or_insert(0) += 1;
-        }
-    }
-    for cycle in Cycle::BOTH {
-        for number in [0, 6, 7, 8] {
-            assert!(met[&(cycle, number)] > 500, "{met:?}");
-        }
-    }
+    EXPORTED.lists_that_change_the_cycle(108, 7_000);
 }
 
-/// Records by refusal 7 of each cycle, accepted and broken, each handed to both.
 #[test]
 fn records_handed_in() {
-    let mut rng = Rng::new(109);
-    let mut met = BTreeMap::new();
-    let mut conditions = BTreeSet::new();
-    for _ in 0..times(70) {
-        for cycle in Cycle::BOTH {
-            for broken in gen::broken_records_in(cycle, &mut rng) {
-                let f = broken.fleet;
-                assert_eq!(record_refused_in(cycle, &f), broken.refused, "{}", broken.condition);
-                conditions.insert((cycle, broken.condition));
-                for step in Cycle::BOTH {
-                    let words = a_round(&mut rng, &f);
-                    let (number, _) = same::step(step, &f, &words);
-                    *met.entry((cycle, step, number)).or_insert(0) += 1;
-                }
-            }
-        }
-    }
-    assert_eq!(conditions.iter().filter(|(cycle, _)| *cycle == SixRound).count(), 19);
-    for _ in 0..times(7_000) {
-        for cycle in Cycle::BOTH {
-            let f = gen::record_in(cycle, &mut rng);
-            for step in Cycle::BOTH {
-                let words = a_round(&mut rng, &f);
-                let (number, _) = same::step(step, &f, &words);
-                *met.entry((cycle, step, number)).or_insert(0) += 1;
-            }
-            let (bad, _) = gen::bad_round(&mut rng, usize::from(f.n));
-            same::step(SixRound, &f, &bad);
-        }
-    }
-    for cycle in Cycle::BOTH {
-        for step in Cycle::BOTH {
-            for number in [0, 7, 14] {
-                assert!(met[&(cycle, step, number)] > 50, "{met:?}");
-            }
-        }
-    }
+    let conditions = EXPORTED.records_handed_in(SixRound, 109, 70, 7_000);
+    assert_eq!(conditions.len(), 19);
 }
 
 /// Every number of rounds done with a truck in each state, willing and not, whose memory and counts are anything.
@@ -235,7 +146,7 @@ fn willingness_at_its_limits() {
                 let estimate = rng.below(16) as u8;
                 let other = gen::any_truck(&mut rng);
                 f.trucks[1] = Truck { opening: 5, estimate, state, unwilling, ..other };
-                let words = a_round(&mut rng, &f);
+                let words = a_round(SixRound, &mut rng, &f);
                 same::step(SixRound, &f, &words);
                 same::step(TwoRound, &f, &words);
                 // the same in a place that is not read
@@ -248,58 +159,12 @@ fn willingness_at_its_limits() {
 
 #[test]
 fn damaged_record_bytes() {
-    let mut rng = Rng::new(111);
-    for _ in 0..times(7_000) {
-        let damaged = gen::damaged_record_in(SixRound, &mut rng);
-        let f = damaged.fleet;
-        let n = usize::from(f.n);
-        let words = a_round(&mut rng, &f);
-        let mut d = damaged.bytes;
-        let number = checks::step_in(SixRound, &mut d, &words);
-        let mut expected = damaged.bytes;
-        let step = |f: &Fleet, w: &[u32]| oracle::step_in(SixRound, f, w);
-        assert_eq!(number, u32::from(bytes::step(&mut expected, &words, step)));
-        assert_eq!(number, if damaged.refused { 7 } else { 0 }, "{}", damaged.how);
-        assert_eq!(d, expected);
-        assert_eq!(d[place_of(n)..], damaged.bytes[place_of(n)..]);
-    }
-    for length in 0..RECORD {
-        let mut d = vec![1; length];
-        assert_eq!(checks::step_in(SixRound, &mut d, &[0; 4]), 7);
-        assert_eq!(d, vec![1; length]);
-    }
+    EXPORTED.damaged_record_bytes(SixRound, 111, 7_000);
 }
 
-/// Bytes of an accepted record of either cycle, some of them changed at random; by either cycle's step.
 #[test]
 fn changed_record_bytes() {
-    let mut rng = Rng::new(112);
-    let mut met = BTreeMap::new();
-    for _ in 0..times(14_000) {
-        let [made, cycle] = [rng.pick(&Cycle::BOTH), rng.pick(&Cycle::BOTH)];
-        let f = gen::record_in(made, &mut rng);
-        let words = a_round(&mut rng, &f);
-        let mut d = record_bytes(&f);
-        for _ in 0..rng.within(1, 3) {
-            let near = rng.below(place_of(usize::from(f.n)));
-            let value = rng.next_u64() as u8;
-            d[near] = rng.pick(&[0, 1, 2, 3, 6, 12, value]);
-        }
-        let before = d;
-        let mut expected = d;
-        let number = checks::step_in(cycle, &mut d, &words);
-        let step = |f: &Fleet, w: &[u32]| oracle::step_in(cycle, f, w);
-        assert_eq!(number, u32::from(bytes::step(&mut expected, &words, step)));
-        assert_eq!(d, expected);
-        assert!(number == 0 || d == before);
-        *met.entry((cycle, number, record_of(&before).is_some())).or_insert(0) += 1;
-    }
-    for cycle in Cycle::BOTH {
-        for whole in [false, true] {
-            assert!(met[&(cycle, 7, whole)] > 500, "{met:?}");
-        }
-        assert!(met[&(cycle, 0, true)] > 500, "{met:?}");
-    }
+    EXPORTED.changed_record_bytes(112, 14_000);
 }
 
 // The claims
@@ -424,7 +289,7 @@ fn small_set() {
         whole(&gen::bytes_of(&gen::plain_in(SixRound, &mut rng, limits)));
         whole(&gen::damaged(&mut rng, TINY_SIX, 1 + (k % 6) as u8).bytes);
         let f = gen::record_in(SixRound, &mut rng);
-        let words = a_round(&mut rng, &f);
+        let words = a_round(SixRound, &mut rng, &f);
         same::step(SixRound, &f, &words);
         same::step(TwoRound, &f, &words);
     }

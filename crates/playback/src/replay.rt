@@ -100,9 +100,9 @@ fn propose(s: &[u8], at: usize, n: usize, left: u16, running: u32, by: &mut [u32
     requires { ⌜ (n ≤ 32) × ((at < 2 ^ 31) × (length (now by) ≡ 16)) ⌝ }
     ensures { λ r. ⌜ Proposes (now (s .entry)) at n left running (now (by .entry)) (now (by .exit)) r ⌝ }
 {
-    let stop = bitreader::bits_at(s, at, 32);
-    let active = bitreader::bits_at(s, at + n, 32);
-    let mark = bitreader::bits_at(s, at + 2 * n, 32);
+    let stop = bitreader::read_at(s, at, 32);
+    let active = bitreader::read_at(s, at + n, 32);
+    let mark = bitreader::read_at(s, at + 2 * n, 32);
     let going = sets::without(running, stop);
     let senders = going & active;
     let wanted = listeners(senders, sets::without(going, unread(left, mark)));
@@ -122,8 +122,8 @@ fn veto(s: &[u8], at: usize, n: usize, running: u32, marked: u32, one: u32, seve
     requires { ⌜ (n ≤ 32) × (at < 2 ^ 31) ⌝ }
     ensures { λ r. ⌜ Vetoes (now (s .entry)) at n running marked one several r ⌝ }
 {
-    let stop = bitreader::bits_at(s, at, 32);
-    let mark = bitreader::bits_at(s, at + 2 * n, 32);
+    let stop = bitreader::read_at(s, at, 32);
+    let mark = bitreader::read_at(s, at + 2 * n, 32);
     let going = sets::without(running, stop);
     let senders = going & (marked | several);
     let may = sets::without(going & one, mark | marked);

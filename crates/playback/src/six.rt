@@ -45,9 +45,9 @@ fn prepare(s: &[u8], at: usize, n: usize, running: u32, by: &mut [u32; 16]) -> P
     requires { ⌜ (n ≤ 32) × ((at < 2 ^ 31) × (length (now by) ≡ 16)) ⌝ }
     ensures { λ r. ⌜ Prepares (now (s .entry)) at n running (now (by .entry)) (now (by .exit)) r ⌝ }
 {
-    let stop = bitreader::bits_at(s, at, 32);
-    let active = bitreader::bits_at(s, at + n, 32);
-    let mark = bitreader::bits_at(s, at + 2 * n, 32);
+    let stop = bitreader::read_at(s, at, 32);
+    let active = bitreader::read_at(s, at + n, 32);
+    let mark = bitreader::read_at(s, at + 2 * n, 32);
     let going = sets::without(running, stop);
     let senders = going & active;
     let wanted = listeners(senders, sets::without(going, mark));
@@ -76,8 +76,8 @@ fn bit_round(
     requires { ⌜ (n ≤ 32) × ((at < 2 ^ 31) × (b < 4)) ⌝ }
     ensures { λ r. ⌜ Listens (now (s .entry)) at n b running unwilling (now (by .entry)) r ⌝ }
 {
-    let stop = bitreader::bits_at(s, at, 32);
-    let mark = bitreader::bits_at(s, at + 2 * n, 32);
+    let stop = bitreader::read_at(s, at, 32);
+    let mark = bitreader::read_at(s, at + 2 * n, 32);
     let going = sets::without(running, stop);
     let senders = going & with_bit(by, b);
     let quiet = sets::without(going, senders);
@@ -98,8 +98,8 @@ fn accept(s: &[u8], at: usize, n: usize, running: u32, unwilling: u32) -> Played
     requires { ⌜ (n ≤ 32) × (at < 2 ^ 31) ⌝ }
     ensures { λ r. ⌜ Accepts (now (s .entry)) at n running unwilling r ⌝ }
 {
-    let stop = bitreader::bits_at(s, at, 32);
-    let mark = bitreader::bits_at(s, at + 2 * n, 32);
+    let stop = bitreader::read_at(s, at, 32);
+    let mark = bitreader::read_at(s, at + 2 * n, 32);
     let going = sets::without(running, stop);
     let senders = going & unwilling;
     let may = sets::without(going, mark | unwilling);

@@ -7,8 +7,8 @@ use Rattle.playback.proofs.replay.veto.Tie as tie
 returns : tie.Need-returns
 returns c =
     let a = c .before .before .before .before .before .before .args in
-    let stop = c .before .before .before .before .bits-at in
-    let mark = c .before .before .before .bits-at2 in
+    let stop = c .before .before .before .before .read-at in
+    let mark = c .before .before .before .read-at2 in
     let going = c .before .before .without in
     let may = c .before .without2 in
     vetoes-by (a .s .now) (a .at) (a .n) (a .running) (a .marked) (a .one) (a .several) (stop .result) (mark .result) (going .result) (may .result) (c .deciding .result)

@@ -1,9 +1,11 @@
 -- What a round's function returns, as its contract says it.
-use mathlib.Core.Path.{_≡_, ap, ap₂, subst₂, _∙_}
-use mathlib.Core.Bool.{cond, not, _&&_}
+use mathlib.Core.Path.{_≡_, refl, ap, ap₂, subst₂, _∙_}
+use mathlib.Core.Bool.{Bool, true, false, cond, not, _&&_, _||_, and-false}
 use mathlib.Core.List.{List}
-use Prim.Native.Nat.{ℕ, _+_, _*_, _<_}
-use lib.Bits.{bitAnd, bitOr, bitXor}
+use Prim.Native.Nat.{ℕ, _+_, _*_, _<_, _^_}
+use borrow.Author.Tests.{eqb-true}
+use native.Mathlib.Omega.{arith}
+use lib.Bits.{bitAnd, bitOr, bitXor, and-zero-l, and-le-l, xor-lt}
 use lib.Dec.{eqb}
 use Rattle.basics.specs.Bits.{bit}
 use Rattle.basics.specs.Lists.{filled}
@@ -11,6 +13,8 @@ use Rattle.protocol.specs.Rules.{isOne, isSeveral}
 use Rattle.playback.specs.declared.listening.Hearing.{Hearing}
 use Rattle.playback.specs.declared.listening.Taking.{Taking}
 use Rattle.sets.specs.Sets.{Members, without}
+use Rattle.sets.proofs.Words.{bit-zero}
+use Rattle.sets.proofs.Members.{members-none, members-rest}
 use Rattle.playback.specs.Sets.{Sorted}
 use Rattle.playback.specs.Listens.{rowFrom, heardFrom, someValue, settled}
 use Rattle.playback.specs.Standing.{wordFrom, goingOn, proposersOf, unreadOf, wantedOf, Proposes, mayOf, Vetoes, unmarkedOf, Prepares, withBit, quietOf, askedIn, Listens, willingOf, Accepts}
@@ -38,19 +42,44 @@ proposes-by s at n left running by by′ stop active mark going u fewer wanted c
       took = eb ∙ ap (λ (x : ℕ). filled (settled by (h .taking) x) 16 by) ec;
     }
 
-pub vetoes-by : (s : List ℕ) (at n running marked one several stop mark going may done : ℕ)
+-- who hears some of the senders need not be asked where nobody sends, or nobody is wanted
+pub none-asked : (s : List ℕ) (at n senders wanted : ℕ) {some : ℕ} → (eqb senders 0 || eqb wanted 0) ≡ true → some ≡ 0
+    → Members some 32 (λ p. bit wanted p && not (eqb (without senders (rowFrom s at n p)) 0))
+none-asked s at n senders wanted {some} e z = rw z (members-none 32 (λ p. bit wanted p && not (eqb (without senders (rowFrom s at n p)) 0)) (λ p l. go p (eqb senders 0) refl e))
+  where
+    go : (p : ℕ) (b : Bool) → eqb senders 0 ≡ b → (b || eqb wanted 0) ≡ true → (bit wanted p && not (eqb (without senders (rowFrom s at n p)) 0)) ≡ false
+    go p true q h =
+        ap (λ (x : ℕ). bit wanted p && not (eqb (without x (rowFrom s at n p)) 0)) (eqb-true senders 0 q)
+        ∙ ap (λ (x : ℕ). bit wanted p && not (eqb x 0)) (and-zero-l (rowFrom s at n p)) ∙ and-false (bit wanted p)
+    go p false q h =
+        ap (λ (x : ℕ). bit x p && not (eqb (without senders (rowFrom s at n p)) 0)) (eqb-true wanted 0 h)
+        ∙ ap (λ (x : Bool). x && not (eqb (without senders (rowFrom s at n p)) 0)) (bit-zero p)
+
+-- what a loop that was asked or not asked has come to
+pub as-asked : (s : List ℕ) (at n senders wanted : ℕ) {some asked : ℕ} → some ≡ asked → Members asked 32 (λ p. bit wanted p && not (eqb (without senders (rowFrom s at n p)) 0))
+    → Members some 32 (λ p. bit wanted p && not (eqb (without senders (rowFrom s at n p)) 0))
+as-asked s at n senders wanted e m = rw e m
+
+without-lt : (x y : ℕ) → x < 2 ^ 32 → without x y < 2 ^ 32
+without-lt x y l = xor-lt 32 x (bitAnd x y) l (omega (arith, and-le-l x y, l))
+
+pub vetoes-by : (s : List ℕ) (at n running marked one several stop mark going may some : ℕ) → running < 2 ^ 32
     → stop ≡ wordFrom s at → mark ≡ wordFrom s (at + 2 * n) → going ≡ without running stop → may ≡ without (bitAnd going one) (bitOr mark marked)
-    → Members done 32 (λ p. bit may p && eqb (without (bitAnd going (bitOr marked several)) (rowFrom s (at + 3 * n) n p)) 0)
-    → Vetoes s at n running marked one several (record { going = going; senders = bitAnd going (bitOr marked several); mark = mark; on = bitXor going done; done = done })
-vetoes-by s at n running marked one several stop mark going may done es em eg ey ed =
+    → Members some 32 (λ p. bit may p && not (eqb (without (bitAnd going (bitOr marked several)) (rowFrom s (at + 3 * n) n p)) 0))
+    → Vetoes s at n running marked one several
+    (record { going = going; senders = bitAnd going (bitOr marked several); mark = mark; on = bitXor going (bitXor may some); done = bitXor may some })
+vetoes-by s at n running marked one several stop mark going may some fits es em eg ey eh =
     let g : going ≡ goingOn s at running = eg ∙ ap (without running) es in
     let m : may ≡ mayOf s at n running marked one = ey ∙ ap₂ (λ (x y : ℕ). without (bitAnd x one) (bitOr y marked)) g em in
+    let l : going < 2 ^ 32 = rw eg (without-lt running stop fits) in
+    let few : may < 2 ^ 32 = rw ey (without-lt (bitAnd going one) (bitOr mark marked) (omega (arith, and-le-l going one, l))) in
     record {
       going = g;
       senders = ap (λ (x : ℕ). bitAnd x (bitOr marked several)) g;
       mark = em;
-      done = subst₂ (λ (x y : ℕ). Members done 32 (λ p. bit x p && eqb (without (bitAnd y (bitOr marked several)) (rowFrom s (at + 3 * n) n p)) 0)) m g ed;
-      on = ap (λ (x : ℕ). bitXor x done) g;
+      done = subst₂ (λ (x y : ℕ). Members (bitXor may some) 32 (λ p. bit x p && eqb (without (bitAnd y (bitOr marked several)) (rowFrom s (at + 3 * n) n p)) 0)) m g
+          (members-rest may 32 (λ p. eqb (without (bitAnd going (bitOr marked several)) (rowFrom s (at + 3 * n) n p)) 0) few eh);
+      on = ap (λ (x : ℕ). bitXor x (bitXor may some)) g;
     }
 
 -- rounds of the six-round cycle

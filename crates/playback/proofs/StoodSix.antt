@@ -12,12 +12,13 @@ use lib.ListN.{length, getD}
 use Rattle.basics.specs.Bits.{bit}
 use Rattle.basics.specs.Lists.{filled, someBelow}
 use Rattle.basics.proofs.Laws.{and-left, some-ext, someBelow-by, none-someBelow}
-use Rattle.basics.proofs.Bits.{bit-and, bit-or, bit-xor, oneOf}
+use Rattle.basics.proofs.Bits.{bit-and, bit-or}
 use Rattle.radio.specs.Round.{stopBit, activeBit, markBit}
 use Rattle.radio.specs.Radio.{Radio, heard}
 use Rattle.bitreader.specs.Bits.{mirrored}
 use Rattle.sets.specs.Sets.{Members, without}
 use Rattle.sets.proofs.Words.{bit-without, bit-zero}
+use Rattle.sets.proofs.Members.{members-ext, members-rest}
 use Rattle.protocol.specs.declared.Heard.{Heard}
 use Rattle.protocol.specs.declared.Heard.the-variants.{Nothing}
 use Rattle.protocol.specs.declared.Sent.{Sent}
@@ -338,21 +339,16 @@ module _ {n last k : ℕ} {opening : ℕ → ℕ} {ts : List Truck} {by ends sen
             going = refl;
             senders = ap (bitAnd (goingOn s at running)) (sym (or-zero-r unwilling));
             mark = refl;
-            done = record {
-              below = xor-lt 32 may (p .some) (xor-lt 32 (goingOn s at running) (bitAnd (goingOn s at running) (bitOr (wordFrom s (at + 2 * n)) unwilling)) (going-lt st sixRules few small s at w reads)
-                  (omega (arith, and-le-l (goingOn s at running) (bitOr (wordFrom s (at + 2 * n)) unwilling), going-lt st sixRules few small s at w reads))) (p .heard .below);
-              each = λ q l.
-                  bit-xor may (p .some) q ∙ ap (oneOf (bit may q)) (p .heard .each q l)
-                  ∙ both (bit may q) (eqb (without (bitAnd (goingOn s at running) unwilling) (rowFrom s (at + 3 * n) n q)) 0)
-                  ∙ ap₂ (λ (x : Bool) (y : ℕ). x && eqb (without (bitAnd (goingOn s at running) y) (rowFrom s (at + 3 * n) n q)) 0) (same q) (sym (or-zero-r unwilling));
-            };
+            done = members-ext
+                (members-rest may 32 (λ q. eqb (without (bitAnd (goingOn s at running) unwilling) (rowFrom s (at + 3 * n) n q)) 0) may-lt (p .heard))
+                (λ q. bit (mayOf s at n running unwilling running) q && eqb (without (bitAnd (goingOn s at running) (bitOr unwilling 0)) (rowFrom s (at + 3 * n) n q)) 0)
+                (λ q l. ap₂ (λ (x : Bool) (y : ℕ). x && eqb (without (bitAnd (goingOn s at running) y) (rowFrom s (at + 3 * n) n q)) 0) (same q) (sym (or-zero-r unwilling)));
             on = refl;
           }
         where
-          both : (x y : Bool) → oneOf x (x && not y) ≡ (x && y)
-          both true true = refl
-          both true false = refl
-          both false y = refl
+          may-lt : may < 2 ^ 32
+          may-lt = xor-lt 32 (goingOn s at running) (bitAnd (goingOn s at running) (bitOr (wordFrom s (at + 2 * n)) unwilling)) (going-lt st sixRules few small s at w reads)
+              (omega (arith, and-le-l (goingOn s at running) (bitOr (wordFrom s (at + 2 * n)) unwilling), going-lt st sixRules few small s at w reads))
 
           twice : (x y : Bool) → (x && not y) ≡ ((x && not y) && x)
           twice true true = refl

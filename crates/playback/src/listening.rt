@@ -13,26 +13,6 @@ ghost use Rattle.sets.specs.Sets.{Members, without};
 ghost use Rattle.playback.specs.Sets.{Sorted};
 ghost use Rattle.playback.specs.Listens.{rowFrom, heardFrom, someValue, settled};
 
-// Of those wanted, who hear none of the senders; none of those wanted sends itself.
-pub(crate) fn deciding(s: &[u8], at: usize, n: usize, senders: u32, wanted: u32) -> u32
-    requires { ⌜ (n ≤ 32) × (at < 2 ^ 32) ⌝ }
-    ensures { λ r. ⌜ Members r 32 (λ p. bit wanted p && eqb (without senders (rowFrom (now (s .entry)) at n p)) 0) ⌝ }
-{
-    let mut out = 0;
-    let mut left = wanted;
-    while left != 0 {
-        let p = sets::lowest(left);
-        let row = bitreader::read_at(s, at + (31 - p) * n, 32);
-        out = sets::union_where(
-            out,
-            sets::only_lowest(left),
-            sets::without(senders, row) == 0,
-        );
-        left = sets::rest(left);
-    }
-    out
-}
-
 // Who heard one value, who several, and who of them is to take each crusher.
 pub struct Hearing {
     pub one: u32,
@@ -120,8 +100,7 @@ pub(crate) fn least_heard(
     Taking { changed, taking }
 }
 
-// Of those wanted, who hear some of the senders; none of those wanted sends itself. Those that hear none would be the rest, but `deciding` has one caller, and
-// the compiler builds it into a veto round; with more callers a run of the two-round cycle takes a quarter longer.
+// Of those wanted, who hear some of the senders; none of those wanted sends itself. Those that hear none are the rest of them.
 pub(crate) fn hearing_some(s: &[u8], at: usize, n: usize, senders: u32, wanted: u32) -> u32
     requires { ⌜ (n ≤ 32) × (at < 2 ^ 32) ⌝ }
     ensures { λ r. ⌜ Members r 32 (λ p. bit wanted p && not (eqb (without senders (rowFrom (now (s .entry)) at n p)) 0)) ⌝ }

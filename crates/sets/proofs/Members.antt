@@ -16,7 +16,7 @@ use lib.Seq.{ext-getD, getD-set-same, getD-set-other}
 use Rattle.basics.specs.Bits.{bit}
 use Rattle.basics.specs.Lists.{filled}
 use Rattle.basics.proofs.Laws.{and-left, length-filled, getD-filled, getD-filled-past, filled-ext, filled-same}
-use Rattle.basics.proofs.Bits.{bit-and, bit-or}
+use Rattle.basics.proofs.Bits.{bit-and, bit-or, bit-xor, oneOf}
 use Rattle.sets.proofs.Words.{bit-without, bit-power, bit-high, bit-zero, bit-removed, removed-lt}
 use Rattle.sets.specs.Sets.{Members, restOf, lowestOnly}
 
@@ -73,6 +73,19 @@ module _ {set n : ℕ} {p : ℕ → Bool} (m : Members set n p) where
         below = xor-lt n set (bitAnd set b) (m .below) (omega (arith, and-le-l set b, m .below));
         each = λ j l. bit-without set b j ∙ ap (λ (x : Bool). x && not (bit b j)) (m .each j l);
       }
+
+-- of a set, those that have f are the rest of those that don't
+pub members-rest : (w n : ℕ) (f : ℕ → Bool) {others : ℕ} → w < 2 ^ n → Members others n (λ j. bit w j && not (f j)) → Members (bitXor w others) n (λ j. bit w j && f j)
+members-rest w n f {others} l m =
+    record {
+      below = xor-lt n w others l (m .below);
+      each = λ j lj. bit-xor w others j ∙ ap (oneOf (bit w j)) (m .each j lj) ∙ go (bit w j) (f j);
+    }
+  where
+    go : (x y : Bool) → oneOf x (x && not y) ≡ (x && y)
+    go true true = refl
+    go true false = refl
+    go false y = refl
 
 pub members-none : (n : ℕ) (p : ℕ → Bool) → ((j : ℕ) → j < n → p j ≡ false) → Members 0 n p
 members-none n p h = record { below = pow-pos n; each = λ j l. bit-zero j ∙ sym (h j l) }

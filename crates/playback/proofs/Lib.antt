@@ -3,6 +3,7 @@ pub mod ByCrusher
 pub mod Radios
 pub mod Sorting
 pub mod Reading
+pub mod Asking
 pub mod Places
 pub mod Pairs
 pub mod Stood

@@ -2,22 +2,20 @@
 use mathlib.Core.Path.{_≡_, refl, ap, sym, _∙_}
 use mathlib.Core.Bool.{Bool, true, false, cond, not}
 use mathlib.Core.Logic.{⊎-elim}
-use Prim.Native.Nat.{ℕ, _^_}
-use lib.Bits.{bitOr}
+use Prim.Native.Nat.{ℕ}
 use lib.Dec.{eqb}
 use native.Mathlib.Omega.{arith}
 use borrow.Author.Needs.{needs}
-use Rattle.basics.specs.Bits.{bit}
 use Rattle.basics.proofs.Laws.{first-none}
 use Rattle.protocol.specs.declared.Heard.the-variants.{One, Several}
 use Rattle.protocol.specs.Rules.{isOne, isSeveral}
-use Rattle.playback.specs.Sets.{wasHeard, valuesOf, heardSet}
+use Rattle.playback.specs.Sets.{wasHeard, valuesOf}
 use Rattle.playback.specs.declared.hearing.Values.{Values}
 use Rattle.playback.specs.Listens.{heardFrom}
-use Rattle.sets.proofs.Members.{taken-out, own-out, Picked, picked-none, picked-lowest, picked-all}
+use Rattle.sets.proofs.Members.{taken-out, own-out}
 use Rattle.playback.proofs.Sorting.{Sorting, sorting-starts, sent-from, least-heard, none-heard, sorting-done}
 use Rattle.playback.proofs.Reading.{row-place}
-use Rattle.playback.proofs.Radios.{heard-by-own}
+use Rattle.playback.proofs.Asking.{Asking, next-is, asking-starts, asking-more, asking-done, heard-at}
 use Rattle.playback.proofs.listening.hear.Statement.{statement}
 use Rattle.playback.proofs.listening.hear.Tie as tie
 
@@ -31,8 +29,8 @@ not-lone false = refl
 
 abbrev Inv-loop : tie.InvT-loop
 Inv-loop s at n senders wanted by one₀ several₀ taking₀ low left₀ one several taking left =
-    Picked 32 wanted (λ p. isOne (heardFrom s at n senders by p .heard)) left one
-    × (Picked 32 wanted (λ p. isSeveral (heardFrom s at n senders by p .heard)) left several
+    Asking wanted (λ p. isOne (heardFrom s at n senders by p .heard)) left one
+    × (Asking wanted (λ p. isSeveral (heardFrom s at n senders by p .heard)) left several
     × Sorting 32 wanted (λ p. heardFrom s at n senders by p .least) taking left)
 
 abbrev μ-loop : tie.MeasureT-loop
@@ -42,8 +40,8 @@ loop-holds : tie.Need-loop-holds Inv-loop μ-loop
 loop-holds c =
     let a = c .before .before .args in
     let h : ℕ → Values = heardFrom (a .s .now) (a .at) (a .n) (a .senders) (a .by .now) in (
-      picked-none 32 (a .wanted) (λ p. isOne (h p .heard)),
-      (picked-none 32 (a .wanted) (λ p. isSeveral (h p .heard)), sorting-starts 32 (a .wanted) (λ p. h p .least)),
+      asking-starts (a .wanted) (λ p. isOne (h p .heard)),
+      (asking-starts (a .wanted) (λ p. isSeveral (h p .heard)), sorting-starts 32 (a .wanted) (λ p. h p .least)),
     )
 
 first-heard-requires : tie.Need-first-heard-requires Inv-loop μ-loop
@@ -74,37 +72,26 @@ loop-again c =
     let a = c .before .before .before .before .before .before .before .before .before .before .before .args in
     let o = c .before .before .before .before .before .before .before .before .loop in
     let i = c .before .before .before .before .before .before .lowest in
-    let p = i .result in
-    let h : ℕ → Values = heardFrom (a .s .now) (a .at) (a .n) (a .senders) (a .by .now) in
-    let some = c .before .before .before .before .before .before .before .loop-test .taken in
-    let t = taken-out some (i .ensures) (c .rest .ensures) in
+    let own = c .before .before .before .before .before .only-lowest in
     let f = c .before .before .first-heard2 in
     let w = c .before .before .before .heard-by in
-    let own : c .before .before .before .before .before .only-lowest .result ≡ 2 ^ p = own-out some (i .ensures .0) (c .before .before .before .before .before .only-lowest .ensures) in
-    let is : h p ≡ valuesOf (a .by .now) (w .result) 16 =
-    sym (ap (λ (x : ℕ). valuesOf (a .by .now) x 16) (heard-by-own (a .senders) (c .before .before .before .before .read-at .result) p (c .before .before .before .before .before .only-lowest .result) (w .result) (w .ensures) own
-    ∙ ap (λ (x : ℕ). heardSet (a .senders) x p) (c .before .before .before .before .read-at .ensures))) in
-    let wants : bit (a .wanted) p ≡ true = o .inv .1 .1 .within p (t .held) in
-    let m = c .before .if1 in
-    let joins : (x : Bool) → isOne (h p .heard) ≡ x → (y : Bool) → isSeveral (h p .heard) ≡ y
-    → m .one ≡ cond x (bitOr (o .one) (c .before .before .before .before .before .only-lowest .result)) (o .one)
-    → m .several ≡ cond y (bitOr (o .several) (c .before .before .before .before .before .only-lowest .result)) (o .several)
-    → Picked 32 (a .wanted) (λ j. isOne (h j .heard)) (c .rest .result) (m .one) × Picked 32 (a .wanted) (λ j. isSeveral (h j .heard)) (c .rest .result) (m .several)
-    = λ x ex y ey e1 e2. (
-      picked-lowest (a .wanted) (λ j. isOne (h j .heard)) t own wants x (sym ex) e1 (o .inv .0),
-      picked-lowest (a .wanted) (λ j. isSeveral (h j .heard)) t own wants y (sym ey) e2 (o .inv .1 .0),
-    ) in
+    let h : ℕ → Values = heardFrom (a .s .now) (a .at) (a .n) (a .senders) (a .by .now) in
+    let next = next-is (c .before .before .before .before .before .before .before .loop-test .taken) (i .ensures) (own .ensures) (c .rest .ensures) in
+    let is : h (i .result) ≡ valuesOf (a .by .now) (w .result) 16 =
+    heard-at (a .s .now) (a .at) (a .n) (a .senders) (a .by .now) (i .result) (next .own) (c .before .before .before .before .read-at .ensures) (w .ensures) in
     ⊎-elim
     (λ x.
     let lone = eqb (x .2 .result) 0 in
-    let v = least-heard (a .by .now) (a .wanted) h t (f .result) (w .result) is (f .ensures) (o .inv .1 .1) own (x .0 .taken) (x .7) lone (ap (λ (y : ℕ). eqb y 0) (x .2 .ensures)) in
-    let j = joins lone (ap isOne (v .0) ∙ is-lone lone) (not lone) (ap isSeveral (v .0) ∙ not-lone lone) (x .5 ∙ x .3 .ensures) (x .6 ∙ x .4 .ensures) in
-    (j .0, (j .1, v .1)))
+    let v = least-heard (a .by .now) (a .wanted) h (next .taken) (f .result) (w .result) is (f .ensures) (o .inv .1 .1) (next .own) (x .0 .taken) (x .7) lone (ap (λ (y : ℕ). eqb y 0) (x .2 .ensures)) in (
+      asking-more (a .wanted) (λ j. isOne (h j .heard)) next lone (sym (ap isOne (v .0) ∙ is-lone lone)) (x .5 ∙ x .3 .ensures) (o .inv .0),
+      (asking-more (a .wanted) (λ j. isSeveral (h j .heard)) next (not lone) (sym (ap isSeveral (v .0) ∙ not-lone lone)) (x .6 ∙ x .4 .ensures) (o .inv .1 .0), v .1),
+    ))
     (λ x.
-    let v = none-heard (a .by .now) (a .wanted) h t (f .result) (w .result) is (f .ensures) (o .inv .1 .1) (x .0 .left) (x .3) in
-    let j = joins false (ap isOne (v .0)) false (ap isSeveral (v .0)) (x .1) (x .2) in
-    (j .0, (j .1, v .1)))
-    (m .came)
+    let v = none-heard (a .by .now) (a .wanted) h (next .taken) (f .result) (w .result) is (f .ensures) (o .inv .1 .1) (x .0 .left) (x .3) in (
+      asking-more (a .wanted) (λ j. isOne (h j .heard)) next false (sym (ap isOne (v .0))) (x .1) (o .inv .0),
+      (asking-more (a .wanted) (λ j. isSeveral (h j .heard)) next false (sym (ap isSeveral (v .0))) (x .2) (o .inv .1 .0), v .1),
+    ))
+    (c .before .if1 .came)
 
 returns : tie.Need-returns Inv-loop μ-loop
 returns c =
@@ -112,8 +99,8 @@ returns c =
     let h : ℕ → Values = heardFrom (a .s .now) (a .at) (a .n) (a .senders) (a .by .now) in
     let i = c .before .loop .inv in
     let z = c .loop-test .left in (
-      picked-all 32 (a .wanted) (λ p. isOne (h p .heard)) (i .0) z,
-      (picked-all 32 (a .wanted) (λ p. isSeveral (h p .heard)) (i .1 .0) z, sorting-done 32 (a .wanted) (λ p. h p .least) (i .1 .1) z),
+      asking-done (a .wanted) (λ p. isOne (h p .heard)) (i .0) z,
+      (asking-done (a .wanted) (λ p. isSeveral (h p .heard)) (i .1 .0) z, sorting-done 32 (a .wanted) (λ p. h p .least) (i .1 .1) z),
     )
 
 pub hear-spec : {M : Type 1} → statement M

@@ -2,21 +2,21 @@
 use mathlib.Core.Path.{_≡_, refl, ap, sym, _∙_}
 use mathlib.Core.Bool.{Bool, true, false, cond}
 use mathlib.Core.Logic.{⊎-elim}
-use Prim.Native.Nat.{ℕ, _^_}
-use lib.Bits.{bitAnd, bitOr, bitXor}
+use Prim.Native.Nat.{ℕ}
+use lib.Bits.{bitAnd, bitXor}
 use lib.Dec.{eqb}
 use lib.ListN.{getD}
 use native.Mathlib.Omega.{arith}
 use borrow.Author.Needs.{needs}
 use Rattle.basics.proofs.Laws.{first-none}
 use Rattle.protocol.specs.declared.Heard.the-variants.{One, Several}
-use Rattle.playback.specs.Sets.{wasHeard, valuesOf, heardSet}
+use Rattle.playback.specs.Sets.{wasHeard, valuesOf}
 use Rattle.playback.specs.declared.hearing.Values.{Values}
 use Rattle.playback.specs.Listens.{heardFrom, someValue}
-use Rattle.sets.proofs.Members.{taken-out, own-out, Picked, picked-none, picked-lowest, picked-all}
+use Rattle.sets.proofs.Members.{taken-out, own-out}
 use Rattle.playback.proofs.Sorting.{Sorting, sorting-starts, sent-from, least-heard, none-heard, sorting-done}
 use Rattle.playback.proofs.Reading.{row-place}
-use Rattle.playback.proofs.Radios.{heard-by-own}
+use Rattle.playback.proofs.Asking.{Asking, next-is, asking-starts, asking-more, asking-done, heard-at}
 use Rattle.playback.proofs.listening.least_heard.Statement.{statement}
 use Rattle.playback.proofs.listening.least_heard.Tie as tie
 
@@ -26,7 +26,7 @@ some-value false = refl
 
 abbrev Inv-loop : tie.InvT-loop
 Inv-loop s at n senders wanted by changed₀ taking₀ low left₀ changed taking left =
-    Picked 32 wanted (λ p. someValue (heardFrom s at n senders by p .heard)) left changed
+    Asking wanted (λ p. someValue (heardFrom s at n senders by p .heard)) left changed
     × Sorting 32 wanted (λ p. heardFrom s at n senders by p .least) taking left
 
 abbrev μ-loop : tie.MeasureT-loop
@@ -36,7 +36,7 @@ loop-holds : tie.Need-loop-holds Inv-loop μ-loop
 loop-holds c =
     let a = c .before .before .args in
     let h : ℕ → Values = heardFrom (a .s .now) (a .at) (a .n) (a .senders) (a .by .now) in (
-      picked-none 32 (a .wanted) (λ p. someValue (h p .heard)),
+      asking-starts (a .wanted) (λ p. someValue (h p .heard)),
       sorting-starts 32 (a .wanted) (λ p. h p .least),
     )
 
@@ -68,29 +68,22 @@ loop-again c =
     let a = c .before .before .before .before .before .before .before .before .before .before .before .args in
     let o = c .before .before .before .before .before .before .before .before .loop in
     let i = c .before .before .before .before .before .before .lowest in
-    let p = i .result in
-    let h : ℕ → Values = heardFrom (a .s .now) (a .at) (a .n) (a .senders) (a .by .now) in
-    let some = c .before .before .before .before .before .before .before .loop-test .taken in
-    let t = taken-out some (i .ensures) (c .rest .ensures) in
+    let own = c .before .before .before .before .before .only-lowest in
     let f = c .before .before .first-heard2 in
     let w = c .before .before .before .heard-by in
-    let own : c .before .before .before .before .before .only-lowest .result ≡ 2 ^ p = own-out some (i .ensures .0) (c .before .before .before .before .before .only-lowest .ensures) in
-    let is : h p ≡ valuesOf (a .by .now) (w .result) 16 =
-    sym (ap (λ (x : ℕ). valuesOf (a .by .now) x 16) (heard-by-own (a .senders) (c .before .before .before .before .read-at .result) p (c .before .before .before .before .before .only-lowest .result) (w .result) (w .ensures) own
-    ∙ ap (λ (x : ℕ). heardSet (a .senders) x p) (c .before .before .before .before .read-at .ensures))) in
-    let m = c .before .if1 in
-    let joins : (x : Bool) → someValue (h p .heard) ≡ x → m .changed ≡ cond x (bitOr (o .changed) (c .before .before .before .before .before .only-lowest .result)) (o .changed)
-    → Picked 32 (a .wanted) (λ j. someValue (h j .heard)) (c .rest .result) (m .changed)
-    = λ x ex e1. picked-lowest (a .wanted) (λ j. someValue (h j .heard)) t own (o .inv .1 .within p (t .held)) x (sym ex) e1 (o .inv .0) in
+    let h : ℕ → Values = heardFrom (a .s .now) (a .at) (a .n) (a .senders) (a .by .now) in
+    let next = next-is (c .before .before .before .before .before .before .before .loop-test .taken) (i .ensures) (own .ensures) (c .rest .ensures) in
+    let is : h (i .result) ≡ valuesOf (a .by .now) (w .result) 16 =
+    heard-at (a .s .now) (a .at) (a .n) (a .senders) (a .by .now) (i .result) (next .own) (c .before .before .before .before .read-at .ensures) (w .ensures) in
     ⊎-elim
     (λ x.
     let lone = eqb (bitXor (w .result) (bitAnd (w .result) (getD (a .by .now) (f .result) 0))) 0 in
-    let v = least-heard (a .by .now) (a .wanted) h t (f .result) (w .result) is (f .ensures) (o .inv .1) own (x .0 .taken) (x .2) lone refl in
-    (joins true (ap someValue (v .0) ∙ some-value lone) (x .1), v .1))
+    let v = least-heard (a .by .now) (a .wanted) h (next .taken) (f .result) (w .result) is (f .ensures) (o .inv .1) (next .own) (x .0 .taken) (x .2) lone refl in
+    (asking-more (a .wanted) (λ j. someValue (h j .heard)) next true (sym (ap someValue (v .0) ∙ some-value lone)) (x .1) (o .inv .0), v .1))
     (λ x.
-    let v = none-heard (a .by .now) (a .wanted) h t (f .result) (w .result) is (f .ensures) (o .inv .1) (x .0 .left) (x .2) in
-    (joins false (ap someValue (v .0)) (x .1), v .1))
-    (m .came)
+    let v = none-heard (a .by .now) (a .wanted) h (next .taken) (f .result) (w .result) is (f .ensures) (o .inv .1) (x .0 .left) (x .2) in
+    (asking-more (a .wanted) (λ j. someValue (h j .heard)) next false (sym (ap someValue (v .0))) (x .1) (o .inv .0), v .1))
+    (c .before .if1 .came)
 
 returns : tie.Need-returns Inv-loop μ-loop
 returns c =
@@ -98,7 +91,7 @@ returns c =
     let h : ℕ → Values = heardFrom (a .s .now) (a .at) (a .n) (a .senders) (a .by .now) in
     let i = c .before .loop .inv in
     let z = c .loop-test .left in
-    (picked-all 32 (a .wanted) (λ p. someValue (h p .heard)) (i .0) z, sorting-done 32 (a .wanted) (λ p. h p .least) (i .1) z)
+    (asking-done (a .wanted) (λ p. someValue (h p .heard)) (i .0) z, sorting-done 32 (a .wanted) (λ p. h p .least) (i .1) z)
 
 pub least-heard-spec : {M : Type 1} → statement M
 least-heard-spec =

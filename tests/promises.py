@@ -1,12 +1,17 @@
 #!/usr/bin/env python3
-"""Every name that docs/PROMISES.md puts in backticks is declared where its column says.
+"""Every name that docs/PROMISES.md puts in backticks is declared where its column says, and every wrong version is of something that its row names.
 
 The rows have four columns: a sentence, definitions, promises or theorems, and tests with wrong versions. `crate/label` is a wrong version, `crate::name` a test of
 rust/crate, a path is a file (a case without its ending). Any other name is a declaration: in the second column of specs/ or of src/, in the third of those or
-of proofs/, in the fourth a constructor of the table's questions. Names outside the rows are declarations of any kind."""
+of proofs/, in the fourth a constructor of the table's questions. Names outside the rows are declarations of any kind.
+
+A wrong version shows something of a row only where it changes what the row speaks of: the function or the definition that it is a version of is named in the row's
+second or third column. `starred` names the table, which it is the claim about."""
 import pathlib
 import re
 import sys
+
+from versions import edits, versions_of
 
 root = pathlib.Path(__file__).resolve().parent.parent
 
@@ -41,11 +46,8 @@ for crate in root.glob("rust/*"):
     tests[crate.name] = {name for text in sources for name in re.findall(r"#\[test\]\s*(?:#\[[^\]]*\]\s*)*fn ([a-z0-9_]+)\(", text)}
 
 
-# an edit that holds several wrong versions has a line for each; any other is named as its file
-versions = set()
-for edit in root.glob("crates/*/must-fail/*.edit"):
-    labels = re.findall(r"(?m)^version: (\S+)", edit.read_text()) or [edit.stem]
-    versions |= {f"{edit.parent.parent.name}/{label}" for label in labels}
+# what each wrong version is a version of
+versions = {f"{v.crate}/{v.label}": v.what.split("::")[-1] for edit in edits(root) for v in versions_of(edit)[0]}
 
 
 def there(name, column):
@@ -66,6 +68,7 @@ def there(name, column):
 
 
 missing = []
+others = []
 rows = 0
 page = (root / "docs/PROMISES.md").read_text()
 for line in page.splitlines():
@@ -75,11 +78,17 @@ for line in page.splitlines():
         parts = list(zip(range(1, 5), cells))
     else:
         parts = [(0, line)]
+    named = set(re.findall(r"`([^`]+)`", " ".join(cells[1:3])))
+    for name in re.findall(r"`([^`]+)`", cells[3]) if len(cells) == 4 else []:
+        if name in versions and versions[name] not in named | ({"table"} if "starred" in named else set()):
+            others.append(f"{name} is a version of {versions[name]}, which the row does not name: {cells[0]}")
     for column, cell in parts:
         for name in re.findall(r"`([^`]+)`", cell):
             if not there(name, column):
                 missing.append(f"{name} (column {column}): {cells[0] if cells else line[:60]}")
 for m in missing:
     print("docs/PROMISES.md names what is not there:", m)
+for line in others:
+    print("docs/PROMISES.md:", line)
 print(rows, "rows")
-sys.exit(1 if missing or rows < 150 else 0)
+sys.exit(1 if missing or others or rows < 150 else 0)

@@ -1,8 +1,13 @@
 # From outside the proofs: the archive for other languages, those of the bit reader and of whole records for tests, the Rust tests (the independent reading of document 01, its comparison with the library and with steps of whole records, the bit reader bit by bit, the safe crate), and the examples.
 build() { rt staticlib "$1" > /dev/null 2>&1; }
-expect "rt staticlib ffi" build ffi
+echo "archives"
+# what they rest on is proved by now, so they are built side by side
+build ffi &
+ffi=$!
 expect "rt staticlib bitcalls" build bitcalls
 expect "rt staticlib recordcalls" build recordcalls
+expect "rt staticlib ffi" wait "$ffi"
+echo "Rust tests"
 log=$(mktemp)
 (cd rust && cargo test --offline --release) > "$log" 2>&1
 status=$?
@@ -18,6 +23,7 @@ expect "cargo test's exit status" test "$status" -eq 0
 rm -f "$log"
 
 # Layout, clippy and the pages of the documentation, without a warning, in the whole workspace.
+echo "clippy, pages, examples"
 quiet() { # COMMAND..: in rust/; what it says is shown where it fails
     local said
     said=$(cd rust && "$@" 2>&1) || { tail -n 20 <<< "$said"; return 1; }
@@ -52,6 +58,7 @@ expect "the header says 128 KiB of stack for run, grade and list" grep -qE '^#de
 expect "the stack of largest calls is below what the header says" small_stack
 
 # Memory: the program and the archive under valgrind.
+echo "valgrind"
 clean() { valgrind -q --error-exitcode=9 "$@" > /dev/null 2>&1; }
 expect "the C example under valgrind" clean "$out/example"
 for case in c01 c02 c07-400 c10 empty; do

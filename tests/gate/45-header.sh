@@ -14,7 +14,7 @@ for compiler in "cc -std=c99" "cc -std=c11" "c++ -std=c++11 -x c++" "c++ -std=c+
     expect "$compiler warns of a dropped answer" warns $compiler
 done
 expect "the header with the sanitizer of undefined behaviour" header_holds cc -std=c99 -g -fsanitize=undefined -fno-sanitize-recover=all
-header_holds cc -std=c99 -g
+expect "the header with what a debugger asks for" header_holds cc -std=c99 -g
 expect "the header under valgrind" valgrind -q --error-exitcode=99 "$out/header"
 
 # Words for refusals: the header and README.md have the same rows (the safe crate's tests hold its words against README.md too).

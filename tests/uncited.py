@@ -4,6 +4,7 @@
     tests/uncited.py [ROOT]
 
 The toolchain warns of neither. It goes by the text: a name is used where it stands as a word of its own outside comments and imports."""
+import collections
 import pathlib
 import re
 import sys
@@ -42,10 +43,15 @@ def used(name, words, text):
     return name in words or all(p in words for p in parts(name))
 
 
+HEAD = re.compile(r"(?m)^( {0,4})(?:(?:abbrev |unfoldable )?(?:pub )?(?:abbrev |unfoldable )?(?:record |data )?([^\s:(){}]+)(?: [({][^\n]*)? : |module )")
+
+
 def declared(text):
-    """Names with a type of their own, at the edge or in a module."""
-    for m in re.finditer(r"(?m)^(?:  )?(?:abbrev |unfoldable )?(?:pub )?(?:abbrev |unfoldable )?(?:record |data )?([^\s:(){}]+)(?: [({][^\n]*)? : ", text):
-        yield m.group(1)
+    """Names with a type of their own, at the edge or in a module, each with the text up to the next one."""
+    heads = list(HEAD.finditer(text))
+    for head, after in zip(heads, heads[1:] + [None]):
+        if head.group(2) and len(head.group(1)) in (0, 2):
+            yield head.group(2), text[head.start() : after.start() if after else len(text)]
 
 
 files = {p: stripped(p) for kind in ("src/**/*.rt", "specs/**/*.antt", "proofs/**/*.antt") for p in sorted(root.glob("crates/*/" + kind))}
@@ -59,18 +65,16 @@ for path, text in files.items():
         if not used(name, words, rest):
             found.append(f"{path.relative_to(root)}: {written} is imported and not used")
 
-cited = {}
-for path, text in files.items():
-    for word in WORD.findall(text):
-        cited[word] = cited.get(word, 0) + 1
+# a name is cited where it stands outside its own declaration
+cited = collections.Counter(word for text in files.values() for word in WORD.findall(text))
+own = collections.Counter(name for text in files.values() for name, block in declared(text) for word in WORD.findall(block) if word in {name, *parts(name)})
 promises = root / "docs/PROMISES.md"
 named = set(re.findall(r"`([^`]+)`", promises.read_text())) if promises.is_file() else set()
 for path, text in files.items():
     if path.suffix != ".antt" or path.name == "Proof.antt":
         continue
-    for name in set(declared(text)):
-        heads = len(re.findall(rf"(?m)^(?:  )?(?:abbrev |unfoldable |pub |record |data )*{re.escape(name)}(?=\s)", text))
-        if all(cited.get(p, 0) <= heads for p in {name, *parts(name)}) and name not in named:
+    for name in {name for name, _ in declared(text)}:
+        if sum(cited[p] for p in {name, *parts(name)}) <= own[name] and name not in named:
             found.append(f"{path.relative_to(root)}: {name} is cited nowhere")
 for line in sorted(found):
     print(line)

@@ -4,11 +4,17 @@ use borrow.Author.Needs.{needs}
 use Rattle.fleet.proofs.round.message.Statement.{statement}
 use Rattle.fleet.proofs.round.message.Tie as tie
 
+returns : tie.Need-returns
+returns c = search needs
+
 returns-2 : tie.Need-returns-2
 returns-2 c = c .vetoes .ensures ∙ rw (c .before .enum-told2 .given .1)
 
 returns-4 : tie.Need-returns-4
 returns-4 c = rw (c .before .before .phase .given .1)
+
+returns-5 : tie.Need-returns-5
+returns-5 c = search needs
 
 pub message-spec : {M : Type 1} → statement M
 message-spec =
@@ -20,8 +26,8 @@ message-spec =
     (λ c. search needs)
     (λ c. search needs)
     (λ c. search needs)
-    (λ c. search needs)
+    returns
     returns-2
     (λ c. search needs)
     returns-4
-    (λ c. search needs))
+    returns-5)

@@ -127,7 +127,7 @@ fn veto(s: &[u8], at: usize, n: usize, running: u32, marked: u32, one: u32, seve
     let going = sets::without(running, stop);
     let senders = going & (marked | several);
     let may = sets::without(going & one, mark | marked);
-    // not asked for where it is clear: the loop has more than one caller, so that it is not built into a round
+    // Nobody hears where nobody sends. The loop has callers in both cycles, so that the compiler does not build it into a round, and each call costs.
     let some = if (senders == 0) | (may == 0) {
         0
     } else {

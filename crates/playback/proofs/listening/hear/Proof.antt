@@ -1,21 +1,23 @@
 -- `hear` meets its contract.
 use mathlib.Core.Path.{_≡_, refl, ap, sym, _∙_}
-use mathlib.Core.Bool.{Bool, true, false, cond, not}
+use mathlib.Core.Bool.{Bool, true, false, cond}
 use mathlib.Core.Logic.{⊎-elim}
 use Prim.Native.Nat.{ℕ}
 use lib.Dec.{eqb}
+use lib.ListN.{getD}
 use native.Mathlib.Omega.{arith}
 use borrow.Author.Needs.{needs}
 use Rattle.basics.proofs.Laws.{first-none}
 use Rattle.protocol.specs.declared.Heard.the-variants.{One, Several}
-use Rattle.protocol.specs.Rules.{isOne, isSeveral}
+use Rattle.protocol.specs.Rules.{isOne}
+use Rattle.sets.specs.Sets.{without}
 use Rattle.playback.specs.Sets.{wasHeard, valuesOf}
 use Rattle.playback.specs.declared.hearing.Values.{Values}
 use Rattle.playback.specs.Listens.{heardFrom}
 use Rattle.sets.proofs.Members.{taken-out, own-out}
-use Rattle.playback.proofs.Sorting.{Sorting, sorting-starts, sent-from, least-heard, none-heard, sorting-done}
+use Rattle.playback.proofs.Sorting.{sent-from}
 use Rattle.playback.proofs.Reading.{row-place}
-use Rattle.playback.proofs.Asking.{Asking, next-is, asking-starts, asking-more, asking-done, heard-at}
+use Rattle.playback.proofs.Asking.{Asking, next-is, asking-starts, asking-more, asking-done, heard-at, several-rest, Takes, takes-starts, takes-more, takes-none, takes-done}
 use Rattle.playback.proofs.listening.hear.Statement.{statement}
 use Rattle.playback.proofs.listening.hear.Tie as tie
 
@@ -23,26 +25,18 @@ is-lone : (b : Bool) → isOne (cond b One Several) ≡ b
 is-lone true = refl
 is-lone false = refl
 
-not-lone : (b : Bool) → isSeveral (cond b One Several) ≡ not b
-not-lone true = refl
-not-lone false = refl
-
 abbrev Inv-loop : tie.InvT-loop
-Inv-loop s at n senders wanted by one₀ several₀ taking₀ low left₀ one several taking left =
-    Asking wanted (λ p. isOne (heardFrom s at n senders by p .heard)) left one
-    × (Asking wanted (λ p. isSeveral (heardFrom s at n senders by p .heard)) left several
-    × Sorting 32 wanted (λ p. heardFrom s at n senders by p .least) taking left)
+Inv-loop s at n senders wanted by one₀ some₀ taking₀ low left₀ one some taking left =
+    Asking wanted (λ p. isOne (heardFrom s at n senders by p .heard)) left one × Takes wanted (heardFrom s at n senders by) left some taking
 
 abbrev μ-loop : tie.MeasureT-loop
-μ-loop s at n senders wanted by one₀ several₀ taking₀ low left₀ one several taking left = left
+μ-loop s at n senders wanted by one₀ some₀ taking₀ low left₀ one some taking left = left
 
 loop-holds : tie.Need-loop-holds Inv-loop μ-loop
 loop-holds c =
     let a = c .before .before .args in
-    let h : ℕ → Values = heardFrom (a .s .now) (a .at) (a .n) (a .senders) (a .by .now) in (
-      asking-starts (a .wanted) (λ p. isOne (h p .heard)),
-      (asking-starts (a .wanted) (λ p. isSeveral (h p .heard)), sorting-starts 32 (a .wanted) (λ p. h p .least)),
-    )
+    let h : ℕ → Values = heardFrom (a .s .now) (a .at) (a .n) (a .senders) (a .by .now) in
+    (asking-starts (a .wanted) (λ p. isOne (h p .heard)), takes-starts (a .wanted) h)
 
 first-heard-requires : tie.Need-first-heard-requires Inv-loop μ-loop
 first-heard-requires c κs = (search needs, first-none (wasHeard (c .before .args .by .now) (c .before .args .senders)))
@@ -81,16 +75,12 @@ loop-again c =
     heard-at (a .s .now) (a .at) (a .n) (a .senders) (a .by .now) (i .result) (next .own) (c .before .before .before .before .read-at .ensures) (w .ensures) in
     ⊎-elim
     (λ x.
-    let lone = eqb (x .2 .result) 0 in
-    let v = least-heard (a .by .now) (a .wanted) h (next .taken) (f .result) (w .result) is (f .ensures) (o .inv .1 .1) (next .own) (x .0 .taken) (x .7) lone (ap (λ (y : ℕ). eqb y 0) (x .2 .ensures)) in (
-      asking-more (a .wanted) (λ j. isOne (h j .heard)) next lone (sym (ap isOne (v .0) ∙ is-lone lone)) (x .5 ∙ x .3 .ensures) (o .inv .0),
-      (asking-more (a .wanted) (λ j. isSeveral (h j .heard)) next (not lone) (sym (ap isSeveral (v .0) ∙ not-lone lone)) (x .6 ∙ x .4 .ensures) (o .inv .1 .0), v .1),
-    ))
+    let v = takes-more (a .by .now) (a .wanted) h next (f .result) (w .result) is (f .ensures) (o .inv .1) (x .0 .taken) (x .5) (x .6) in
+    let lone : eqb (x .2 .result) 0 ≡ isOne (h (i .result) .heard) = ap (λ (y : ℕ). eqb y 0) (x .2 .ensures) ∙ sym (ap isOne (v .0) ∙ is-lone (eqb (without (w .result) (getD (a .by .now) (f .result) 0)) 0)) in
+    (asking-more (a .wanted) (λ j. isOne (h j .heard)) next (eqb (x .2 .result) 0) lone (x .4 ∙ x .3 .ensures) (o .inv .0), v .1))
     (λ x.
-    let v = none-heard (a .by .now) (a .wanted) h (next .taken) (f .result) (w .result) is (f .ensures) (o .inv .1 .1) (x .0 .left) (x .3) in (
-      asking-more (a .wanted) (λ j. isOne (h j .heard)) next false (sym (ap isOne (v .0))) (x .1) (o .inv .0),
-      (asking-more (a .wanted) (λ j. isSeveral (h j .heard)) next false (sym (ap isSeveral (v .0))) (x .2) (o .inv .1 .0), v .1),
-    ))
+    let v = takes-none (a .by .now) (a .wanted) h next (f .result) (w .result) is (f .ensures) (o .inv .1) (x .0 .left) (x .2) (x .3) in
+    (asking-more (a .wanted) (λ j. isOne (h j .heard)) next false (sym (ap isOne (v .0))) (x .1) (o .inv .0), v .1))
     (c .before .if1 .came)
 
 returns : tie.Need-returns Inv-loop μ-loop
@@ -98,10 +88,9 @@ returns c =
     let a = c .before .before .before .before .args in
     let h : ℕ → Values = heardFrom (a .s .now) (a .at) (a .n) (a .senders) (a .by .now) in
     let i = c .before .loop .inv in
-    let z = c .loop-test .left in (
-      asking-done (a .wanted) (λ p. isOne (h p .heard)) (i .0) z,
-      (asking-done (a .wanted) (λ p. isSeveral (h p .heard)) (i .1 .0) z, sorting-done 32 (a .wanted) (λ p. h p .least) (i .1 .1) z),
-    )
+    let one = asking-done (a .wanted) (λ p. isOne (h p .heard)) (i .0) (c .loop-test .left) in
+    let t = takes-done (a .wanted) h (i .1) (c .loop-test .left) in
+    (one, (several-rest (a .wanted) (λ p. h p .heard) (t .0) one, t .1))
 
 pub hear-spec : {M : Type 1} → statement M
 hear-spec =
@@ -121,7 +110,6 @@ hear-spec =
     first-heard-requires-2
     (λ c. search needs)
     (λ c. search needs)
-    (λ c κs. search needs)
     (λ c κs. search needs)
     (λ c κs. search needs)
     (λ c. search needs)

@@ -1,44 +1,28 @@
 -- `least_heard` meets its contract.
-use mathlib.Core.Path.{_≡_, refl, ap, sym, _∙_}
-use mathlib.Core.Bool.{Bool, true, false, cond}
+use mathlib.Core.Path.{_≡_}
 use mathlib.Core.Logic.{⊎-elim}
 use Prim.Native.Nat.{ℕ}
-use lib.Bits.{bitAnd, bitXor}
-use lib.Dec.{eqb}
-use lib.ListN.{getD}
 use native.Mathlib.Omega.{arith}
 use borrow.Author.Needs.{needs}
 use Rattle.basics.proofs.Laws.{first-none}
-use Rattle.protocol.specs.declared.Heard.the-variants.{One, Several}
 use Rattle.playback.specs.Sets.{wasHeard, valuesOf}
 use Rattle.playback.specs.declared.hearing.Values.{Values}
-use Rattle.playback.specs.Listens.{heardFrom, someValue}
+use Rattle.playback.specs.Listens.{heardFrom}
 use Rattle.sets.proofs.Members.{taken-out, own-out}
-use Rattle.playback.proofs.Sorting.{Sorting, sorting-starts, sent-from, least-heard, none-heard, sorting-done}
+use Rattle.playback.proofs.Sorting.{sent-from}
 use Rattle.playback.proofs.Reading.{row-place}
-use Rattle.playback.proofs.Asking.{Asking, next-is, asking-starts, asking-more, asking-done, heard-at}
+use Rattle.playback.proofs.Asking.{next-is, heard-at, Takes, takes-starts, takes-more, takes-none, takes-done}
 use Rattle.playback.proofs.listening.least_heard.Statement.{statement}
 use Rattle.playback.proofs.listening.least_heard.Tie as tie
 
-some-value : (x : Bool) → someValue (cond x One Several) ≡ true
-some-value true = refl
-some-value false = refl
-
 abbrev Inv-loop : tie.InvT-loop
-Inv-loop s at n senders wanted by changed₀ taking₀ low left₀ changed taking left =
-    Asking wanted (λ p. someValue (heardFrom s at n senders by p .heard)) left changed
-    × Sorting 32 wanted (λ p. heardFrom s at n senders by p .least) taking left
+Inv-loop s at n senders wanted by changed₀ taking₀ low left₀ changed taking left = Takes wanted (heardFrom s at n senders by) left changed taking
 
 abbrev μ-loop : tie.MeasureT-loop
 μ-loop s at n senders wanted by changed₀ taking₀ low left₀ changed taking left = left
 
 loop-holds : tie.Need-loop-holds Inv-loop μ-loop
-loop-holds c =
-    let a = c .before .before .args in
-    let h : ℕ → Values = heardFrom (a .s .now) (a .at) (a .n) (a .senders) (a .by .now) in (
-      asking-starts (a .wanted) (λ p. someValue (h p .heard)),
-      sorting-starts 32 (a .wanted) (λ p. h p .least),
-    )
+loop-holds c = let a = c .before .before .args in takes-starts (a .wanted) (heardFrom (a .s .now) (a .at) (a .n) (a .senders) (a .by .now))
 
 first-heard-requires : tie.Need-first-heard-requires Inv-loop μ-loop
 first-heard-requires c κs = (search needs, first-none (wasHeard (c .before .args .by .now) (c .before .args .senders)))
@@ -76,22 +60,14 @@ loop-again c =
     let is : h (i .result) ≡ valuesOf (a .by .now) (w .result) 16 =
     heard-at (a .s .now) (a .at) (a .n) (a .senders) (a .by .now) (i .result) (next .own) (c .before .before .before .before .read-at .ensures) (w .ensures) in
     ⊎-elim
-    (λ x.
-    let lone = eqb (bitXor (w .result) (bitAnd (w .result) (getD (a .by .now) (f .result) 0))) 0 in
-    let v = least-heard (a .by .now) (a .wanted) h (next .taken) (f .result) (w .result) is (f .ensures) (o .inv .1) (next .own) (x .0 .taken) (x .2) lone refl in
-    (asking-more (a .wanted) (λ j. someValue (h j .heard)) next true (sym (ap someValue (v .0) ∙ some-value lone)) (x .1) (o .inv .0), v .1))
-    (λ x.
-    let v = none-heard (a .by .now) (a .wanted) h (next .taken) (f .result) (w .result) is (f .ensures) (o .inv .1) (x .0 .left) (x .2) in
-    (asking-more (a .wanted) (λ j. someValue (h j .heard)) next false (sym (ap someValue (v .0))) (x .1) (o .inv .0), v .1))
+    (λ x. takes-more (a .by .now) (a .wanted) h next (f .result) (w .result) is (f .ensures) (o .inv) (x .0 .taken) (x .1) (x .2) .1)
+    (λ x. takes-none (a .by .now) (a .wanted) h next (f .result) (w .result) is (f .ensures) (o .inv) (x .0 .left) (x .1) (x .2) .1)
     (c .before .if1 .came)
 
 returns : tie.Need-returns Inv-loop μ-loop
 returns c =
     let a = c .before .before .before .before .args in
-    let h : ℕ → Values = heardFrom (a .s .now) (a .at) (a .n) (a .senders) (a .by .now) in
-    let i = c .before .loop .inv in
-    let z = c .loop-test .left in
-    (asking-done (a .wanted) (λ p. someValue (h p .heard)) (i .0) z, sorting-done 32 (a .wanted) (λ p. h p .least) (i .1) z)
+    takes-done (a .wanted) (heardFrom (a .s .now) (a .at) (a .n) (a .senders) (a .by .now)) (c .before .loop .inv) (c .loop-test .left)
 
 pub least-heard-spec : {M : Type 1} → statement M
 least-heard-spec =

@@ -1,4 +1,5 @@
-//! Starts and steps compared with the independent reading, by any calls that take and leave a record as bytes: the exported ones, and others that have to do the same.
+//! Starts and steps compared with the independent reading, by any calls that take and leave a record as bytes: the exported ones, and others that have to do
+//! the same.
 
 use std::collections::{BTreeMap, BTreeSet};
 
@@ -162,7 +163,8 @@ impl Calls {
         often(&met, &[0, 6, 7, 8], 500);
     }
 
-    /// Records by refusal 7 of a cycle, each condition broken `few` times and `many` accepted ones, handed to the steps of both cycles. The conditions that were broken.
+    /// Records by refusal 7 of a cycle, each condition broken `few` times and `many` accepted ones, handed to the steps of both cycles. The conditions that were
+    /// broken.
     pub fn records_handed_in(
         &self,
         made: Cycle,

@@ -1,5 +1,5 @@
-//! A record taken from its bytes, stepped as a whole with each truck where it stands, and put back, beside the exported step, which goes from bytes to bytes: both answer the same
-//! number and leave the same bytes, and these are what the independent reading says.
+//! A record taken from its bytes, stepped as a whole with each truck where it stands, and put back, beside the exported step, which goes from bytes to bytes:
+//! both answer the same number and leave the same bytes, and these are what the independent reading says.
 
 use std::collections::BTreeMap;
 

@@ -1,4 +1,5 @@
--- The starred cases C1 to C12 of document 01, a row for each thing that it says of them, and cases of F-2, F-4, F-5 and F-7 of document 02.
+-- The starred cases C1 to C12 of document 01, a row for each thing that it says of them; C13, the classes of marks and each refusal, alone and with the next one true
+-- besides; and cases of F-2, F-4, F-5 and F-7 of document 02.
 use mathlib.Core.Bool.{Bool, true, false}
 use mathlib.Core.List.{List, [], _∷_, _++_}
 use Prim.Native.Nat.{ℕ, _+_}
@@ -30,6 +31,10 @@ c2 = 0x08 ∷ 0x02 ∷ 0x35 ∷ 0x31 ∷ 0x80 ∷ 0x00 ∷ []
 -- C2 with both mark bits of round 1 set
 abbrev pub c3 : List ℕ
 c3 = 0x08 ∷ 0x02 ∷ 0x35 ∷ 0x3d ∷ 0x80 ∷ 0x00 ∷ []
+
+-- the recording of C13: trucks that open with 1, 2 and 3 send in its one round, and truck 0 misses truck 2
+abbrev pub c13 : List ℕ
+c13 = 0x0c ∷ 0x01 ∷ 0x12 ∷ 0x31 ∷ 0xc1 ∷ 0x00 ∷ []
 
 -- a round of two trucks in which nothing happens, in plain form
 abbrev quiet : List ℕ
@@ -107,6 +112,24 @@ table =
     ∷ (prints c3 ⟶ says "trucks 2 rounds 2\n0 opened 3 running 3 sent 1 vetoes 1\n1 opened 5 running 5 sent 1 vetoes 1\nsent 2 vetoes 2\n")
     ∷ (estimates 1 c3 ⟶ numbers (3 ∷ 5 ∷ []))
     ∷ (senders 2 c3 ⟶ numbers (0 ∷ 1 ∷ []))
+    -- each misses the other with a mark, so that marks are of all four classes
+    ∷ (grades c3 ⟶ gradesAre 0 0 0 0)
+    -- C13: three trucks send, one hears two without a mark
+    ∷ (messages 1 c13 ⟶ numbers (3 ∷ 2 ∷ 3 ∷ 3 ∷ []))
+    ∷ (grades c13 ⟶ gradesAre 1 0 0 0)
+    -- messages are counted, equal values included: three trucks send 4, and truck 0 hears its own alone
+    ∷ (grades (0x0c ∷ 0x01 ∷ 0x44 ∷ 0x41 ∷ 0xc3 ∷ 0x00 ∷ []) ⟶ gradesAre 1 1 0 0)
+    -- one truck sends, and the other hears nothing without a mark; one truck has a mark in a silent round, where the other classes ask for none
+    ∷ (grades (0x08 ∷ 0x01 ∷ 0x35 ∷ 0x11 ∷ 0x00 ∷ []) ⟶ gradesAre 1 1 1 0)
+    ∷ (grades (0x04 ∷ 0x01 ∷ 0x72 ∷ []) ⟶ gradesAre 0 0 0 1)
+    -- the first round that breaks a class: truck 0 misses all in rounds 3 and 5, and marks are false in rounds 2 and 4
+    ∷ (grades (0x08 ∷ 0x06 ∷ 0x35 ∷ 0x00 ∷ 0x02 ∷ 0x01 ∷ 0x10 ∷ 0x30 ∷ 0x11 ∷ 0x00 ∷ 0x00 ∷ []) ⟶ gradesAre 3 3 3 2)
+    -- the last round breaks all four: truck 0 misses what truck 1 sends in round 9, and truck 1 has a mark
+    ∷ (grades (0x08 ∷ 0x09 ∷ 0x35 ∷ replicate 10 0x00 ++ (0x15 ∷ 0x00 ∷ [])) ⟶ gradesAre 9 9 9 9)
+    -- only running trucks are judged. Marks: truck 1 has one in round 1, where it stops, and in rounds 2 and 3; truck 0 in round 3, after it decided
+    ∷ (grades (0x08 ∷ 0x03 ∷ 0x35 ∷ 0x64 ∷ 0x01 ∷ 0x00 ∷ 0xc0 ∷ []) ⟶ gradesAre 0 0 0 0)
+    -- losses: truck 1 misses truck 0 in round 1, where it stops; trucks 0 and 1 miss truck 2 in round 3, after truck 0 decided. The mark of truck 2 in round 2 is false
+    ∷ (grades (0x0c ∷ 0x03 ∷ 0x35 ∷ 0x75 ∷ 0x00 ∷ 0x80 ∷ 0x02 ∷ 0x00 ∷ 0x04 ∷ 0x12 ∷ 0x00 ∷ []) ⟶ gradesAre 0 0 0 2)
     -- C4: one truck, active in round 1, and never active
     ∷ (prints (0x04 ∷ 0x02 ∷ 0x74 ∷ 0x00 ∷ []) ⟶ says "trucks 1 rounds 2\n0 opened 7 decided 7 round 2 sent 1 vetoes 0\nsent 1 vetoes 0\n")
     ∷ (prints (0x04 ∷ 0x02 ∷ 0x70 ∷ 0x00 ∷ []) ⟶ says "trucks 1 rounds 2\n0 opened 7 running 7 sent 0 vetoes 0\nsent 0 vetoes 0\n")
@@ -125,6 +148,22 @@ table =
     ∷ (prints (0x08 ∷ 0x02 ∷ 0x35 ∷ 0x31 ∷ 0x80 ∷ 0x01 ∷ []) ⟶ says "refused 5\n")
     -- C10: C2 with fourth byte 33, truck 0's own bit
     ∷ (prints (0x08 ∷ 0x02 ∷ 0x35 ∷ 0x33 ∷ 0x80 ∷ 0x00 ∷ []) ⟶ says "refused 6 round 1 truck 0\n")
+    -- 1: no byte, and one; a number of trucks that is not there reads 0, and one byte has a 33 in it, but 1 comes first
+    ∷ (prints [] ⟶ says "refused 1\n")
+    ∷ (prints (0x08 ∷ []) ⟶ says "refused 1\n")
+    ∷ (prints (0x84 ∷ []) ⟶ says "refused 1\n")
+    -- 2: n is 0; with R of 401, 2 comes first for n of 0 and of 33
+    ∷ (prints (0x00 ∷ 0x00 ∷ []) ⟶ says "refused 2\n")
+    ∷ (prints (0x01 ∷ 0x91 ∷ []) ⟶ says "refused 2\n")
+    ∷ (prints (0x85 ∷ 0x91 ∷ []) ⟶ says "refused 2\n")
+    -- 3 before 4: R is 401, and the length wrong
+    ∷ (prints (0x05 ∷ 0x91 ∷ []) ⟶ says "refused 3\n")
+    -- 4: C2 with a byte too many; 4 before 5: that byte, or the end bits before it, are not 0
+    ∷ (prints (c2 ++ (0x00 ∷ [])) ⟶ says "refused 4\n")
+    ∷ (prints (c2 ++ (0x01 ∷ [])) ⟶ says "refused 4\n")
+    ∷ (prints (0x08 ∷ 0x02 ∷ 0x35 ∷ 0x31 ∷ 0x80 ∷ 0x01 ∷ 0x00 ∷ []) ⟶ says "refused 4\n")
+    -- 5: the first of the four end bits of C2
+    ∷ (prints (0x08 ∷ 0x02 ∷ 0x35 ∷ 0x31 ∷ 0x80 ∷ 0x08 ∷ []) ⟶ says "refused 5\n")
     -- F-7: C2 with other own bits. That of truck 1 in round 1, besides that of truck 0 in round 2; both in round 2, and that of truck 1 alone
     ∷ (prints (0x08 ∷ 0x02 ∷ 0x35 ∷ 0x31 ∷ 0xc0 ∷ 0x80 ∷ []) ⟶ says "refused 6 round 1 truck 1\n")
     ∷ (prints (0x08 ∷ 0x02 ∷ 0x35 ∷ 0x31 ∷ 0x80 ∷ 0x90 ∷ []) ⟶ says "refused 6 round 2 truck 0\n")
@@ -144,6 +183,24 @@ table =
     ∷ (writes 2 4 (3 ∷ 5 ∷ []) (quiet ++ (0 ∷ 0 ∷ 0 ∷ 0 ∷ 2 ∷ []) ++ (0 ∷ 0 ∷ 0 ∷ 1 ∷ 0 ∷ []) ++ quiet) ⟶ refused (6, At 2 1))
     ∷ (writes 2 4 (3 ∷ 5 ∷ []) (quiet ++ (0 ∷ 0 ∷ 0 ∷ 0 ∷ 2 ∷ []) ++ quiet ++ (0 ∷ 4 ∷ 0 ∷ 0 ∷ 0 ∷ [])) ⟶ refused (8, Unnamed))
     ∷ (writes 2 1 (3 ∷ 16 ∷ []) (0 ∷ 0 ∷ 0 ∷ 1 ∷ 0 ∷ []) ⟶ refused (7, Unnamed))
+    -- 2: n is 0 or 33; 3: R is 401; 7: an opening of 16, one too few, one too many; 8: a word too few, one too many, a bit of truck 2
+    ∷ (writes 0 0 [] [] ⟶ refused (2, Unnamed))
+    ∷ (writes 33 0 (replicate 33 0) [] ⟶ refused (2, Unnamed))
+    ∷ (writes 1 401 (0 ∷ []) (replicate 1604 0) ⟶ refused (3, Unnamed))
+    ∷ (writes 2 1 (3 ∷ 16 ∷ []) quiet ⟶ refused (7, Unnamed))
+    ∷ (writes 2 1 (3 ∷ []) quiet ⟶ refused (7, Unnamed))
+    ∷ (writes 2 1 (3 ∷ 5 ∷ 7 ∷ []) quiet ⟶ refused (7, Unnamed))
+    ∷ (writes 2 1 (3 ∷ 5 ∷ []) (0 ∷ 0 ∷ 0 ∷ 0 ∷ []) ⟶ refused (8, Unnamed))
+    ∷ (writes 2 1 (3 ∷ 5 ∷ []) (0 ∷ quiet) ⟶ refused (8, Unnamed))
+    ∷ (writes 2 1 (3 ∷ 5 ∷ []) (0 ∷ 0 ∷ 0 ∷ 0 ∷ 4 ∷ []) ⟶ refused (8, Unnamed))
+    -- in their order, each with the next one true besides: 2, 3, 7, 8
+    ∷ (writes 33 401 (replicate 33 0) [] ⟶ refused (2, Unnamed))
+    ∷ (writes 1 401 (16 ∷ []) (replicate 1604 0) ⟶ refused (3, Unnamed))
+    ∷ (writes 2 1 (3 ∷ 16 ∷ []) (0 ∷ 0 ∷ 0 ∷ 0 ∷ []) ⟶ refused (7, Unnamed))
+    ∷ (writes 2 1 (3 ∷ 5 ∷ []) (0 ∷ 4 ∷ 0 ∷ 1 ∷ 0 ∷ []) ⟶ refused (8, Unnamed))
+    -- openings of 15, 32 trucks, no rounds
+    ∷ (writes 2 1 (15 ∷ 15 ∷ []) quiet ⟶ refused (0, Unnamed))
+    ∷ (writes 32 0 (replicate 32 15) [] ⟶ refused (0, Unnamed))
     -- F-5: three trucks. All propose in round 1. Truck 0 hears only itself, so it decides in round 2, where the others veto; truck 1 stops in round 3; truck 2
     -- proposes in round 3 with a mark, so it vetoes in round 4. Stop, active and mark bits of the decided and the stopped truck do nothing
     ∷ (prints (0x0c ∷ 0x04 ∷ 0x12 ∷ 0x31 ∷ 0xc3 ∷ 0x00 ∷ 0x00 ∷ 0xc0 ∷ 0xde ∷ 0x80 ∷ 0x17 ∷ 0x00 ∷ 0x00 ∷ []) ⟶ says "trucks 3 rounds 4\n0 opened 1 decided 1 round 2 sent 1 vetoes 0\n1 opened 2 stopped 1 round 3 sent 1 vetoes 1\n2 opened 3 running 1 sent 2 vetoes 2\nsent 4 vetoes 3\n")
@@ -266,4 +323,24 @@ table =
     ∷ (opens (500 ∷ []) (7 ∷ []) (0 ∷ []) ⟶ opening (12, []))
     ∷ (opens (0 ∷ 500 ∷ []) (0 ∷ 7 ∷ []) (40 ∷ 0 ∷ []) ⟶ opening (12, []))
     ∷ (opens (500 ∷ 1 ∷ []) (0 ∷ 0 ∷ []) (40 ∷ 0 ∷ []) ⟶ opening (13, []))
+    -- 10: no roads, 17, and each list longer and shorter than the others; before 11
+    ∷ (opens [] [] [] ⟶ opening (10, []))
+    ∷ (opens (replicate 17 900) (replicate 17 300) (replicate 17 60) ⟶ opening (10, []))
+    ∷ (opens (900 ∷ 900 ∷ []) (300 ∷ []) (60 ∷ []) ⟶ opening (10, []))
+    ∷ (opens (900 ∷ []) (300 ∷ 300 ∷ []) (60 ∷ 60 ∷ []) ⟶ opening (10, []))
+    ∷ (opens (900 ∷ []) (300 ∷ 300 ∷ []) (60 ∷ []) ⟶ opening (10, []))
+    ∷ (opens (900 ∷ 900 ∷ []) (300 ∷ []) (60 ∷ 60 ∷ []) ⟶ opening (10, []))
+    ∷ (opens (900 ∷ []) (300 ∷ []) (60 ∷ 60 ∷ []) ⟶ opening (10, []))
+    ∷ (opens (900 ∷ 900 ∷ []) (300 ∷ 300 ∷ []) (60 ∷ []) ⟶ opening (10, []))
+    ∷ (opens (900 ∷ []) (300 ∷ 300 ∷ []) (3601 ∷ []) ⟶ opening (10, []))
+    -- 16 roads, of which the last is the fastest
+    ∷ (opens (replicate 15 900 ++ (899 ∷ [])) (replicate 16 300) (replicate 16 60) ⟶ opening (0, 15 ∷ []))
+    -- 11: 3,600 seconds are taken; 3,601 on a later road; before 12 on an earlier one, and before 13
+    ∷ (opens (900 ∷ []) (300 ∷ []) (3600 ∷ []) ⟶ opening (0, 0 ∷ []))
+    ∷ (opens (900 ∷ 900 ∷ []) (300 ∷ 300 ∷ []) (60 ∷ 3601 ∷ []) ⟶ opening (11, []))
+    ∷ (opens (900 ∷ 900 ∷ []) (300 ∷ 300 ∷ []) (0 ∷ 3601 ∷ []) ⟶ opening (11, []))
+    ∷ (opens (500 ∷ []) (0 ∷ []) (3601 ∷ []) ⟶ opening (11, []))
+    -- 12: on a later road, also where the first is idle
+    ∷ (opens (900 ∷ 900 ∷ []) (300 ∷ 300 ∷ []) (60 ∷ 0 ∷ []) ⟶ opening (12, []))
+    ∷ (opens (500 ∷ 900 ∷ []) (0 ∷ 300 ∷ []) (40 ∷ 0 ∷ []) ⟶ opening (12, []))
     ∷ []

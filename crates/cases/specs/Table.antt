@@ -4,14 +4,19 @@ use mathlib.Core.Bool.{Bool, true, false}
 use mathlib.Core.List.{List, [], _∷_, _++_}
 use Prim.Native.Nat.{ℕ, _+_}
 use lib.ListN.{replicate}
+use Rattle.listing.specs.Text.{text}
+use Rattle.refusals.specs.declared.Refusal.the-variants.{ShortRecording, RecordingLength, OwnLoss}
 use Rattle.refusals.specs.declared.Location.the-variants.{Unnamed, At}
 use Rattle.protocol.specs.declared.Cycle.the-variants.{TwoRound, SixRound}
+use Rattle.protocol.specs.declared.Heard.{Heard}
 use Rattle.protocol.specs.declared.Heard.the-variants.{Nothing, One, Several}
 use Rattle.protocol.specs.declared.State.{State}
 use Rattle.protocol.specs.declared.State.the-variants.{Running, Stopped, Decided}
 use Rattle.protocol.specs.declared.Truck.{Truck}
-use Rattle.cases.specs.Questions.{Question, prints, gradesIn, grades, leavesIn, estimatesIn, estimates, sendersIn, senders, values, messages, writes, steps, stepsIn, stepsOf, returnsIn, opens, takes}
-use Rattle.cases.specs.Questions.{Reply, numbers, trucks, refused, opening, exactly, says, gradesAre}
+use Rattle.protocol.specs.declared.Fleet.{Fleet}
+use Rattle.cases.specs.Questions.{Question, prints, gradesIn, grades, leavesIn, estimatesIn, estimates, sendersIn, senders, values, messages}
+use Rattle.cases.specs.Questions.{starts, runsIn, runs, reads, lists, writesInto, writes, steps, stepsIn, stepsOf, returnsIn, unpacks, stepsBytesIn, opens, takes}
+use Rattle.cases.specs.Questions.{Reply, numbers, trucks, refused, holds, left, opening, exactly, says, gradesAre, notGraded}
 
 pub record Row : Type 0 where
   pub asks : Question
@@ -36,6 +41,10 @@ c3 = 0x08 ∷ 0x02 ∷ 0x35 ∷ 0x3d ∷ 0x80 ∷ 0x00 ∷ []
 abbrev pub c13 : List ℕ
 c13 = 0x0c ∷ 0x01 ∷ 0x12 ∷ 0x31 ∷ 0xc1 ∷ 0x00 ∷ []
 
+-- two trucks that open with 3 and 5 send in the one round, and truck 0 misses truck 1
+abbrev oneRound : List ℕ
+oneRound = 0x08 ∷ 0x01 ∷ 0x35 ∷ 0x31 ∷ 0x00 ∷ []
+
 -- a round of two trucks in which nothing happens, in plain form
 abbrev quiet : List ℕ
 quiet = 0 ∷ 0 ∷ 0 ∷ 0 ∷ 0 ∷ []
@@ -52,6 +61,21 @@ sender = truckOf 3 3 false
 abbrev six : ℕ → ℕ → Bool → State → Truck
 six o e u s = truckOf o e u s 0 0
 
+-- a truck in this state that remembers whether it had a mark, and what it heard, and has sent nothing
+abbrev minding : Bool → Heard → State → Truck
+minding m h s = record { opening = 3; estimate = 3; mark = m; heard = h; unwilling = false; state = s; sent = record { proposals = 0; vetoes = 0 } }
+
+-- one that runs, opened so, came to this estimate and has sent one proposal
+abbrev proposer : ℕ → ℕ → Bool → Heard → Truck
+proposer o e m h = record { opening = o; estimate = e; mark = m; heard = h; unwilling = false; state = Running; sent = record { proposals = 1; vetoes = 0 } }
+
+-- the record of a refused start or run, and one before round 1 of two trucks that open with 3 and 15
+abbrev noFleet : Fleet
+noFleet = record { n = 0; done = 0; trucks = replicate 32 (six 0 0 false Running) }
+
+abbrev twoTrucks : Fleet
+twoTrucks = record { n = 2; done = 0; trucks = six 3 3 false Running ∷ six 15 15 false Running ∷ replicate 30 (six 0 0 false Running) }
+
 -- a truck in this state that remembers a mark and several values and has sent one proposal
 abbrev remembering : State → Truck
 remembering s = record { opening = 3; estimate = 3; mark = true; heard = Several; unwilling = false; state = s; sent = record { proposals = 1; vetoes = 0 } }
@@ -59,6 +83,22 @@ remembering s = record { opening = 3; estimate = 3; mark = true; heard = Several
 -- an unwilling truck that remembers one value and has sent one proposal
 abbrev unwillingOne : Truck
 unwillingOne = record { opening = 3; estimate = 3; mark = false; heard = One; unwilling = true; state = Running; sent = record { proposals = 1; vetoes = 0 } }
+
+-- two running trucks that opened with 3 and 5
+abbrev threeFive : List Truck
+threeFive = six 3 3 false Running ∷ six 5 5 false Running ∷ []
+
+-- a running truck with something in every part
+abbrev everyPart : Truck
+everyPart = record { opening = 3; estimate = 5; mark = true; heard = Several; unwilling = true; state = Running; sent = record { proposals = 4; vetoes = 6 } }
+
+-- a record of one truck as bytes, with 301 rounds done and these ten bytes of the truck; the other places hold bytes of no truck
+abbrev bytesOf : List ℕ → List ℕ
+bytesOf ten = 1 ∷ 45 ∷ 1 ∷ ten ++ replicate 310 9
+
+-- and as it is taken: the other places hold trucks of opening and estimate 0
+abbrev fleetOf : Truck → Fleet
+fleetOf t = record { n = 1; done = 301; trucks = t ∷ replicate 31 (six 0 0 false Running) }
 
 -- rounds of one truck in plain form: nothing happens, it stops, it is active
 abbrev quietOne : List ℕ
@@ -164,6 +204,25 @@ table =
     ∷ (prints (0x08 ∷ 0x02 ∷ 0x35 ∷ 0x31 ∷ 0x80 ∷ 0x01 ∷ 0x00 ∷ []) ⟶ says "refused 4\n")
     -- 5: the first of the four end bits of C2
     ∷ (prints (0x08 ∷ 0x02 ∷ 0x35 ∷ 0x31 ∷ 0x80 ∷ 0x08 ∷ []) ⟶ says "refused 5\n")
+    -- running and grading are refused as the listing is, and a refused run holds a record of no trucks; a run of no rounds leaves what a start does
+    ∷ (runs [] ⟶ holds (1, Unnamed) noFleet)
+    ∷ (runsIn SixRound (c2 ++ (0x00 ∷ [])) ⟶ holds (4, Unnamed) noFleet)
+    ∷ (runs (0x08 ∷ 0x02 ∷ 0x35 ∷ 0x31 ∷ 0x80 ∷ 0x10 ∷ []) ⟶ holds (6, At 2 1) noFleet)
+    ∷ (runs (0x08 ∷ 0x00 ∷ 0x3f ∷ []) ⟶ holds (0, Unnamed) twoTrucks)
+    ∷ (grades [] ⟶ notGraded ShortRecording)
+    ∷ (gradesIn SixRound (c2 ++ (0x00 ∷ [])) ⟶ notGraded RecordingLength)
+    ∷ (grades (0x08 ∷ 0x02 ∷ 0x35 ∷ 0x31 ∷ 0x80 ∷ 0x10 ∷ []) ⟶ notGraded (OwnLoss 2 1))
+    -- reading to plain form: buffers that are just long enough; longer ones keep the rest; 9: one is a place too short; 6 comes before; nothing is changed
+    ∷ (reads oneRound (9 ∷ 9 ∷ []) (replicate 5 9) ⟶ left (0, 2 ∷ 1 ∷ []) ((3 ∷ 5 ∷ []) ∷ (0 ∷ 3 ∷ 0 ∷ 2 ∷ 0 ∷ []) ∷ []))
+    ∷ (reads oneRound (9 ∷ 9 ∷ 9 ∷ []) (replicate 6 9) ⟶ left (0, 2 ∷ 1 ∷ []) ((3 ∷ 5 ∷ 9 ∷ []) ∷ (0 ∷ 3 ∷ 0 ∷ 2 ∷ 0 ∷ 9 ∷ []) ∷ []))
+    ∷ (reads oneRound (9 ∷ []) (replicate 5 9) ⟶ left (9, []) ((9 ∷ []) ∷ replicate 5 9 ∷ []))
+    ∷ (reads oneRound (9 ∷ 9 ∷ []) (replicate 4 9) ⟶ left (9, []) ((9 ∷ 9 ∷ []) ∷ replicate 4 9 ∷ []))
+    ∷ (reads (0x08 ∷ 0x01 ∷ 0x35 ∷ 0x33 ∷ 0x00 ∷ []) [] [] ⟶ left (6, []) ([] ∷ [] ∷ []))
+    ∷ (reads [] [] [] ⟶ left (1, []) ([] ∷ [] ∷ []))
+    -- listing in a buffer: the 71 bytes of C4, never active, with one over; 9 with one too few; 4 comes before
+    ∷ (lists (0x04 ∷ 0x02 ∷ 0x70 ∷ 0x00 ∷ []) (replicate 72 9) ⟶ left (0, 71 ∷ []) ((text "trucks 1 rounds 2\n0 opened 7 running 7 sent 0 vetoes 0\nsent 0 vetoes 0\n" ++ (9 ∷ [])) ∷ []))
+    ∷ (lists (0x04 ∷ 0x02 ∷ 0x70 ∷ 0x00 ∷ []) (replicate 70 9) ⟶ left (9, []) (replicate 70 9 ∷ []))
+    ∷ (lists (0x04 ∷ 0x02 ∷ 0x70 ∷ []) [] ⟶ left (4, []) ([] ∷ []))
     -- F-7: C2 with other own bits. That of truck 1 in round 1, besides that of truck 0 in round 2; both in round 2, and that of truck 1 alone
     ∷ (prints (0x08 ∷ 0x02 ∷ 0x35 ∷ 0x31 ∷ 0xc0 ∷ 0x80 ∷ []) ⟶ says "refused 6 round 1 truck 1\n")
     ∷ (prints (0x08 ∷ 0x02 ∷ 0x35 ∷ 0x31 ∷ 0x80 ∷ 0x90 ∷ []) ⟶ says "refused 6 round 2 truck 0\n")
@@ -201,6 +260,83 @@ table =
     -- openings of 15, 32 trucks, no rounds
     ∷ (writes 2 1 (15 ∷ 15 ∷ []) quiet ⟶ refused (0, Unnamed))
     ∷ (writes 32 0 (replicate 32 15) [] ⟶ refused (0, Unnamed))
+    -- into a buffer with one byte over; 9 with one too few; 6 comes before; nothing is changed
+    ∷ (writesInto 2 1 (3 ∷ 5 ∷ []) (0 ∷ 3 ∷ 0 ∷ 2 ∷ 0 ∷ []) (replicate 6 9) ⟶ left (0, 5 ∷ []) ((oneRound ++ (9 ∷ [])) ∷ []))
+    ∷ (writesInto 2 1 (3 ∷ 5 ∷ []) (0 ∷ 3 ∷ 0 ∷ 2 ∷ 0 ∷ []) (replicate 4 9) ⟶ left (9, []) (replicate 4 9 ∷ []))
+    ∷ (writesInto 2 1 (3 ∷ 5 ∷ []) (0 ∷ 3 ∷ 0 ∷ 1 ∷ 0 ∷ []) (replicate 4 9) ⟶ left (6, []) (replicate 4 9 ∷ []))
+    -- starting: 2, n is 0 or 33; 7, an opening of 16, one too few, one too many; 2 before 7; a refused start holds a record of no trucks
+    ∷ (starts 0 [] ⟶ holds (2, Unnamed) noFleet)
+    ∷ (starts 33 (replicate 33 0) ⟶ holds (2, Unnamed) noFleet)
+    ∷ (starts 2 (3 ∷ 16 ∷ []) ⟶ holds (7, Unnamed) noFleet)
+    ∷ (starts 2 (3 ∷ []) ⟶ holds (7, Unnamed) noFleet)
+    ∷ (starts 2 (3 ∷ 15 ∷ 0 ∷ []) ⟶ holds (7, Unnamed) noFleet)
+    ∷ (starts 33 (16 ∷ []) ⟶ holds (2, Unnamed) noFleet)
+    ∷ (starts 2 (3 ∷ 15 ∷ []) ⟶ holds (0, Unnamed) twoTrucks)
+    -- a step, 7: n is 0 or 33, and 401 rounds done, where 14 is asked no more; 32 trucks are taken; 7 before 14, 14 before 8, 8 for a word too few and one too many
+    ∷ (steps 0 0 (0 ∷ 0 ∷ 0 ∷ []) ⟶ refused (7, Unnamed))
+    ∷ (steps 33 0 (replicate 36 0) ⟶ refused (7, Unnamed))
+    ∷ (steps 1 401 quietOne ⟶ refused (7, Unnamed))
+    ∷ (steps 32 0 (replicate 35 0) ⟶ refused (0, Unnamed))
+    ∷ (stepsOf 1 400 (six 16 3 false Running ∷ []) quietOne ⟶ refused (7, Unnamed))
+    ∷ (steps 2 400 (0 ∷ 4 ∷ 0 ∷ 0 ∷ 0 ∷ []) ⟶ refused (14, Unnamed))
+    ∷ (steps 2 0 (0 ∷ 0 ∷ 0 ∷ 0 ∷ []) ⟶ refused (8, Unnamed))
+    ∷ (steps 2 0 (0 ∷ quiet) ⟶ refused (8, Unnamed))
+    -- a crusher of 16, as opening and as estimate; 15 is taken
+    ∷ (stepsOf 1 0 (six 16 3 false Running ∷ []) quietOne ⟶ refused (7, Unnamed))
+    ∷ (stepsOf 1 0 (six 3 16 false Running ∷ []) quietOne ⟶ refused (7, Unnamed))
+    ∷ (stepsOf 1 0 (six 15 15 false Running ∷ []) quietOne ⟶ refused (0, Unnamed))
+    -- a memory with even rounds done: a mark, one value, several values; with odd rounds done it is taken of a running truck
+    ∷ (stepsOf 1 2 (minding true Nothing Running ∷ []) quietOne ⟶ refused (7, Unnamed))
+    ∷ (stepsOf 1 2 (minding false One Running ∷ []) quietOne ⟶ refused (7, Unnamed))
+    ∷ (stepsOf 1 2 (minding false Several Running ∷ []) quietOne ⟶ refused (7, Unnamed))
+    ∷ (stepsOf 1 3 (minding true Nothing Running ∷ []) quietOne ⟶ refused (0, Unnamed))
+    ∷ (stepsOf 1 3 (minding false One Running ∷ []) quietOne ⟶ refused (0, Unnamed))
+    ∷ (stepsOf 1 3 (minding false Several Running ∷ []) quietOne ⟶ refused (0, Unnamed))
+    -- but not of a stopped one, nor of a decided one
+    ∷ (stepsOf 1 3 (minding true Nothing (Stopped 2) ∷ []) quietOne ⟶ refused (7, Unnamed))
+    ∷ (stepsOf 1 3 (minding false One (Stopped 2) ∷ []) quietOne ⟶ refused (7, Unnamed))
+    ∷ (stepsOf 1 3 (minding false Several (Stopped 2) ∷ []) quietOne ⟶ refused (7, Unnamed))
+    ∷ (stepsOf 1 3 (minding true Nothing (Decided 2) ∷ []) quietOne ⟶ refused (7, Unnamed))
+    ∷ (stepsOf 1 3 (minding false One (Decided 2) ∷ []) quietOne ⟶ refused (7, Unnamed))
+    ∷ (stepsOf 1 3 (minding false Several (Decided 2) ∷ []) quietOne ⟶ refused (7, Unnamed))
+    -- a stop round of 0, and one later than the rounds done; the last of them, odd or even, is taken
+    ∷ (stepsOf 1 5 (six 3 3 false (Stopped 0) ∷ []) quietOne ⟶ refused (7, Unnamed))
+    ∷ (stepsOf 1 5 (six 3 3 false (Stopped 6) ∷ []) quietOne ⟶ refused (7, Unnamed))
+    ∷ (stepsOf 1 5 (six 3 3 false (Stopped 5) ∷ []) quietOne ⟶ refused (0, Unnamed))
+    ∷ (stepsOf 1 4 (six 3 3 false (Stopped 4) ∷ []) quietOne ⟶ refused (0, Unnamed))
+    -- a decided round of 0, an odd one, and one later than the rounds done; the last of them is taken
+    ∷ (stepsOf 1 5 (six 3 3 false (Decided 0) ∷ []) quietOne ⟶ refused (7, Unnamed))
+    ∷ (stepsOf 1 5 (six 3 3 false (Decided 3) ∷ []) quietOne ⟶ refused (7, Unnamed))
+    ∷ (stepsOf 1 5 (six 3 3 false (Decided 6) ∷ []) quietOne ⟶ refused (7, Unnamed))
+    ∷ (stepsOf 1 4 (six 3 3 false (Decided 4) ∷ []) quietOne ⟶ refused (0, Unnamed))
+    -- the memory after a proposal round of two trucks. Both have a mark: truck 0 heard itself alone, truck 1 heard both; both keep their estimates
+    ∷ (returnsIn TwoRound 2 0 threeFive (0 ∷ 3 ∷ 3 ∷ 2 ∷ 0 ∷ []) ⟶ trucks (proposer 3 3 true One ∷ proposer 5 5 true Several ∷ []))
+    -- the same without marks: truck 1 takes the least value
+    ∷ (returnsIn TwoRound 2 0 threeFive (0 ∷ 3 ∷ 0 ∷ 2 ∷ 0 ∷ []) ⟶ trucks (proposer 3 3 false One ∷ proposer 5 3 false Several ∷ []))
+    -- nobody sends, and truck 0 has a mark; a refused step returns the trucks that it was given
+    ∷ (returnsIn TwoRound 2 0 threeFive (0 ∷ 0 ∷ 1 ∷ 0 ∷ 0 ∷ []) ⟶ trucks (minding true Nothing Running ∷ six 5 5 false Running ∷ []))
+    ∷ (returnsIn TwoRound 2 0 threeFive (0 ∷ 3 ∷ 0 ∷ 1 ∷ 0 ∷ []) ⟶ trucks threeFive)
+    -- a record as bytes: a running truck with every part of it, a stopped one, a decided one, one that heard one value
+    ∷ (unpacks (bytesOf (3 ∷ 5 ∷ 1 ∷ 2 ∷ 0 ∷ 0 ∷ 0 ∷ 4 ∷ 6 ∷ 1 ∷ [])) ⟶ holds (0, Unnamed) (fleetOf everyPart))
+    ∷ (unpacks (bytesOf (3 ∷ 5 ∷ 0 ∷ 0 ∷ 1 ∷ 44 ∷ 1 ∷ 0 ∷ 0 ∷ 0 ∷ [])) ⟶ holds (0, Unnamed) (fleetOf (six 3 5 false (Stopped 300))))
+    ∷ (unpacks (bytesOf (3 ∷ 5 ∷ 0 ∷ 0 ∷ 2 ∷ 44 ∷ 1 ∷ 0 ∷ 0 ∷ 0 ∷ [])) ⟶ holds (0, Unnamed) (fleetOf (six 3 5 false (Decided 300))))
+    ∷ (unpacks (bytesOf (3 ∷ 3 ∷ 0 ∷ 1 ∷ 0 ∷ 0 ∷ 0 ∷ 0 ∷ 0 ∷ 0 ∷ [])) ⟶ holds (0, Unnamed) (fleetOf (minding false One Running)))
+    -- bytes that are no record, 7 and no trucks: one too few, n of 0 and of 33, a mark of 2, 3 for what it heard, 3 for its state, a running truck with a round in
+    -- either byte, 2 for whether it is unwilling
+    ∷ (unpacks (1 ∷ replicate 321 0) ⟶ holds (7, Unnamed) noFleet)
+    ∷ (unpacks (0 ∷ replicate 322 0) ⟶ holds (7, Unnamed) noFleet)
+    ∷ (unpacks (33 ∷ replicate 322 0) ⟶ holds (7, Unnamed) noFleet)
+    ∷ (unpacks (bytesOf (3 ∷ 3 ∷ 2 ∷ 0 ∷ 0 ∷ 0 ∷ 0 ∷ 0 ∷ 0 ∷ 0 ∷ [])) ⟶ holds (7, Unnamed) noFleet)
+    ∷ (unpacks (bytesOf (3 ∷ 3 ∷ 0 ∷ 3 ∷ 0 ∷ 0 ∷ 0 ∷ 0 ∷ 0 ∷ 0 ∷ [])) ⟶ holds (7, Unnamed) noFleet)
+    ∷ (unpacks (bytesOf (3 ∷ 3 ∷ 0 ∷ 0 ∷ 3 ∷ 0 ∷ 0 ∷ 0 ∷ 0 ∷ 0 ∷ [])) ⟶ holds (7, Unnamed) noFleet)
+    ∷ (unpacks (bytesOf (3 ∷ 3 ∷ 0 ∷ 0 ∷ 0 ∷ 1 ∷ 0 ∷ 0 ∷ 0 ∷ 0 ∷ [])) ⟶ holds (7, Unnamed) noFleet)
+    ∷ (unpacks (bytesOf (3 ∷ 3 ∷ 0 ∷ 0 ∷ 0 ∷ 0 ∷ 1 ∷ 0 ∷ 0 ∷ 0 ∷ [])) ⟶ holds (7, Unnamed) noFleet)
+    ∷ (unpacks (bytesOf (3 ∷ 3 ∷ 0 ∷ 0 ∷ 0 ∷ 0 ∷ 0 ∷ 0 ∷ 0 ∷ 2 ∷ [])) ⟶ holds (7, Unnamed) noFleet)
+    -- a step of such bytes, and of a record with a crusher of 16, is refused 7, and they stay; an accepted one leaves the round done, and the veto sent
+    ∷ (stepsBytesIn TwoRound (bytesOf (3 ∷ 3 ∷ 2 ∷ 0 ∷ 0 ∷ 0 ∷ 0 ∷ 0 ∷ 0 ∷ 0 ∷ [])) quietOne ⟶ left (7, []) (bytesOf (3 ∷ 3 ∷ 2 ∷ 0 ∷ 0 ∷ 0 ∷ 0 ∷ 0 ∷ 0 ∷ 0 ∷ []) ∷ []))
+    ∷ (stepsBytesIn SixRound (1 ∷ 2 ∷ []) quietOne ⟶ left (7, []) ((1 ∷ 2 ∷ []) ∷ []))
+    ∷ (stepsBytesIn TwoRound (bytesOf (16 ∷ 3 ∷ 0 ∷ 0 ∷ 0 ∷ 0 ∷ 0 ∷ 0 ∷ 0 ∷ 0 ∷ [])) quietOne ⟶ left (7, []) (bytesOf (16 ∷ 3 ∷ 0 ∷ 0 ∷ 0 ∷ 0 ∷ 0 ∷ 0 ∷ 0 ∷ 0 ∷ []) ∷ []))
+    ∷ (stepsBytesIn TwoRound (bytesOf (3 ∷ 3 ∷ 1 ∷ 1 ∷ 0 ∷ 0 ∷ 0 ∷ 0 ∷ 0 ∷ 0 ∷ [])) quietOne ⟶ left (0, []) ((1 ∷ 46 ∷ 1 ∷ 3 ∷ 3 ∷ 0 ∷ 0 ∷ 0 ∷ 0 ∷ 0 ∷ 0 ∷ 1 ∷ 0 ∷ replicate 310 9) ∷ []))
     -- F-5: three trucks. All propose in round 1. Truck 0 hears only itself, so it decides in round 2, where the others veto; truck 1 stops in round 3; truck 2
     -- proposes in round 3 with a mark, so it vetoes in round 4. Stop, active and mark bits of the decided and the stopped truck do nothing
     ∷ (prints (0x0c ∷ 0x04 ∷ 0x12 ∷ 0x31 ∷ 0xc3 ∷ 0x00 ∷ 0x00 ∷ 0xc0 ∷ 0xde ∷ 0x80 ∷ 0x17 ∷ 0x00 ∷ 0x00 ∷ []) ⟶ says "trucks 3 rounds 4\n0 opened 1 decided 1 round 2 sent 1 vetoes 0\n1 opened 2 stopped 1 round 3 sent 1 vetoes 1\n2 opened 3 running 1 sent 2 vetoes 2\nsent 4 vetoes 3\n")

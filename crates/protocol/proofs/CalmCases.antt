@@ -38,3 +38,20 @@ not-calm = (refl, refl, refl)
 pub calm-idle : (asks (but 0 (3 ∷ 0 ∷ 0 ∷ 0 ∷ 0 ∷ [])) 5 1 0 ≡ true) × (asks plain 10 6 0 ≡ true)
 unfolding tabFrom tab filled allBelow who first someBelow sent hears heardBy heard misses missesAny judged accurate inFull fewSenders someRunning calmRound calmFor stateAt allSame different leastOr radioIn valuesIn playsIn afterIn openedIn trucksIn radiosIn calm
 calm-idle = (refl, refl)
+
+-- rounds of more than b senders need not be heard in full: both veto in round 2, truck 0 misses the other veto, and truck 0 alone proposes in round 3
+abbrev vetoMissed : ℕ → List ℕ
+vetoMissed k = cond (eqb k 1) (0 ∷ 0 ∷ 0 ∷ 2 ∷ 0 ∷ []) (cond (eqb k 2) (0 ∷ 1 ∷ 0 ∷ 0 ∷ 0 ∷ []) (plain k))
+
+-- stopped trucks need not hear: truck 1 stops in round 1, where nobody proposes, and misses what truck 0 proposes in round 3
+abbrev stoppedDeaf : ℕ → List ℕ
+stoppedDeaf k = cond (eqb k 0) (2 ∷ 0 ∷ 0 ∷ 0 ∷ 0 ∷ []) (cond (eqb k 2) (0 ∷ 1 ∷ 0 ∷ 0 ∷ 1 ∷ []) (plain k))
+
+-- nor decided ones: truck 0 alone proposes in round 1 and decides in round 2, where truck 1 has a mark; truck 0 misses what truck 1 proposes in round 3
+abbrev decidedDeaf : ℕ → List ℕ
+decidedDeaf k = cond (eqb k 0) (0 ∷ 1 ∷ 0 ∷ 0 ∷ 0 ∷ []) (cond (eqb k 1) (0 ∷ 0 ∷ 2 ∷ 0 ∷ 0 ∷ []) (cond (eqb k 2) (0 ∷ 2 ∷ 0 ∷ 2 ∷ 0 ∷ []) (plain k)))
+
+-- with b 1 the first is calm from S 2, and with b 2 it is not; the others are calm from S 3 with b 1
+pub calm-unheard : (asks vetoMissed 6 2 1 ≡ true) × (asks vetoMissed 6 2 2 ≡ false) × (asks stoppedDeaf 7 3 1 ≡ true) × (asks decidedDeaf 7 3 1 ≡ true)
+unfolding tabFrom tab filled allBelow who first someBelow sent hears heardBy heard misses missesAny judged accurate inFull fewSenders someRunning calmRound calmFor stateAt allSame different leastOr radioIn valuesIn playsIn afterIn openedIn trucksIn radiosIn calm
+calm-unheard = (refl, refl, refl, refl)

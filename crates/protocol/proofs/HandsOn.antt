@@ -26,10 +26,23 @@ use Rattle.protocol.specs.Cycles.{isRunning, Kind, Rules, turn, truckIn,
 use Rattle.protocol.specs.Rules.{truck, twoRules}
 use Rattle.protocol.specs.Six.{sixRules}
 use Rattle.protocol.specs.Fleets.{Protocol, twoRound, sixRound, answer, goodTruckIn, goodFleetIn, stepCheckIn, nextFleetIn, steppedIn}
-use Rattle.protocol.specs.Parts.{memoryPart, withoutMemory, willingPart, withoutWilling, eachTruck, HandsOnOther}
+use Rattle.protocol.specs.Parts.{commonPart, memoryPart, withoutMemory, willingPart, withoutWilling, eachTruck, HandsOnOther}
 use Rattle.protocol.proofs.AnyRound.{after-cases, plays-is}
 use Rattle.protocol.proofs.Rules.{plays-odd, plays-even, plays-cases}
 use Rattle.protocol.proofs.SixRound.{six-prepare, six-bit, six-accept, six-cases}
+
+-- the parts of a truck are the whole of it
+pub parts-whole : (t u : Truck) → commonPart t ≡ commonPart u → memoryPart t ≡ memoryPart u → willingPart t ≡ willingPart u → t ≡ u
+parts-whole t u common memory willing =
+    λ x. record {
+      opening = common x .0;
+      estimate = common x .1;
+      mark = memory x .0;
+      heard = memory x .1;
+      unwilling = willing x;
+      state = common x .2;
+      sent = memory x .2;
+    }
 
 -- what a cycle has to show of a part that it hands on: a stop and a round leave it
 record Leaves {T A : Type 0} {K : Kind T} (c : Rules K) (part : T → A) : Type 0 where
@@ -172,6 +185,7 @@ two-hands-on : HandsOnOther TwoRound
 unfolding goodTruckIn
 two-hands-on =
     record {
+      removed = record { fresh = λ t. refl; common = λ t. refl; others = λ t. refl };
       kept = kept-by twoRound willingPart (record {
         stops = λ k t. refl;
         plays = λ k b s m vs t. plays-cases k b s m vs t (λ (u : Truck). u .unwilling ≡ t .unwilling) (λ e. refl) (λ e. refl);
@@ -205,6 +219,7 @@ six-hands-on : HandsOnOther SixRound
 unfolding goodTruckIn
 six-hands-on =
     record {
+      removed = record { fresh = λ t. refl; common = λ t. refl; others = λ t. refl };
       kept = kept-by sixRound memoryPart six-leaves;
       unread = unread-by sixRound withoutMemory (record {
         opened = refl;

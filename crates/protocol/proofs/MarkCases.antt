@@ -1,4 +1,5 @@
--- What agreement asks of marks, computed on three recordings: it is met where marks are not majority complete, and each half of it is needed.
+-- What agreement asks of marks, computed on four recordings: it is met where marks are not majority complete, not complete and not accurate, and each half of it is
+-- needed.
 use mathlib.Core.Path.{_≡_, refl}
 use mathlib.Core.Bool.{Bool, true, false, false≢true}
 use mathlib.Core.List.{List, [], _∷_}
@@ -7,13 +8,13 @@ use native.Mathlib.Omega.{arith}
 use Rattle.basics.specs.Bits.{odd}
 use Rattle.basics.specs.Lists.{tabFrom, tab, filled, allBelow, who, first, someBelow}
 use Rattle.basics.proofs.Laws.{allBelow-at}
-use Rattle.radio.specs.Radio.{Radio, implies, sent, hears, heardBy, heard, misses, missesAny, judged, majorityComplete, zeroComplete, accurate}
+use Rattle.radio.specs.Radio.{Radio, implies, sent, hears, heardBy, heard, misses, missesAny, judged, complete, majorityComplete, zeroComplete, accurate}
 use Rattle.radio.specs.Runs.{stateAt}
 use Rattle.refusals.specs.declared.Outcome.the-variants.{Accepted}
 use Rattle.recording.specs.Packed.{bitAt, numAt, rowAt, trucksOf, roundsOf, openingAt, openingsOf, wordAt, wordsOf, roundAt, bitsFor, bytesFor}
 use Rattle.recording.specs.Checks.{tooShort, badTrucks, badRounds, badLength, endBit, ownBit, ownIn, ownLoss, ownRound, ownTruck, ownLossCheck, frameCheck, ownCheck, checkOf}
 use Rattle.protocol.specs.declared.State.{State}
-use Rattle.protocol.specs.declared.State.the-variants.{Decided}
+use Rattle.protocol.specs.declared.State.the-variants.{Running, Decided}
 use Rattle.protocol.specs.Cycles.{radioIn, valuesIn, playsIn, afterIn}
 use Rattle.protocol.specs.Rules.{truck, allSame, different, leastOr}
 use Rattle.protocol.specs.Runs.{openedIn, trucksIn, radiosIn}
@@ -32,6 +33,10 @@ c2 = 0x08 ∷ 0x02 ∷ 0x35 ∷ 0x31 ∷ 0x80 ∷ 0x00 ∷ []
 -- three trucks open with 5, 5 and 3; trucks 0 and 1 miss the 3 in round 1, hearing two of three, and the veto of truck 2 in round 2, without a mark
 abbrev vetoMissed : List ℕ
 vetoMissed = 0x0c ∷ 0x04 ∷ 0x55 ∷ 0x31 ∷ 0xc1 ∷ 0x20 ∷ 0x00 ∷ 0x48 ∷ 0x04 ∷ 0x00 ∷ 0x00 ∷ 0x00 ∷ 0x00 ∷ []
+
+-- three trucks open with 4 and send it in round 1, where truck 0 misses truck 2, hearing two of three, without a mark; in round 2 truck 1 has a false mark
+abbrev twoOfThree : List ℕ
+twoOfThree = 0x0c ∷ 0x02 ∷ 0x44 ∷ 0x41 ∷ 0xc1 ∷ 0x00 ∷ 0x04 ∷ 0x00 ∷ []
 
 -- of a recording, by any protocol
 module _ (p : Protocol) where
@@ -71,6 +76,12 @@ pub mixed-not-majority : MixedMarks (trucksOf halfHeard) (openingsOf halfHeard) 
     × (MajorityMarks (trucksOf halfHeard) (openingsOf halfHeard) (roundAt halfHeard) (roundsOf halfHeard) → ⊥)
 unfolding tabFrom tab filled allBelow who first someBelow sent hears heardBy heard judged majorityComplete zeroComplete stateAt bitAt numAt rowAt trucksOf roundsOf openingAt openingsOf wordAt wordsOf roundAt allSame different leastOr radioIn valuesIn playsIn afterIn openedIn trucksIn radiosIn
 mixed-not-majority = (rounds-have twoRound twoWorth halfHeard refl, λ marks. false≢true (marks 2 (omega arith) (omega arith)))
+
+-- marks that are majority complete throughout, but neither complete nor accurate: demand 3 asks for no more
+pub majority-alone : MajorityMarks (trucksOf twoOfThree) (openingsOf twoOfThree) (roundAt twoOfThree) (roundsOf twoOfThree)
+    × (worths (λ k. complete) twoOfThree ≡ false ∷ true ∷ []) × (worths (λ k. accurate) twoOfThree ≡ true ∷ false ∷ []) × (ends twoOfThree ≡ (Decided 2, 4) ∷ (Running, 4) ∷ (Decided 2, 4) ∷ [])
+unfolding tabFrom tab filled allBelow who first someBelow sent hears heardBy heard judged majorityComplete zeroComplete stateAt bitAt numAt rowAt trucksOf roundsOf openingAt openingsOf wordAt wordsOf roundAt allSame different leastOr radioIn valuesIn playsIn afterIn openedIn trucksIn radiosIn complete misses missesAny accurate bitsFor bytesFor tooShort badTrucks badRounds badLength endBit ownBit ownIn ownLoss ownRound ownTruck ownLossCheck frameCheck ownCheck checkOf blank fleetIn ranIn
+majority-alone = (rounds-have twoRound (λ k. majorityComplete) twoOfThree refl, refl, refl, refl)
 
 -- in C2 only the marks of an odd round are too weak, and with a veto missed only those of an even one; in both, two trucks decide differently
 pub too-weak : (worths twoWorth c2 ≡ false ∷ true ∷ []) × (worths (λ k. zeroComplete) c2 ≡ true ∷ true ∷ []) × (ends c2 ≡ (Decided 2, 3) ∷ (Decided 2, 5) ∷ [])

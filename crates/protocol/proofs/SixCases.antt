@@ -6,7 +6,7 @@ use Prim.Native.Nat.{ℕ}
 use native.Mathlib.Omega.{arith}
 use lib.Dec.{eqb}
 use Rattle.basics.specs.Lists.{tabFrom, tab, filled, allBelow, who, first, someBelow}
-use Rattle.radio.specs.Radio.{implies, sent, hears, heardBy, heard, misses, missesAny, judged, zeroComplete, accurate, inFull, fewSenders, someRunning, calmRound, calmFor}
+use Rattle.radio.specs.Radio.{implies, sent, hears, heardBy, heard, misses, missesAny, judged, majorityComplete, zeroComplete, accurate, inFull, fewSenders, someRunning, calmRound, calmFor}
 use Rattle.radio.specs.Runs.{stateAt}
 use Rattle.recording.specs.Packed.{bitAt, numAt, rowAt, trucksOf, roundsOf, openingAt, openingsOf, wordAt, wordsOf, roundAt, bitsFor, bytesFor}
 use Rattle.recording.specs.Checks.{tooShort, badTrucks, badRounds, badLength, endBit, ownBit, ownIn, ownLoss, ownRound, ownTruck, ownLossCheck, frameCheck, ownCheck, checkOf}
@@ -82,6 +82,18 @@ zero-six = (refl, refl, refl, refl, refl, refl)
 pub zero-met : ZeroMarks (trucksOf heardAll) (openingsOf heardAll) (roundAt heardAll) (roundsOf heardAll)
 unfolding tabFrom tab filled allBelow who first someBelow sent hears heardBy heard judged zeroComplete stateAt bitAt numAt rowAt trucksOf roundsOf openingAt openingsOf wordAt wordsOf roundAt leastOr radioIn valuesIn playsIn afterIn openedIn trucksIn radiosIn
 zero-met = rounds-have sixRound (λ k. zeroComplete) heardAll refl
+
+-- three trucks open with 4 and send it in prepare, where truck 0 hears itself alone, one of three, without a mark; in accept truck 1 has a false mark
+abbrev oneOfThree : List ℕ
+oneOfThree = 0x0c ∷ 0x06 ∷ 0x44 ∷ 0x41 ∷ 0xc3 ∷ 0x00 ∷ 0x00 ∷ 0x00 ∷ 0x00 ∷ 0x00 ∷ 0x00 ∷ 0x00 ∷ 0x00 ∷ 0x00 ∷ 0x00 ∷ 0x04 ∷ 0x00 ∷ []
+
+-- marks that are zero complete throughout, but neither majority complete nor accurate: agreement asks for no more
+pub zero-alone : ZeroMarks (trucksOf oneOfThree) (openingsOf oneOfThree) (roundAt oneOfThree) (roundsOf oneOfThree)
+    × (worthsIn sixRound (λ k. majorityComplete) oneOfThree ≡ false ∷ true ∷ true ∷ true ∷ true ∷ true ∷ [])
+    × (worthsIn sixRound (λ k. accurate) oneOfThree ≡ true ∷ true ∷ true ∷ true ∷ true ∷ false ∷ [])
+    × (endsIn sixRound oneOfThree ≡ (Decided 6, 4) ∷ (Running, 4) ∷ (Decided 6, 4) ∷ [])
+unfolding tabFrom tab filled allBelow who first someBelow sent hears heardBy heard judged zeroComplete stateAt bitAt numAt rowAt trucksOf roundsOf openingAt openingsOf wordAt wordsOf roundAt leastOr radioIn valuesIn playsIn afterIn openedIn trucksIn radiosIn majorityComplete misses missesAny accurate bitsFor bytesFor tooShort badTrucks badRounds badLength endBit ownBit ownIn ownLoss ownRound ownTruck ownLossCheck frameCheck ownCheck checkOf blank fleetIn ranIn
+zero-alone = (rounds-have sixRound (λ k. zeroComplete) oneOfThree refl, refl, refl, refl)
 
 -- no agreement with marks that are worth nothing in bit rounds
 pub bits-need-marks : HoldsIn sixRound (agreesWith (MarksIn sixRound (λ k a. implies (isPrepare k || isAccept k) (zeroComplete a)))) → ⊥

@@ -7,11 +7,16 @@ use Rattle.protocol.specs.declared.Cycle.{Cycle}
 use Rattle.protocol.specs.declared.Cycle.the-variants.{TwoRound, SixRound}
 use Rattle.protocol.specs.declared.Heard.{Heard}
 use Rattle.protocol.specs.declared.Heard.the-variants.{Nothing}
+use Rattle.protocol.specs.declared.State.{State}
 use Rattle.protocol.specs.declared.Sent.{Sent}
 use Rattle.protocol.specs.declared.Truck.{Truck}
 use Rattle.protocol.specs.declared.Fleet.{Fleet}
-use Rattle.protocol.specs.Rules.{truck}
+use Rattle.protocol.specs.Rules.{truck, opened}
 use Rattle.protocol.specs.Fleets.{Protocol, twoRound, sixRound, steppedIn}
+
+-- what is no cycle's own: the opening, the estimate and the state
+abbrev pub commonPart : Truck → ℕ × ℕ × State
+commonPart t = (t .opening, t .estimate, t .state)
 
 -- the two-round cycle's part: the memory and the counts; and a truck where it is as before round 1
 abbrev pub memoryPart : Truck → Bool × Heard × Sent
@@ -41,8 +46,15 @@ withoutWilling t =
 abbrev pub eachTruck : (Truck → Truck) → Fleet → Fleet
 eachTruck g f = record { n = f .n; done = f .done; trucks = map g (f .trucks) }
 
+-- a truck without a part: the part is as before round 1, and what is common to all cycles and the other cycle's part are as they were
+pub record Without {A B : Type 0} (part : Truck → A) (other : Truck → B) (without : Truck → Truck) : Type 0 where
+  pub fresh : (t : Truck) → part (without t) ≡ part (opened (t .opening))
+  pub common : (t : Truck) → commonPart (without t) ≡ commonPart t
+  pub others : (t : Truck) → other (without t) ≡ other t
+
 -- a step, accepted or refused, hands on a part of every truck unread
-pub record HandsOn {A : Type 0} (p : Protocol) (part : Truck → A) (without : Truck → Truck) : Type 0 where
+pub record HandsOn {A B : Type 0} (p : Protocol) (part : Truck → A) (other : Truck → B) (without : Truck → Truck) : Type 0 where
+  pub removed : Without part other without
   -- in every place the part is as it was
   pub kept : (f : Fleet) (w : List ℕ) (i : ℕ) → part (truck (steppedIn p f w .fleet .trucks) i) ≡ part (truck (f .trucks) i)
   -- a step of the record without the part has the same outcome, and returns the same record without it
@@ -51,5 +63,5 @@ pub record HandsOn {A : Type 0} (p : Protocol) (part : Truck → A) (without : T
 
 -- a step in either cycle hands on the other's part unread
 abbrev pub HandsOnOther : Cycle → Type 0
-HandsOnOther TwoRound = HandsOn twoRound willingPart withoutWilling
-HandsOnOther SixRound = HandsOn sixRound memoryPart withoutMemory
+HandsOnOther TwoRound = HandsOn twoRound willingPart memoryPart withoutWilling
+HandsOnOther SixRound = HandsOn sixRound memoryPart willingPart withoutMemory

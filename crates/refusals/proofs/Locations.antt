@@ -9,7 +9,7 @@ use Rattle.refusals.specs.declared.Outcome.{Outcome}
 use Rattle.refusals.specs.declared.Outcome.the-variants.{Accepted, Refused}
 use Rattle.refusals.specs.declared.Location.the-variants.{Unnamed, At}
 use Rattle.refusals.specs.Numbers.{numberOf, outcomeNumber}
-use Rattle.refusals.specs.Locations.{locationOf}
+use Rattle.refusals.specs.Locations.{locationOf, locationNumber}
 
 unnamed-not : {A : Type 0} (round truck : ℕ) → Unnamed ≡ At round truck → A
 unnamed-not round truck h = let z : _≡_ {A = ℕ} 0 1 = cc in absurd (omega arith)
@@ -29,6 +29,10 @@ named-6 Seconds round truck h = unnamed-not round truck h
 named-6 NoTime round truck h = unnamed-not round truck h
 named-6 AllIdle round truck h = unnamed-not round truck h
 named-6 RoundsDone round truck h = unnamed-not round truck h
+
+-- the number of a location computed: none; round 1 and truck 0; round 400 and truck 31
+pub location-numbers : (locationNumber Unnamed ≡ 0) × (locationNumber (At 1 0) ≡ 256) × (locationNumber (At 400 31) ≡ 102431)
+location-numbers = (refl, refl, refl)
 
 -- and it alone has the number 6
 refusal-6 : (r : Refusal) → numberOf r ≡ 6 → (round : ℕ) × (truck : ℕ) × (r ≡ OwnLoss round truck)

@@ -3,7 +3,7 @@ ghost use mathlib.Core.Path.{_≡_};
 ghost use Prim.Native.Nat.{_≤_};
 ghost use lib.ListN.{length, take};
 ghost use Rattle.listing.specs.Text.{printed, refusalText};
-ghost use Rattle.listing.specs.Program.{longestListing};
+ghost use Rattle.listing.specs.Program.{longestListing, inputLimit};
 ghost use Rattle.replay.specs.Input.{bytesRead};
 use listing::Listed;
 
@@ -13,8 +13,9 @@ enum Input {
     Failed,
 }
 
-// Reads until the buffer is full, the input ends, or a read fails.
+// Reads until the buffer is full, the input ends, or a read fails. The buffer has the bytes that the program reads at most.
 fn read_input(buf: &mut [u8]) -> Input
+    requires { ⌜ length (now buf) ≡ inputLimit ⌝ }
     ensures { λ r. ⌜ bytesRead r ≤ length (now (buf .exit)) ⌝ }
 {
     let mut n = 0;

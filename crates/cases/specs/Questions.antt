@@ -25,13 +25,15 @@ use Rattle.protocol.specs.Fleets.{chosen, started, stepCheckIn, steppedIn, ranI
 use Rattle.plain.specs.Forms.{readAnswer, readPlain, writeAnswer, writePlain}
 use Rattle.recordbytes.specs.Layout.{unpacked}
 use Rattle.fleet.specs.Bytes.{bytesCheckIn, bytesStepIn}
-use Rattle.listing.specs.Text.{text, printed}
+use Rattle.listing.specs.Text.{text, decimal, printed}
 use Rattle.listing.specs.Listed.{listAnswer, listed}
 use Rattle.roads.specs.Opening.{Road, numerator, denominator, openingOf, openingAnswer}
 
 pub data Question : Type 0 where
   -- what is printed for a recording
   prints : List ℕ → Question
+  -- how a number is printed
+  shows : ℕ → Question
   -- the grading of a recording in a cycle
   gradesIn : Cycle → List ℕ → Question
   -- the trucks that running a recording in a cycle leaves
@@ -124,6 +126,7 @@ held a = holds (outcomeNumber (a .outcome), outcomeLocation (a .outcome)) (a .fl
 -- the reply that the definitions give
 unfoldable pub reply : Question → Reply
 reply (prints s) = bytes (printed s)
+reply (shows k) = bytes (decimal k)
 reply (gradesIn c s) = grading (gradedIn (chosen c) s)
 reply (leavesIn c s) = firstOf (trucksOf s) (ranIn (chosen c) s .fleet .trucks)
 reply (estimatesIn c k s) =

@@ -14,7 +14,7 @@ use Rattle.protocol.specs.declared.State.{State}
 use Rattle.protocol.specs.declared.State.the-variants.{Running, Stopped, Decided}
 use Rattle.protocol.specs.declared.Truck.{Truck}
 use Rattle.protocol.specs.declared.Fleet.{Fleet}
-use Rattle.cases.specs.Questions.{Question, prints, gradesIn, grades, leavesIn, estimatesIn, estimates, sendersIn, senders, values, messages}
+use Rattle.cases.specs.Questions.{Question, prints, shows, gradesIn, grades, leavesIn, estimatesIn, estimates, sendersIn, senders, values, messages}
 use Rattle.cases.specs.Questions.{starts, runsIn, runs, reads, lists, writesInto, writes, steps, stepsIn, stepsOf, returnsIn, unpacks, stepsBytesIn, opens, takes}
 use Rattle.cases.specs.Questions.{Reply, numbers, trucks, refused, holds, left, opening, exactly, says, gradesAre, notGraded}
 
@@ -342,6 +342,12 @@ table =
     ∷ (prints (0x0c ∷ 0x04 ∷ 0x12 ∷ 0x31 ∷ 0xc3 ∷ 0x00 ∷ 0x00 ∷ 0xc0 ∷ 0xde ∷ 0x80 ∷ 0x17 ∷ 0x00 ∷ 0x00 ∷ []) ⟶ says "trucks 3 rounds 4\n0 opened 1 decided 1 round 2 sent 1 vetoes 0\n1 opened 2 stopped 1 round 3 sent 1 vetoes 1\n2 opened 3 running 1 sent 2 vetoes 2\nsent 4 vetoes 3\n")
     -- one truck that is active and has a mark in every proposal round of 400
     ∷ (prints (0x05 ∷ 0x90 ∷ replicate 200 0x06 ++ (0x00 ∷ [])) ⟶ says "trucks 1 rounds 400\n0 opened 0 running 0 sent 200 vetoes 200\nsent 200 vetoes 200\n")
+    -- numbers: 32 trucks that propose in 200 rounds make the largest that is printed
+    ∷ (shows 0 ⟶ says "0")
+    ∷ (shows 10 ⟶ says "10")
+    ∷ (shows 999 ⟶ says "999")
+    ∷ (shows 1000 ⟶ says "1000")
+    ∷ (shows 6400 ⟶ says "6400")
     -- a step: with 4 rounds done 2 of each kind have been, whatever the trucks' states
     ∷ (stepsOf 2 4 (sender Running 2 2 ∷ sender (Stopped 1) 2 2 ∷ []) quiet ⟶ refused (0, Unnamed))
     ∷ (stepsOf 2 4 (sender Running 2 2 ∷ sender Running 3 2 ∷ []) quiet ⟶ refused (7, Unnamed))

@@ -1,4 +1,9 @@
 # Proofs: rt ci proves every listed crate from nothing, tries each must-fail edit and runs each program. Its own counts are added. A line is printed as each crate and each edit is done.
+# The tests of the independent reading need nothing of the library, so they run beside the proofs, on what these leave of the machine; 40-rust asks what came of them.
+reading=$(mktemp)
+(cd rust && nice -n 19 cargo test --offline --release -p oracle) > "$reading" 2>&1 &
+reading_job=$!
+
 log=$(mktemp)
 total=$(($(grep -cE '^[a-z_]+:' crates.txt) + $(ls crates/*/must-fail/*.edit | wc -l)))
 rt ci 2>&1 | tee "$log" | {

@@ -9,18 +9,24 @@ expect "rt staticlib recordcalls" build recordcalls
 expect "rt staticlib ffi" wait "$ffi"
 echo "Rust tests"
 log=$(mktemp)
-(cd rust && cargo test --offline --release) > "$log" 2>&1
+(cd rust && cargo test --offline --release --workspace --exclude oracle) > "$log" 2>&1
 status=$?
-ran=0
-while read -r ok bad; do
-    ran=$((ran + ok))
-    passed=$((passed + ok))
-    failed=$((failed + bad))
-done < <(sed -nE 's/^test result: .* ([0-9]+) passed; ([0-9]+) failed;.*/\1 \2/p' "$log")
-expect "Rust tests were run" test "$ran" -gt 0
-expect "cargo test's exit status" test "$status" -eq 0
-[ "$status" -eq 0 ] || grep -E '^error|FAILED|panicked' "$log" | head -n 20
-rm -f "$log"
+wait "$reading_job"
+reading_status=$?
+tests_of() { # LOG STATUS WHAT: the counts of a run of cargo test are added
+    local ran=0 ok bad
+    while read -r ok bad; do
+        ran=$((ran + ok))
+        passed=$((passed + ok))
+        failed=$((failed + bad))
+    done < <(sed -nE 's/^test result: .* ([0-9]+) passed; ([0-9]+) failed;.*/\1 \2/p' "$1")
+    expect "Rust tests were run of $3" test "$ran" -gt 0
+    expect "cargo test's exit status of $3" test "$2" -eq 0
+    [ "$2" -eq 0 ] || grep -E '^error|FAILED|panicked' "$1" | head -n 20
+    rm -f "$1"
+}
+tests_of "$reading" "$reading_status" "the independent reading"
+tests_of "$log" "$status" "the others"
 
 # Layout, clippy and the pages of the documentation, without a warning, in the whole workspace.
 echo "clippy, pages, examples"

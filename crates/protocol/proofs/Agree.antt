@@ -6,13 +6,13 @@ use mathlib.Core.Logic.{_⊎_, inl, inr, ⊎-elim}
 use Prim.Native.Nat.{ℕ, _<_}
 use Rattle.basics.specs.Bits.{odd}
 use Rattle.radio.specs.Radio.{Radio, sent, heard, hears, majorityComplete, zeroComplete}
-use Rattle.radio.proofs.Laws.{hears-sends, sent-some, sent-none, common, majority-hears, zero-silent}
+use Rattle.radio.proofs.Laws.{hears-sends, sent-some, sent-none, common, majority-hears}
 use Rattle.protocol.specs.declared.Truck.{Truck}
 use Rattle.protocol.specs.Cycles.{radioIn}
 use Rattle.protocol.specs.Rules.{recorded, twoRules, truck, isSeveral, isOne, runs, vetoes, different, leastOr, proposed, valuesHeard, plays}
 use Rattle.protocol.specs.Claims.{isDecided}
 use Rattle.protocol.proofs.Values.{one-value, not-nothing}
-use Rattle.protocol.proofs.AnyRound.{UndecidedIn, SettledIn, radio, next, running-runs, heard-value, value-heard, next-played, undecided-next, first-decisions}
+use Rattle.protocol.proofs.AnyRound.{no-noise, UndecidedIn, SettledIn, radio, next, running-runs, heard-value, value-heard, next-played, undecided-next, first-decisions}
 use Rattle.protocol.proofs.Rules.{no-veto-parts}
 use Rattle.protocol.proofs.OneRound.{sound-two, veto-sends, plays-proposal, plays-veto, proposal-runs, veto-decides}
 
@@ -95,10 +95,10 @@ module _ (n : ℕ) (active : ℕ → Bool) (k : ℕ) (w : List ℕ) (ts : List T
   deciding e zc o i li r d j lj rj =
       let ri = running-runs twoRules n active k w ts i r in
       let v = veto-decides n active k w ts i e ri d in
-      let s : sent a ≡ 0 = zero-silent a i li r zc (v .1) (v .0) in
+      let s : sent a ≡ 0 = no-noise a i li r zc (v .0) in
       o .alike i j li lj ri (running-runs twoRules n active k w ts j rj)
       (sym (veto-sends n active k w ts i e r) ∙ sent-none a s i li)
-      (sym (veto-sends n active k w ts j e rj) ∙ sent-none a s j lj) (v .2)
+      (sym (veto-sends n active k w ts j e rj) ∙ sent-none a s j lj) (v .1)
 
   pub open-veto : odd k ≡ false → zeroComplete a ≡ true → Open n ts → Open n ts′ ⊎ SettledIn recorded n ts′
   open-veto e zc o =

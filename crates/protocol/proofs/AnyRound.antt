@@ -1,15 +1,18 @@
 -- What one round of any cycle makes of the trucks: what depends only on stops and hearing.
 use mathlib.Core.Path.{_≡_, refl, ap, sym, subst, _∙_}
-use mathlib.Core.Bool.{Bool, true, false, not, _&&_, true≢false, false≢true}
+use mathlib.Core.Bool.{Bool, true, false, not, _&&_, _||_, true≢false, false≢true}
 use mathlib.Core.List.{List, map, List·Memᴰ}
 use mathlib.Core.Logic.{_⊎_, inl, inr, ⊎-elim}
 use Prim.Native.Nat.{ℕ, _<_}
+use native.Mathlib.Omega.{arith}
+use borrow.Author.Tests.{ltb-false}
+use lib.Dec.{ltb}
 use lib.ListN.{length, length-map}
 use Rattle.basics.specs.Lists.{who, someBelow}
-use Rattle.basics.proofs.Laws.{getD-filled, and-left, and-both, someBelow-at, someBelow-none}
+use Rattle.basics.proofs.Laws.{getD-filled, and-left, and-both, or-left, or-right, or-none, someBelow-at, someBelow-none}
 use Rattle.radio.specs.Round.{stopBit, activeBit}
-use Rattle.radio.specs.Radio.{Radio, sent, heard, heardBy, hears, calmRound}
-use Rattle.radio.proofs.Laws.{hears-sends, sent-by, nobody-sends, silent-heard, silent-none, accurate-clear, calm-hears, calm-few, few-some, calm-accurate}
+use Rattle.radio.specs.Radio.{Radio, sent, heard, heardBy, hears, zeroComplete, accurate, calmRound}
+use Rattle.radio.proofs.Laws.{hears-sends, sent-by, nobody-sends, silent-heard, silent-none, zero-silent, accurate-clear, calm-hears, calm-few, few-some, calm-accurate}
 use Rattle.protocol.specs.declared.State.{State}
 use Rattle.protocol.specs.declared.State.the-variants.{Running, Stopped, Decided}
 use Rattle.protocol.specs.Cycles.{isRunning, Kind, Rules, turn, truckIn, runsIn, valuesIn, radioIn, playsIn, afterIn}
@@ -39,6 +42,21 @@ pub record Takes {T : Type 0} {K : Kind T} (c : Rules K) : Type 0 where
   pub plays : (k : ℕ) (b s m : Bool) (vs : List ℕ) (t : T)
       → (K .estimate (c .plays k b s m vs t) ≡ K .estimate t) ⊎ List·Memᴰ (K .estimate (c .plays k b s m vs t)) vs
 
+-- truck i has noise: a mark, or a message that it hears
+abbrev pub hasNoise : Radio → ℕ → Bool
+hasNoise a i = a .marked i || ltb 0 (heard a i)
+
+module _ (a : Radio) (i : ℕ) (l : i < a .trucks) (r : a .running i ≡ true) where
+  -- where a running truck has no noise in a zero complete round, nothing was sent
+  pub no-noise : zeroComplete a ≡ true → hasNoise a i ≡ false → sent a ≡ 0
+  no-noise zc q =
+      zero-silent a i l r zc (or-left (a .marked i) (ltb 0 (heard a i)) q)
+      (omega (arith, ltb-false 0 (heard a i) (or-right (a .marked i) (ltb 0 (heard a i)) q)))
+
+  -- where nothing was sent in an accurate round, a running truck has no noise
+  pub silence : accurate a ≡ true → sent a ≡ 0 → hasNoise a i ≡ false
+  silence ac e = or-none (a .marked i) (ltb 0 (heard a i)) (accurate-clear a i l r ac (silent-none a i e)) (rw (silent-heard a i e))
+
 -- no truck runs any more
 abbrev pub EndedIn : {T : Type 0} → Kind T → ℕ → List T → Type 0
 EndedIn K n ts = (i : ℕ) → i < n → runsIn K (truckIn K ts i) ≡ false
@@ -63,6 +81,11 @@ module _ {T : Type 0} {K : Kind T} (c : Rules K) (n : ℕ) (active : ℕ → Boo
   abbrev old : ℕ → T
   old i = truckIn K ts i
 
+  -- a running truck whose stop bit is clear goes on
+  goes-on : (i : ℕ) → runsIn K (truckIn K ts i) ≡ true → stopBit w i ≡ false → radio .running i ≡ true
+  unfolding radioIn
+  goes-on i h s = and-both (runsIn K (old i)) (not (stopBit w i)) h (ap not s)
+
   -- truck i after the round, by what happened to it
   pub after-cases : (P : T → Type 0) (i : ℕ) → i < n
       → (runsIn K (truckIn K ts i) ≡ false → P (truckIn K ts i))
@@ -72,7 +95,7 @@ module _ {T : Type 0} {K : Kind T} (c : Rules K) (n : ℕ) (active : ℕ → Boo
   after-cases P i l idle stop play =
       subst P (sym (getD-filled rule n ts i (K .opened 0) l))
       (turn-cases P (K .state (old i)) (stopBit w i) (c .stops k (old i)) (playsIn c radio k w ts i) (old i) idle stop
-      (λ r s. play r (and-both (runsIn K (old i)) (not (stopBit w i)) r (ap not s))))
+      (λ r s. play r (goes-on i r s)))
     where
       rule : ℕ → T
       rule i = turn (K .state (old i)) (stopBit w i) (c .stops k (old i)) (playsIn c radio k w ts i) (old i)
@@ -93,6 +116,15 @@ module _ {T : Type 0} {K : Kind T} (c : Rules K) (n : ℕ) (active : ℕ → Boo
   pub running-runs : (i : ℕ) → radio .running i ≡ true → runsIn K (truckIn K ts i) ≡ true
   unfolding radioIn
   running-runs i h = and-left (runsIn K (old i)) (not (stopBit w i)) h
+
+  -- where no running truck sends, nothing is sent
+  pub none-sends : ((j : ℕ) → j < n → radio .running j ≡ true → radio .sends j ≡ false) → sent radio ≡ 0
+  unfolding radioIn
+  none-sends none = nobody-sends radio (λ j lj. go j lj (radio .sends j) refl)
+    where
+      go : (j : ℕ) → j < n → (x : Bool) → radio .sends j ≡ x → x ≡ false
+      go j lj false g = refl
+      go j lj true g = sym g ∙ none j lj (sender-runs j g)
 
   -- a running truck sends if the cycle says so
   pub sends-rules : (i : ℕ) → radio .running i ≡ true → radio .sends i ≡ c .sends k (active i) (truckIn K ts i)
@@ -236,15 +268,10 @@ module _ {T : Type 0} {K : Kind T} (c : Rules K) (n : ℕ) (active : ℕ → Boo
         let h = calm-all calm i l r in
         (h .0, ap (leastOr e) (h .1) ∙ least-any e 0 sentValues (h .2 .0) (h .2 .1))
 
-    -- in a calm round in which no running truck would send, a running truck has no mark and hears nothing
+    -- in a calm round in which no running truck would send, a running truck has no noise
     pub calm-silent : (proposes : Bool) → calmRound b proposes radio ≡ true
         → ((j : ℕ) → j < n → runsIn K (truckIn K ts j) ≡ true → c .sends k (active j) (truckIn K ts j) ≡ false)
-        → (i : ℕ) → i < n → radio .running i ≡ true → (radio .marked i ≡ false) × (heard radio i ≡ 0)
+        → (i : ℕ) → i < n → radio .running i ≡ true → hasNoise radio i ≡ false
     unfolding radioIn
     calm-silent proposes calm none i l r =
-        let silent : sent radio ≡ 0 = nobody-sends radio (λ j lj. quiet j lj (radio .sends j) refl) in
-        (accurate-clear radio i l r (calm-accurate b proposes radio calm) (silent-none radio i silent), silent-heard radio i silent)
-      where
-        quiet : (j : ℕ) → j < n → (x : Bool) → radio .sends j ≡ x → x ≡ false
-        quiet j lj false g = refl
-        quiet j lj true g = let rj = sender-runs j g in sym g ∙ sends-rules j rj ∙ none j lj (running-runs j rj)
+        silence radio i l r (calm-accurate b proposes radio calm) (none-sends (λ j lj rj. sends-rules j rj ∙ none j lj (running-runs j rj)))

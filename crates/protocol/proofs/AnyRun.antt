@@ -1,6 +1,6 @@
 -- Whole runs of any cycle: what n trucks with given openings come to, round by round.
-use mathlib.Core.Path.{_≡_, refl, ap, ap₂, _∙_}
-use mathlib.Core.Bool.{false}
+use mathlib.Core.Path.{_≡_, refl, ap, ap₂, sym, _∙_}
+use mathlib.Core.Bool.{false, true≢false}
 use mathlib.Core.List.{List}
 use mathlib.Core.Logic.{_⊎_, inl, inr, ⊎-elim}
 use Prim.Native.Nat.{ℕ, zero, suc, _+_, _-_, _≤_, _<_}
@@ -10,6 +10,7 @@ use Rattle.radio.specs.Round.{activeBit}
 use Rattle.radio.specs.Runs.{stateAt}
 use Rattle.protocol.specs.Cycles.{Kind, Rules, truckIn, runsIn, radioIn, afterIn}
 use Rattle.protocol.specs.Runs.{trucksIn, radiosIn}
+use Rattle.protocol.specs.Claims.{AgreedIn}
 use Rattle.protocol.proofs.Opened.{place-opened}
 use Rattle.protocol.proofs.AnyRound.{Stamps, Takes, EndedIn, UndecidedIn, SettledIn, next-idle, estimate-next, settled-next}
 
@@ -76,6 +77,17 @@ module _ {T : Type 0} {K : Kind T} (c : Rules K) (n : ℕ) (openings : List ℕ)
       estimate-next c n (activeBit (rounds k)) (suc k) (rounds k) (at k) takes (λ (u : ℕ). (j : ℕ) × (j < n) × (u ≡ getD openings j 0)) i l (h i l) (λ j lj s. h j lj))
       k (omega arith)
 
+  -- what holds until some round, and what holds from then on
+  pub until : (Before After : ℕ → List T → Type 0) (R : ℕ) → Before 0 (trucksIn c n openings rounds 0)
+      → ((k : ℕ) → k < R → Before k (trucksIn c n openings rounds k)
+      → Before (suc k) (afterIn c n (activeBit (rounds k)) (suc k) (rounds k) (trucksIn c n openings rounds k))
+      ⊎ After (suc k) (afterIn c n (activeBit (rounds k)) (suc k) (rounds k) (trucksIn c n openings rounds k)))
+      → ((k : ℕ) → k < R → After k (trucksIn c n openings rounds k)
+      → After (suc k) (afterIn c n (activeBit (rounds k)) (suc k) (rounds k) (trucksIn c n openings rounds k)))
+      → Before R (trucksIn c n openings rounds R) ⊎ After R (trucksIn c n openings rounds R)
+  until Before After R start step on =
+      throughout (λ k ts. Before k ts ⊎ After k ts) R (inl start) (λ k l h. ⊎-elim (step k l) (λ s. inr (on k l s)) h) R (omega arith)
+
   -- nobody has decided, or all hold one crusher: by an invariant that holds until the first decisions
   pub agrees-by : Stamps c → Takes c → (Invariant : ℕ → List T → Type 0) → ((k : ℕ) (ts : List T) → Invariant k ts → UndecidedIn K n ts)
       → (R : ℕ) → Invariant 0 (trucksIn c n openings rounds 0)
@@ -85,6 +97,15 @@ module _ {T : Type 0} {K : Kind T} (c : Rules K) (n : ℕ) (openings : List ℕ)
       → UndecidedIn K n (trucksIn c n openings rounds R) ⊎ SettledIn K n (trucksIn c n openings rounds R)
   agrees-by stamps takes Invariant nobody R start step =
       ⊎-elim (λ h. inl (nobody R (at R) h)) inr
-      (throughout (λ k ts. Invariant k ts ⊎ SettledIn K n ts) R (inl start)
-      (λ k l h. ⊎-elim (step k l) (λ s. inr (settled-next c n (activeBit (rounds k)) (suc k) (rounds k) (at k) stamps takes s)) h)
-      R (omega arith))
+      (until Invariant (λ k ts. SettledIn K n ts) R start step
+      (λ k l s. settled-next c n (activeBit (rounds k)) (suc k) (rounds k) (at k) stamps takes s))
+
+  -- so the decided trucks agree, on one of the openings
+  pub agreed-by : n ≤ 32 → Takes c → (R : ℕ)
+      → UndecidedIn K n (trucksIn c n openings rounds R) ⊎ SettledIn K n (trucksIn c n openings rounds R)
+      → AgreedIn K n openings (trucksIn c n openings rounds R)
+  agreed-by small takes R h =
+      record {
+        same = λ i j li lj di dj. ⊎-elim (λ u. absurd (true≢false (sym di ∙ u i li))) (λ s. s .decided i li di ∙ sym (s .decided j lj dj)) h;
+        opening = λ i l d. estimates-open small takes R i l;
+      }

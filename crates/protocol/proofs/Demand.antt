@@ -1,8 +1,7 @@
 -- Demand 3 by any protocol, from a few facts of its cycle.
 use mathlib.Core.Path.{_≡_, ap, sym, _∙_}
-use mathlib.Core.Bool.{true≢false}
 use mathlib.Core.List.{List}
-use mathlib.Core.Logic.{_⊎_, ⊎-elim}
+use mathlib.Core.Logic.{_⊎_}
 use Prim.Native.Nat.{ℕ, _+_, _≤_}
 use native.Mathlib.Omega.{arith}
 use lib.ListN.{length}
@@ -17,22 +16,11 @@ use Rattle.protocol.specs.Rules.{recorded, truck}
 use Rattle.protocol.specs.Runs.{openedTrucks, trucksIn, radiosIn}
 use Rattle.protocol.specs.Fleets.{Protocol, blank, startCheck, started, fleetIn, ranIn}
 use Rattle.protocol.specs.Steps.{lastRecordIn, taken, roundIn}
-use Rattle.protocol.specs.Claims.{Agreed, Claim, agreesWith, MarksIn, calmIn, decidesIn, HoldsIn, SameIn, DemandIn}
-use Rattle.protocol.proofs.AnyRound.{Takes, EndedIn, UndecidedIn, SettledIn}
-use Rattle.protocol.proofs.AnyRun.{estimates-open, ended-kept}
+use Rattle.protocol.specs.Claims.{Claim, agreesWith, MarksIn, calmIn, decidesIn, HoldsIn, SameIn, DemandIn}
+use Rattle.protocol.proofs.AnyRound.{EndedIn, UndecidedIn, SettledIn}
+use Rattle.protocol.proofs.AnyRun.{ended-kept, agreed-by}
 use Rattle.protocol.proofs.Good.{Sound, state-ended, good-at}
 use Rattle.protocol.proofs.Steps.{accepted-by, Start, start-by, taken-few, step-outcome, steps-are, recording-run}
-
--- what R rounds leave of up to 32 trucks, where nobody has decided or all hold one crusher
-pub agreed-by : (p : Protocol) → Takes (p .rules) → (n : ℕ) (openings : List ℕ) (rounds : ℕ → List ℕ) (R : ℕ) → n ≤ 32
-    → UndecidedIn recorded n (trucksIn (p .rules) n openings rounds R) ⊎ SettledIn recorded n (trucksIn (p .rules) n openings rounds R)
-    → Agreed n openings (fleetIn p n openings rounds R)
-unfolding fleetIn
-agreed-by p takes n openings rounds R small h =
-    record {
-      same = λ i j li lj di dj. ⊎-elim (λ u. absurd (true≢false (sym di ∙ u i li))) (λ s. s .decided i li di ∙ sym (s .decided j lj dj)) h;
-      opening = λ i l d. estimates-open (p .rules) n openings rounds small takes R i l;
-    }
 
 -- what follows from a claim that holds, holds
 pub holds-of : (p : Protocol) (claim other : Claim)
@@ -104,11 +92,12 @@ module _ (p : Protocol) (facts : Facts p) where
 
   -- the whole of demand 3 with marks of the worth that the cycle asks for
   pub demand-by : DemandIn p (MarksIn p (p .worth))
+  unfolding fleetIn
   demand-by =
       record {
         agreement = holds-by p (facts .sound) (agreesWith (MarksIn p (p .worth)))
             (λ n openings rounds R small good marks.
-            agreed-by p (facts .sound .takes) n openings rounds R small (facts .agrees n openings rounds R small good marks));
+            agreed-by (p .rules) n openings rounds small (facts .sound .takes) R (facts .agrees n openings rounds R small good marks));
         deciding = holds-by p (facts .sound) (decidesIn p) decides-at;
         same = same-by p (facts .sound);
       }

@@ -4,11 +4,10 @@ use mathlib.Core.Bool.{Bool, true, false, cond, not, false≢true}
 use mathlib.Core.List.{List, List·Memᴰ}
 use mathlib.Core.Logic.{_⊎_, inl}
 use Prim.Native.Nat.{ℕ, suc}
-use native.Mathlib.Omega.{arith}
 use lib.Dec.{ltb}
 use lib.ListN.{length}
-use borrow.Author.Tests.{ltb-false}
 use Rattle.basics.specs.Bits.{odd}
+use Rattle.basics.proofs.Laws.{or-left, or-right, or-none}
 use Rattle.radio.specs.Radio.{Radio, heard}
 use Rattle.radio.specs.Round.{activeBit}
 use Rattle.protocol.specs.declared.State.the-variants.{Running, Decided}
@@ -17,7 +16,7 @@ use Rattle.protocol.specs.Cycles.{isRunning}
 use Rattle.protocol.specs.Claims.{isDecided}
 use Rattle.protocol.specs.Rules.{twoRules, truck, isOne, runs, vetoes, different, leastOr, stops, proposed, decides, vetoed, radioOf, valuesHeard, plays}
 use Rattle.protocol.specs.Fleets.{twoMemory, twoCounts, twoRound}
-use Rattle.protocol.proofs.AnyRound.{sends-rules, values-heard, plays-is}
+use Rattle.protocol.proofs.AnyRound.{hasNoise, sends-rules, values-heard, plays-is}
 use Rattle.protocol.proofs.Good.{Sound}
 use Rattle.protocol.proofs.Decisions.{running-state, decided-state, decided-if, least-taken}
 use Rattle.protocol.proofs.Rules.{decides-parts, decides-by, sends-veto, plays-odd, plays-even, plays-cases, memory-even, memory-odd, memory-idle, counts-later, counts-proposed, counts-vetoed}
@@ -84,20 +83,21 @@ module _ (n : ℕ) (active : ℕ → Bool) (k : ℕ) (w : List ℕ) (ts : List T
   pub proposal-runs : (i : ℕ) → odd k ≡ true → runs (truck ts i) ≡ true → isDecided (plays (radioOf n active k w ts) k w ts i .state) ≡ false
   proposal-runs i e h = rw (plays-proposal i e) (ap isDecided (running-state (truck ts i .state) h))
 
-  -- who decides in a veto round heard no veto, had no mark and had heard one value
+  -- who decides in a veto round had no noise in it, and had heard one value
   pub veto-decides : (i : ℕ) → odd k ≡ false → runs (truck ts i) ≡ true → isDecided (plays (radioOf n active k w ts) k w ts i .state) ≡ true
-      → (heard (radioOf n active k w ts) i ≡ 0) × (radioOf n active k w ts .marked i ≡ false) × (isOne (truck ts i .heard) ≡ true)
+      → (hasNoise (radioOf n active k w ts) i ≡ false) × (isOne (truck ts i .heard) ≡ true)
   veto-decides i e h d =
       let veto = ltb 0 (heard a i) in
       let g = decided-if k (decides (a .marked i) veto (truck ts i)) (truck ts i .state) h (rw (plays-veto i e) at d) in
       let p = decides-parts (a .marked i) veto (truck ts i) g in
-      (omega (arith, ltb-false 0 (heard a i) (p .0)), p .1, p .2)
+      (or-none (a .marked i) veto (p .1) (p .0), p .2)
 
-  -- a truck that heard one value decides where it hears no veto and has no mark
-  pub veto-ends : (i : ℕ) → odd k ≡ false → heard (radioOf n active k w ts) i ≡ 0 → radioOf n active k w ts .marked i ≡ false → isOne (truck ts i .heard) ≡ true
+  -- a truck that heard one value decides where it has no noise
+  pub veto-ends : (i : ℕ) → odd k ≡ false → hasNoise (radioOf n active k w ts) i ≡ false → isOne (truck ts i .heard) ≡ true
       → runs (plays (radioOf n active k w ts) k w ts i) ≡ false
-  veto-ends i e h m o =
-      let d = decides-by (a .marked i) (ltb 0 (heard a i)) (truck ts i) (ap (ltb 0) h) m o in
+  veto-ends i e h o =
+      let veto = ltb 0 (heard a i) in
+      let d = decides-by (a .marked i) veto (truck ts i) (or-right (a .marked i) veto h) (or-left (a .marked i) veto h) o in
       rw (plays-veto i e) (ap (λ (b : Bool). isRunning (cond b (Decided k) (truck ts i .state))) d)
 
   -- a truck with a mark keeps its estimate

@@ -75,4 +75,4 @@ module _ (n : ℕ) (active : ℕ → Bool) (k : ℕ) (w : List ℕ) (ts : List T
       ended-next twoRules n active k w ts (sound-two .stamps)
       (λ i l r.
       let h = calm-silent twoRules n active k w ts b false c (λ j lj rj. sends-veto k (active j) (truck ts j) e ∙ y j lj rj .0) i l r in
-      veto-ends n active k w ts i e (h .1) (h .0) (y i l (running-runs twoRules n active k w ts i r) .1))
+      veto-ends n active k w ts i e h (y i l (running-runs twoRules n active k w ts i r) .1))

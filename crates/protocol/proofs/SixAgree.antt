@@ -7,20 +7,19 @@ use Prim.Native.Nat.{ℕ, suc, _-_, _/_, _%_, _^_, _≤_, _<_, min}
 use native.Mathlib.Nat.{pow-suc, div-div-eq-div-mul}
 use native.Mathlib.Decide.{ℕ-discrete}
 use native.Mathlib.Omega.{arith}
-use borrow.Author.Tests.{ltb-false, eqb-true, eqb-false, not-true}
-use lib.Dec.{ltb}
+use borrow.Author.Tests.{eqb-true, eqb-false, not-true}
 use Rattle.basics.specs.Bits.{bit}
 use Rattle.basics.proofs.Laws.{and-left, and-right, or-left, or-right}
-use Rattle.radio.specs.Radio.{Radio, heard, zeroComplete}
-use Rattle.radio.proofs.Laws.{sent-none, zero-silent}
+use Rattle.radio.specs.Radio.{Radio, zeroComplete}
+use Rattle.radio.proofs.Laws.{sent-none}
 use Rattle.protocol.specs.declared.Truck.{Truck}
 use Rattle.protocol.specs.Cycles.{radioIn, playsIn}
 use Rattle.protocol.specs.Rules.{recorded, truck, runs}
 use Rattle.protocol.specs.Six.{estimateBit, accepts, sixRules}
 use Rattle.protocol.specs.Claims.{isDecided}
-use Rattle.protocol.proofs.AnyRound.{UndecidedIn, SettledIn, radio, next, running-runs, next-played, undecided-next, first-decisions}
+use Rattle.protocol.proofs.AnyRound.{hasNoise, no-noise, UndecidedIn, SettledIn, radio, next, running-runs, next-played, undecided-next, first-decisions}
 use Rattle.protocol.proofs.Decisions.{running-state, decided-if}
-use Rattle.protocol.proofs.SixRound.{sound-six, hasNoise, bit-sends, accept-sends, plays-prepare, plays-bit, plays-accept}
+use Rattle.protocol.proofs.SixRound.{sound-six, bit-sends, accept-sends, plays-prepare, plays-bit, plays-accept}
 
 -- the estimates of any two running, willing trucks are the same but for their s lowest bits
 abbrev pub AlikeBut : ℕ → ℕ → List Truck → Type 0
@@ -68,9 +67,7 @@ module _ (n : ℕ) (active : ℕ → Bool) (k : ℕ) (w : List ℕ) (ts : List T
   -- where a running truck has no noise in a zero complete round, nothing was sent
   silent : zeroComplete a ≡ true → (i : ℕ) → i < n → a .running i ≡ true → hasNoise a i ≡ false → (j : ℕ) → j < n → a .sends j ≡ false
   unfolding radioIn
-  silent zc i l r q =
-      sent-none a (zero-silent a i l r zc (or-left (a .marked i) (ltb 0 (heard a i)) q)
-      (omega (arith, ltb-false 0 (heard a i) (or-right (a .marked i) (ltb 0 (heard a i)) q))))
+  silent zc i l r q = sent-none a (no-noise a i l r zc q)
 
   -- nobody decides in another round than accept
   undecided : (k % 6 ≡ 0 → ⊥) → UndecidedIn recorded n ts → UndecidedIn recorded n ts′

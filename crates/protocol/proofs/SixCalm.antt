@@ -10,8 +10,8 @@ use Rattle.protocol.specs.declared.Truck.{Truck}
 use Rattle.protocol.specs.Cycles.{isRunning}
 use Rattle.protocol.specs.Rules.{recorded, truck, runs, leastOr}
 use Rattle.protocol.specs.Six.{accepts, sixRules}
-use Rattle.protocol.proofs.AnyRound.{EndedIn, radio, next, running-runs, next-played, ended-next, sentValues, calm-least, calm-silent}
-use Rattle.protocol.proofs.SixRound.{sound-six, sends-bit, sends-accept, hasNoise, plays-prepare, plays-bit, plays-accept}
+use Rattle.protocol.proofs.AnyRound.{hasNoise, EndedIn, radio, next, running-runs, next-played, ended-next, sentValues, calm-least, calm-silent}
+use Rattle.protocol.proofs.SixRound.{sound-six, sends-bit, sends-accept, plays-prepare, plays-bit, plays-accept}
 
 -- all running trucks have the estimate v and are willing
 abbrev pub WillingFor : ℕ → ℕ → List Truck → Type 0
@@ -32,12 +32,6 @@ module _ (n : ℕ) (active : ℕ → Bool) (k : ℕ) (w : List ℕ) (ts : List T
       let q = p .1 ∙ plays-prepare n active k w ts i e in
       (ap (λ (t : Truck). t .estimate) q ∙ rw (h .0) (h .1), ap (λ (t : Truck). t .unwilling) q)
 
-  -- where no running truck would send there is no noise
-  no-noise : (proposes : Bool) → calmRound b proposes a ≡ true
-      → ((j : ℕ) → j < n → runs (truck ts j) ≡ true → sixRules .sends k (active j) (truck ts j) ≡ false)
-      → (i : ℕ) → i < n → a .running i ≡ true → hasNoise a i ≡ false
-  no-noise proposes c none i l r = let h = calm-silent sixRules n active k w ts b proposes c none i l r in rw (h .0, h .1)
-
   module _ (proposes : Bool) (c : calmRound b proposes a ≡ true) (v : ℕ) (y : WillingFor v n ts) where
     -- in a bit round all have the same bit: all send or nobody does
     pub calm-bit : (k % 6 ≡ 1 → ⊥) → (k % 6 ≡ 0 → ⊥) → WillingFor v n ts′
@@ -50,13 +44,13 @@ module _ (n : ℕ) (active : ℕ → Bool) (k : ℕ) (w : List ℕ) (ts : List T
         go : a .running i ≡ true → (x : Bool) → bit v (5 - k % 6) ≡ x → (not x && hasNoise a i) ≡ false
         go h true g = refl
         go h false g =
-            no-noise proposes c
+            calm-silent sixRules n active k w ts b proposes c
             (λ j lj rj. sends-bit k (active j) (truck ts j) e f ∙ ap (λ (x : ℕ). bit x (5 - k % 6)) (y j lj rj .0) ∙ g) i l h
 
     pub calm-accept : k % 6 ≡ 0 → EndedIn recorded n ts′
     calm-accept f =
         ended-next sixRules n active k w ts (sound-six .stamps)
         (λ i l r.
-        let q = no-noise proposes c (λ j lj rj. sends-accept k (active j) (truck ts j) f ∙ y j lj rj .1) i l r in
+        let q = calm-silent sixRules n active k w ts b proposes c (λ j lj rj. sends-accept k (active j) (truck ts j) f ∙ y j lj rj .1) i l r in
         let d : accepts (hasNoise a i) (truck ts i) ≡ true = rw (y i l (running-runs sixRules n active k w ts i r) .1, q) in
         rw (plays-accept n active k w ts i f) (ap (λ (x : Bool). isRunning (cond x (Decided k) (truck ts i .state))) d))

@@ -9,7 +9,7 @@ use native.Mathlib.Omega.{arith}
 use borrow.Author.Tests.{ne-eqb, eq-eqb, le-leb, leb-true}
 use lib.Dec.{ltb, leb}
 use Rattle.basics.proofs.Laws.{and-left, and-right, and-both}
-use Rattle.radio.specs.Radio.{Radio, heard}
+use Rattle.radio.specs.Radio.{Radio}
 use Rattle.radio.specs.Round.{activeBit}
 use Rattle.radio.proofs.Laws.{implies-mp, implies-by}
 use Rattle.protocol.specs.declared.State.the-variants.{Running, Decided}
@@ -18,7 +18,7 @@ use Rattle.protocol.specs.Cycles.{isRunning, valuesIn, radioIn, playsIn}
 use Rattle.protocol.specs.Rules.{recorded, truck, runs, leastOr}
 use Rattle.protocol.specs.Six.{isAccept, estimateBit, noise, stopsSix, afterPrepare, afterBit, accepts, afterAccept, sixRules}
 use Rattle.protocol.specs.Fleets.{sixMemory, sixRound}
-use Rattle.protocol.proofs.AnyRound.{sends-rules, values-heard, plays-is}
+use Rattle.protocol.proofs.AnyRound.{hasNoise, sends-rules, values-heard, plays-is}
 use Rattle.protocol.proofs.Good.{Sound}
 use Rattle.protocol.proofs.Decisions.{running-state, decided-state, least-taken}
 
@@ -113,10 +113,6 @@ sound-six =
   where
     undecided : (t : Truck) (k : ℕ) → runs t ≡ true → t .state ≡ Decided k → ⊥
     undecided t k h d = false≢true (sym (ap isRunning d) ∙ h)
-
--- truck i has noise: a mark, or a message that it hears
-abbrev pub hasNoise : Radio → ℕ → Bool
-hasNoise a i = a .marked i || ltb 0 (heard a i)
 
 module _ (n : ℕ) (active : ℕ → Bool) (k : ℕ) (w : List ℕ) (ts : List Truck) where
   abbrev a : Radio

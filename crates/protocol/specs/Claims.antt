@@ -19,7 +19,8 @@ use Rattle.protocol.specs.declared.State.the-variants.{Running, Stopped,
 use Rattle.protocol.specs.declared.Fleet.{Fleet}
 use Rattle.protocol.specs.declared.Grades.{Grades}
 use Rattle.protocol.specs.declared.Grading.the-variants.{Graded}
-use Rattle.protocol.specs.Rules.{truck, radioOf}
+use Rattle.protocol.specs.Cycles.{Kind, truckIn}
+use Rattle.protocol.specs.Rules.{recorded, truck, radioOf}
 use Rattle.protocol.specs.Runs.{radiosIn, radioAt}
 use Rattle.protocol.specs.Fleets.{Protocol, twoRound, sixRound, started, steppedIn, stepped, ranIn, gradedIn}
 use Rattle.protocol.specs.Steps.{lastRecordIn, taken, roundIn, recordingOf}
@@ -35,12 +36,16 @@ EndedBy m Running = ⊥
 EndedBy m (Stopped k) = k ≤ m
 EndedBy m (Decided k) = k ≤ m
 
--- the decided trucks below n: no two hold different crushers, and each holds one of the n openings
-pub record Agreed (n : ℕ) (openings : List ℕ) (f : Fleet) : Type 0 where
-  pub same : (i j : ℕ) → i < n → j < n → isDecided (truck (f .trucks) i .state) ≡ true → isDecided (truck (f .trucks) j .state) ≡ true
-      → truck (f .trucks) i .estimate ≡ truck (f .trucks) j .estimate
-  pub opening : (i : ℕ) → i < n → isDecided (truck (f .trucks) i .state) ≡ true
-      → (j : ℕ) × (j < n) × (truck (f .trucks) i .estimate ≡ getD openings j 0)
+-- the decided ones of n trucks of any kind: no two hold different crushers, and each holds one of the n openings
+pub record AgreedIn {T : Type 0} (K : Kind T) (n : ℕ) (openings : List ℕ) (ts : List T) : Type 0 where
+  pub same : (i j : ℕ) → i < n → j < n → isDecided (K .state (truckIn K ts i)) ≡ true → isDecided (K .state (truckIn K ts j)) ≡ true
+      → K .estimate (truckIn K ts i) ≡ K .estimate (truckIn K ts j)
+  pub opening : (i : ℕ) → i < n → isDecided (K .state (truckIn K ts i)) ≡ true
+      → (j : ℕ) × (j < n) × (K .estimate (truckIn K ts i) ≡ getD openings j 0)
+
+-- the decided trucks of a fleet record
+abbrev pub Agreed : ℕ → List ℕ → Fleet → Type 0
+Agreed n openings f = AgreedIn recorded n openings (f .trucks)
 
 -- what is said of the marks of R rounds, by n, the openings, the words of the rounds and R
 abbrev pub Marks : Type 1

@@ -76,22 +76,10 @@ pub fn outcome_number(o: Outcome) -> u8
 pub fn location_of(r: Refusal) -> Location
     ensures { λ p. ⌜ p ≡ locationOf r ⌝ }
 {
-    match r {
-        Refusal::ShortRecording => Location::Unnamed,
-        Refusal::TruckCount => Location::Unnamed,
-        Refusal::RoundCount => Location::Unnamed,
-        Refusal::RecordingLength => Location::Unnamed,
-        Refusal::EndBit => Location::Unnamed,
-        Refusal::OwnLoss { round, truck } => Location::At { round, truck },
-        Refusal::Record => Location::Unnamed,
-        Refusal::PlainRound => Location::Unnamed,
-        Refusal::ShortBuffer => Location::Unnamed,
-        Refusal::RoadLists => Location::Unnamed,
-        Refusal::Seconds => Location::Unnamed,
-        Refusal::NoTime => Location::Unnamed,
-        Refusal::AllIdle => Location::Unnamed,
-        Refusal::RoundsDone => Location::Unnamed,
-    }
+    let Refusal::OwnLoss { round: k, truck: i } = r else {
+        return Location::Unnamed;
+    };
+    Location::At { round: k, truck: i }
 }
 
 // What an outcome names: nothing where the input is accepted.

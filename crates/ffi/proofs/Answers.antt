@@ -23,28 +23,28 @@ use Rattle.plain.specs.Forms.{afterRead, readPlain, afterWrite, writePlain}
 use Rattle.listing.specs.declared.Listed.{Listed}
 use Rattle.listing.specs.declared.Listed.the-variants as listing
 use Rattle.listing.specs.Listed.{left, listed}
-use Rattle.ffi.specs.Calls.{listLeft, listCall, GradeLeft, gradeLeft, gradeLeftAs, gradeCallIn, openingLeft, openingCall, readLeft, readCall, writeLeft, writeCall}
+use Rattle.ffi.specs.Calls.{Result, result, listCall, gradeResult, gradeCallIn, openingCall, readCall, writeCall}
 use Rattle.ffi.proofs.Narrow.{narrow-write}
 
 -- ---- the opening crusher
 
 module _ (lengths metres seconds : List ℕ) (crusher : ℕ) (o : Opening) (found : o ≡ openingOf lengths metres seconds) where
-  pub opening-call-0 : (k : ℕ) → o ≡ opening.Crusher k → openingLeft 0 k ≡ openingCall lengths metres seconds crusher
+  pub opening-call-0 : (k : ℕ) → o ≡ opening.Crusher k → result 0 [] (k ∷ []) ≡ openingCall lengths metres seconds crusher
   unfolding openingCall
   opening-call-0 k h = rw (← found, h)
 
-  pub opening-call-refused : (r : Refusal) (k : ℕ) → o ≡ opening.Refused r → k ≡ numberOf r → openingLeft k crusher ≡ openingCall lengths metres seconds crusher
+  pub opening-call-refused : (r : Refusal) (k : ℕ) → o ≡ opening.Refused r → k ≡ numberOf r → result k [] (crusher ∷ []) ≡ openingCall lengths metres seconds crusher
   unfolding openingCall
   opening-call-refused r k h e = rw (e, ← found, h)
 
 -- ---- reading
 
 module _ (bytes openings words : List ℕ) (trucks rounds : ℕ) (o : ReadOutcome) (left₁ left₂ : List ℕ) (done : afterRead o left₁ left₂ ≡ readPlain bytes openings words) where
-  pub read-call-0 : (n R : ℕ) → o ≡ read.Plain n R → readLeft 0 left₁ left₂ n R ≡ readCall bytes openings words trucks rounds
+  pub read-call-0 : (n R : ℕ) → o ≡ read.Plain n R → result 0 (left₁ ∷ left₂ ∷ []) (n ∷ R ∷ []) ≡ readCall bytes openings words trucks rounds
   unfolding readCall
   read-call-0 n R h = rw (← done, h)
 
-  pub read-call-refused : (r : Refusal) (k : ℕ) → o ≡ read.Refused r → k ≡ numberOf r → readLeft k left₁ left₂ trucks rounds ≡ readCall bytes openings words trucks rounds
+  pub read-call-refused : (r : Refusal) (k : ℕ) → o ≡ read.Refused r → k ≡ numberOf r → result k (left₁ ∷ left₂ ∷ []) (trucks ∷ rounds ∷ []) ≡ readCall bytes openings words trucks rounds
   unfolding readCall
   read-call-refused r k h e = rw (e, ← done, h)
 
@@ -55,22 +55,22 @@ module _ (n R m S : ℕ) (openings words bytes : List ℕ) (written : ℕ) (few 
   written-as : afterWrite o left₁ ≡ writePlain n R openings words bytes
   written-as = done ∙ narrow-write openings words bytes n R m S few short
 
-  pub write-call-0 : (k : ℕ) → o ≡ write.Bytes k → writeLeft 0 left₁ k ≡ writeCall n R openings words bytes written
+  pub write-call-0 : (k : ℕ) → o ≡ write.Bytes k → result 0 (left₁ ∷ []) (k ∷ []) ≡ writeCall n R openings words bytes written
   unfolding writeCall
   write-call-0 k h = rw (← written-as, h)
 
-  pub write-call-refused : (r : Refusal) (k : ℕ) → o ≡ write.Refused r → k ≡ numberOf r → writeLeft k left₁ written ≡ writeCall n R openings words bytes written
+  pub write-call-refused : (r : Refusal) (k : ℕ) → o ≡ write.Refused r → k ≡ numberOf r → result k (left₁ ∷ []) (written ∷ []) ≡ writeCall n R openings words bytes written
   unfolding writeCall
   write-call-refused r k h e = rw (e, ← written-as, h)
 
 -- ---- a recording's listing
 
 module _ (bytes text : List ℕ) (written : ℕ) (o : Listed) (left₁ : List ℕ) (done : left o left₁ ≡ listed bytes text) where
-  pub list-call-0 : (k : ℕ) → o ≡ listing.Text k → listLeft 0 left₁ k ≡ listCall bytes text written
+  pub list-call-0 : (k : ℕ) → o ≡ listing.Text k → result 0 (left₁ ∷ []) (k ∷ []) ≡ listCall bytes text written
   unfolding listCall
   list-call-0 k h = rw (← done, h)
 
-  pub list-call-refused : (r : Refusal) (k : ℕ) → o ≡ listing.Refused r → k ≡ numberOf r → listLeft k left₁ written ≡ listCall bytes text written
+  pub list-call-refused : (r : Refusal) (k : ℕ) → o ≡ listing.Refused r → k ≡ numberOf r → result k (left₁ ∷ []) (written ∷ []) ≡ listCall bytes text written
   unfolding listCall
   list-call-refused r k h e = rw (e, ← done, h)
 
@@ -84,17 +84,17 @@ four-put (x ∷ y ∷ z ∷ []) a b c e h = absurd (omega arith)
 four-put (x ∷ y ∷ z ∷ w ∷ d) a b c e h = refl
 
 module _ (grades : List ℕ) (g : Grading) where
-  pub grades-refused : (r : Refusal) (k : ℕ) → g ≡ grading.Refused r → k ≡ numberOf r → gradeLeft k grades ≡ gradeLeftAs (gradeAnswer g) grades
+  pub grades-refused : (r : Refusal) (k : ℕ) → g ≡ grading.Refused r → k ≡ numberOf r → result k (grades ∷ []) [] ≡ gradeResult (gradeAnswer g) grades
   grades-refused r k h e = rw (e, h, le-ltb (length grades) 0 (omega arith))
 
-  pub grades-9 : (x : Grades) (k : ℕ) → g ≡ grading.Graded x → length grades < 4 → k ≡ numberOf ShortBuffer → gradeLeft k grades ≡ gradeLeftAs (gradeAnswer g) grades
+  pub grades-9 : (x : Grades) (k : ℕ) → g ≡ grading.Graded x → length grades < 4 → k ≡ numberOf ShortBuffer → result k (grades ∷ []) [] ≡ gradeResult (gradeAnswer g) grades
   grades-9 x k h l e = rw (e, h, lt-ltb (length grades) 4 l)
 
   pub grades-0 : (x : Grades) → g ≡ grading.Graded x → 4 ≤ length grades
-      → gradeLeft 0 (set (set (set (set grades 0 (x .complete)) 1 (x .majority)) 2 (x .zero)) 3 (x .accurate)) ≡ gradeLeftAs (gradeAnswer g) grades
+      → result 0 (set (set (set (set grades 0 (x .complete)) 1 (x .majority)) 2 (x .zero)) 3 (x .accurate) ∷ []) [] ≡ gradeResult (gradeAnswer g) grades
   grades-0 x h l = rw (four-put grades (x .complete) (x .majority) (x .zero) (x .accurate) l, h, le-ltb (length grades) 4 l)
 
 -- by the protocol in which the recording is graded
-pub grade-put : (p : Protocol) (bytes grades : List ℕ) (g : Grading) (x : GradeLeft) → g ≡ gradedIn p bytes → x ≡ gradeLeftAs (gradeAnswer g) grades → x ≡ gradeCallIn p bytes grades
+pub grade-put : (p : Protocol) (bytes grades : List ℕ) (g : Grading) (x : Result) → g ≡ gradedIn p bytes → x ≡ gradeResult (gradeAnswer g) grades → x ≡ gradeCallIn p bytes grades
 unfolding gradeCallIn
 grade-put p bytes grades g x e h = rw (← e) h

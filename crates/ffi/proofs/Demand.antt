@@ -1,7 +1,7 @@
 -- Demand 3 on bytes, from demand 3 of the records that they are; and agreement by a grade of 0.
 use mathlib.Core.Path.{_≡_, refl, ap, sym, subst, _∙_}
 use mathlib.Core.Bool.{Bool, true, false, cond}
-use mathlib.Core.List.{List, _∷_}
+use mathlib.Core.List.{List, [], _∷_}
 use Prim.Native.Nat.{ℕ, _≤_}
 use native.Mathlib.Omega.{arith}
 use lib.Dec.{ltb}
@@ -27,7 +27,7 @@ use Rattle.protocol.proofs.SixDemand.{six-demand}
 use Rattle.protocol.proofs.Gradings.{two-grade, six-grade}
 use Rattle.protocol.proofs.Counts.{sent-counts}
 use Rattle.recordbytes.specs.Layout.{sizeFor, recordByte, unpacked}
-use Rattle.ffi.specs.Calls.{GradeLeft, gradeLeft, gradeLeftAs, gradeCallIn, recordLeft, storeCall, startCall, runCallIn}
+use Rattle.ffi.specs.Calls.{Result, result, bufferOf, gradeResult, gradeCallIn, storeCall, startCall, runCallIn}
 use Rattle.ffi.specs.Claims.{RecordWith, bytesOf, HoldsOnBytes, SameOnBytes, DemandOnBytes, BytesDemand, SixBytesDemand, MixedBytesAgreement, BytesSentCounts}
 use Rattle.ffi.specs.Claims.{gradePlace, BytesAgreeByGrade}
 use Rattle.ffi.proofs.Answers.{grades-refused}
@@ -59,7 +59,7 @@ module _ (p : Protocol) where
             (lastRecordIn p (started n openings .fleet) steps) (bytes-hold p n openings d (a .0) (a .1) steps) (h .steps n openings steps (a .0)));
         run = λ s d z.
             (let a = run-accepted p s d z in
-            record-with (claim (trucksOf s) (openingsOf s) (roundAt s) (roundsOf s)) (runCallIn p s d .bytes) (ranIn p s .fleet) (run-holds p s d (a .0) (a .1))
+            record-with (claim (trucksOf s) (openingsOf s) (roundAt s) (roundsOf s)) (bufferOf (runCallIn p s d)) (ranIn p s .fleet) (run-holds p s d (a .0) (a .1))
             (h .run s (a .0)));
       }
 
@@ -70,12 +70,12 @@ module _ (p : Protocol) where
 
     -- the recording is run into a buffer e
     as-run : (e : List ℕ) → sizeFor 32 ≤ length e
-        → runCallIn p (recordingOf n openings steps) e ≡ recordLeft 0 (filled (λ k. getD (bytesOf p n openings d steps) k 0) (sizeFor 32) e)
+        → runCallIn p (recordingOf n openings steps) e ≡ result 0 (filled (λ k. getD (bytesOf p n openings d steps) k 0) (sizeFor 32) e ∷ []) []
     unfolding runCallIn
     as-run e fits =
         ap (λ (a : Answer). storeCall a e) (same .asRun)
         ∙ store-whole (record { outcome = Accepted; fleet = last }) e refl fits
-        ∙ ap (recordLeft 0) (filled-ext (recordByte last) (λ k. getD (bytesOf p n openings d steps) k 0) (sizeFor 32) e (λ k l.
+        ∙ ap (λ (l : List ℕ). result 0 (l ∷ []) []) (filled-ext (recordByte last) (λ k. getD (bytesOf p n openings d steps) k 0) (sizeFor 32) e (λ k l.
         sym (ap (λ (b : List ℕ). getD b k 0) (bytes-laid p n openings d accepted room steps) ∙ getD-filled (recordByte last) (sizeFor 32) d k 0 l)))
 
     pub same-on-bytes : SameOnBytes p n openings d steps
@@ -123,21 +123,21 @@ grade-placed Accurate g rest = refl
 
 -- a grading that answers 0 was given
 grade-accepted : (p : Protocol) (c : Class) (s d : List ℕ) → gradeCallIn p s d .number ≡ 0
-    → (g : Grades) × (gradedIn p s ≡ grading.Graded g) × (getD (gradeCallIn p s d .grades) (gradePlace c) 0 ≡ gradeOf c g)
+    → (g : Grades) × (gradedIn p s ≡ grading.Graded g) × (getD (bufferOf (gradeCallIn p s d)) (gradePlace c) 0 ≡ gradeOf c g)
 unfolding gradeCallIn
 grade-accepted p c s d z = go (gradedIn p s) z
   where
     fits : (b : Bool) (g : Grades) → let values = g .complete ∷ g .majority ∷ g .zero ∷ g .accurate ∷ drop 4 d in
-        let left = cond b (gradeLeft (numberOf ShortBuffer) d) (gradeLeft 0 values) in
-        left .number ≡ 0 → getD (left .grades) (gradePlace c) 0 ≡ gradeOf c g
+        let l = cond b (result (numberOf ShortBuffer) (d ∷ []) []) (result 0 (values ∷ []) []) in
+        l .number ≡ 0 → getD (bufferOf l) (gradePlace c) 0 ≡ gradeOf c g
     fits true g z = absurd (omega arith)
     fits false g z = grade-placed c g (drop 4 d)
 
-    go : (x : Grading) → gradeLeftAs (gradeAnswer x) d .number ≡ 0
-        → (g : Grades) × (x ≡ grading.Graded g) × (getD (gradeLeftAs (gradeAnswer x) d .grades) (gradePlace c) 0 ≡ gradeOf c g)
+    go : (x : Grading) → gradeResult (gradeAnswer x) d .number ≡ 0
+        → (g : Grades) × (x ≡ grading.Graded g) × (getD (bufferOf (gradeResult (gradeAnswer x) d)) (gradePlace c) 0 ≡ gradeOf c g)
     go (grading.Graded g) z = (g, refl, fits (ltb (length d) 4) g z)
     go (grading.Refused r) z =
-        let e : numberOf r ≡ 0 = ap (λ (x : GradeLeft). x .number) (grades-refused d (grading.Refused r) r (numberOf r) refl refl) ∙ z in
+        let e : numberOf r ≡ 0 = ap (λ (x : Result). x .number) (grades-refused d (grading.Refused r) r (numberOf r) refl refl) ∙ z in
         absurd (omega (arith, number-range r .0))
 
 pub grade-on-bytes : (p : Protocol) (c : Class) → AgreesByGrade p c → BytesAgreeByGrade p c
@@ -151,7 +151,7 @@ grade-on-bytes p c agrees =
       run = λ s d grades z h.
           (let a = run-accepted p s d z in
           let g = grade-accepted p c s grades (h .0) in
-          record-with (Agreed (trucksOf s) (openingsOf s)) (runCallIn p s d .bytes) (ranIn p s .fleet) (run-holds p s d (a .0) (a .1))
+          record-with (Agreed (trucksOf s) (openingsOf s)) (bufferOf (runCallIn p s d)) (ranIn p s .fleet) (run-holds p s d (a .0) (a .1))
           (agrees .run s (g .0) (g .1) (sym (g .2) ∙ h .1)));
     }
 

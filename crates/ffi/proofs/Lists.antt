@@ -29,7 +29,7 @@ use Rattle.protocol.proofs.Opened.{length-opened, truck-unopened}
 use Rattle.protocol.proofs.Steps.{accepted-by, start-by}
 use Rattle.recordbytes.specs.Layout.{sizeFor, recordByte, packedWhole, unpacked}
 use Rattle.recordbytes.proofs.RoundTrip.{Tidy, tidy-over, whole-tidy}
-use Rattle.ffi.specs.Calls.{RecordLeft, recordAs, storeCall, startCall, stepCallIn, runCallIn, bytesAfterIn}
+use Rattle.ffi.specs.Calls.{bufferOf, recordAs, storeCall, startCall, stepCallIn, runCallIn, bytesAfterIn}
 use Rattle.ffi.proofs.Records.{record-number, store-whole, step-trucks, room-for, start-range, step-range, run-range}
 
 -- a round keeps the places n and above
@@ -57,8 +57,8 @@ held-read d room b f h =
 -- ---- a whole record in a buffer with room for it
 
 stored : (a : Answer) (d : List ℕ) → a .outcome ≡ Accepted → badTrucks (a .fleet .n) ≡ false → sizeFor 32 ≤ length d → Tidy (a .fleet .n) (a .fleet .trucks)
-    → Holds d (storeCall a d .bytes) (a .fleet)
-stored a d h range room t = record { laid = ap (λ (x : RecordLeft). x .bytes) (store-whole a d h room); range = range; clean = t }
+    → Holds d (bufferOf (storeCall a d)) (a .fleet)
+stored a d h range room t = record { laid = ap bufferOf (store-whole a d h room); range = range; clean = t }
 
 start-tidy : (n : ℕ) (openings : List ℕ) → started n openings .outcome ≡ Accepted → Tidy (started n openings .fleet .n) (started n openings .fleet .trucks)
 unfolding started
@@ -105,7 +105,7 @@ module _ (p : Protocol) (d : List ℕ) (room : sizeFor 32 ≤ length d) where
     step-number : stepCallIn p b w .number ≡ outcomeNumber (steppedIn p f w .outcome)
     step-number = rw step-as (record-number (steppedIn p f w .outcome) (steppedIn p f w .fleet .n) (steppedIn p f w .fleet) b)
 
-    step-holds : Holds d (stepCallIn p b w .bytes) (steppedIn p f w .fleet)
+    step-holds : Holds d (bufferOf (stepCallIn p b w)) (steppedIn p f w .fleet)
     step-holds = rw step-as (go (steppedIn p f w .outcome) refl)
       where
         g : Fleet
@@ -114,7 +114,7 @@ module _ (p : Protocol) (d : List ℕ) (room : sizeFor 32 ≤ length d) where
         before : Tidy (g .n) (f .trucks)
         before = rw (step-n p f w) (holds .clean)
 
-        go : (o : Outcome) → steppedIn p f w .outcome ≡ o → Holds d (recordAs o (g .n) g b .bytes) g
+        go : (o : Outcome) → steppedIn p f w .outcome ≡ o → Holds d (bufferOf (recordAs o (g .n) g b)) g
         go Accepted e =
             let range = step-range p f w e in
             let clean = step-tidy p f w (holds .clean) in
@@ -128,29 +128,29 @@ module _ (p : Protocol) (d : List ℕ) (room : sizeFor 32 ≤ length d) where
   steps-hold : (ws : List (List ℕ)) (b : List ℕ) (f : Fleet) → Holds d b f → Holds d (bytesAfterIn p b ws) (lastRecordIn p f ws)
   unfolding bytesAfterIn lastRecordIn
   steps-hold [] b f h = h
-  steps-hold (w ∷ ws) b f h = steps-hold ws (stepCallIn p b w .bytes) (steppedIn p f w .fleet) (step-holds b w f h)
+  steps-hold (w ∷ ws) b f h = steps-hold ws (bufferOf (stepCallIn p b w)) (steppedIn p f w .fleet) (step-holds b w f h)
 
 -- ---- lists of steps and runs on bytes
 
 module _ (p : Protocol) (n : ℕ) (openings d : List ℕ) (accepted : started n openings .outcome ≡ Accepted) (room : sizeFor 32 ≤ length d) (ws : List (List ℕ)) where
-  held : Holds d (bytesAfterIn p (startCall n openings d .bytes) ws) (lastRecordIn p (started n openings .fleet) ws)
+  held : Holds d (bytesAfterIn p (bufferOf (startCall n openings d)) ws) (lastRecordIn p (started n openings .fleet) ws)
   unfolding startCall
   held =
-      steps-hold p d room ws (startCall n openings d .bytes) (started n openings .fleet)
+      steps-hold p d room ws (bufferOf (startCall n openings d)) (started n openings .fleet)
       (stored (started n openings) d accepted (start-range n openings (started n openings) refl accepted) room (start-tidy n openings accepted))
 
   -- after a start and steps on bytes, refused ones included, the bytes are the record that the start and the steps return
-  pub bytes-hold : unpacked (bytesAfterIn p (startCall n openings d .bytes) ws) ≡ record { outcome = Accepted; fleet = lastRecordIn p (started n openings .fleet) ws }
-  bytes-hold = held-read d room (bytesAfterIn p (startCall n openings d .bytes) ws) (lastRecordIn p (started n openings .fleet) ws) held
+  pub bytes-hold : unpacked (bytesAfterIn p (bufferOf (startCall n openings d)) ws) ≡ record { outcome = Accepted; fleet = lastRecordIn p (started n openings .fleet) ws }
+  bytes-hold = held-read d room (bytesAfterIn p (bufferOf (startCall n openings d)) ws) (lastRecordIn p (started n openings .fleet) ws) held
 
   -- all of them: 323, and past these what the buffer held
-  pub bytes-laid : bytesAfterIn p (startCall n openings d .bytes) ws ≡ filled (recordByte (lastRecordIn p (started n openings .fleet) ws)) (sizeFor 32) d
+  pub bytes-laid : bytesAfterIn p (bufferOf (startCall n openings d)) ws ≡ filled (recordByte (lastRecordIn p (started n openings .fleet) ws)) (sizeFor 32) d
   bytes-laid = held .laid
 
   -- and the next step answers the number that it answers of that record
   pub next-number : (w : List ℕ)
-      → stepCallIn p (bytesAfterIn p (startCall n openings d .bytes) ws) w .number ≡ outcomeNumber (steppedIn p (lastRecordIn p (started n openings .fleet) ws) w .outcome)
-  next-number w = step-number p d room (bytesAfterIn p (startCall n openings d .bytes) ws) w (lastRecordIn p (started n openings .fleet) ws) held
+      → stepCallIn p (bytesAfterIn p (bufferOf (startCall n openings d)) ws) w .number ≡ outcomeNumber (steppedIn p (lastRecordIn p (started n openings .fleet) ws) w .outcome)
+  next-number w = step-number p d room (bytesAfterIn p (bufferOf (startCall n openings d)) ws) w (lastRecordIn p (started n openings .fleet) ws) held
 
 -- ---- runs
 
@@ -173,7 +173,7 @@ run-clean p s h =
 
 -- the bytes that an accepted run leaves are the record that it returns
 pub run-holds : (p : Protocol) (s d : List ℕ) → ranIn p s .outcome ≡ Accepted → sizeFor 32 ≤ length d
-    → unpacked (runCallIn p s d .bytes) ≡ record { outcome = Accepted; fleet = ranIn p s .fleet }
+    → unpacked (bufferOf (runCallIn p s d)) ≡ record { outcome = Accepted; fleet = ranIn p s .fleet }
 unfolding runCallIn
 run-holds p s d h room =
-    held-read d room (runCallIn p s d .bytes) (ranIn p s .fleet) (stored (ranIn p s) d h (run-range p s (ranIn p s) refl h) room (run-clean p s h))
+    held-read d room (bufferOf (runCallIn p s d)) (ranIn p s .fleet) (stored (ranIn p s) d h (run-range p s (ranIn p s) refl h) room (run-clean p s h))

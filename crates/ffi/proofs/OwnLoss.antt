@@ -30,7 +30,7 @@ use Rattle.listing.specs.Text.{listingOf}
 use Rattle.listing.specs.Listed.{listCheck}
 use Rattle.listing.proofs.Prints.{list-answer}
 use Rattle.recordbytes.specs.Layout.{sizeFor, damaged, recordOf, noRecord, unpacked}
-use Rattle.ffi.specs.Calls.{readCall, writeCall, listCall, gradeLeft, gradeLeftAs, gradeCallIn, storeCall, runCallIn, stepCallIn, recordingOwnLoss, writeOwnLoss, roundOwnLoss}
+use Rattle.ffi.specs.Calls.{readCall, writeCall, listCall, result, gradeResult, gradeCallIn, storeCall, runCallIn, stepCallIn, recordingOwnLoss, writeOwnLoss, roundOwnLoss}
 use Rattle.ffi.proofs.Narrow.{many-trucks, narrowed, narrow-check}
 use Rattle.ffi.proofs.Records.{record-number}
 
@@ -121,13 +121,13 @@ module _ (s : List ℕ) where
 
   pub grade-6 : (p : Protocol) (grades : List ℕ) → gradeCallIn p s grades .number ≡ 6 → RecordingNamed
   unfolding gradeCallIn
-  grade-6 p grades h = named (go (checkOf s) _ (sym (ap (λ (x : ℕ × List ℕ). gradeLeftAs x grades .number) (grade-answer p s)) ∙ h))
+  grade-6 p grades h = named (go (checkOf s) _ (sym (ap (λ (x : ℕ × List ℕ). gradeResult x grades .number) (grade-answer p s)) ∙ h))
     where
-      short : (b : Bool) (values : List ℕ) → cond b (gradeLeft (numberOf ShortBuffer) grades) (gradeLeft 0 (values ++ drop (length values) grades)) .number ≡ 6 → _≡_ {A = ℕ} 0 6
+      short : (b : Bool) (values : List ℕ) → cond b (result (numberOf ShortBuffer) (grades ∷ []) []) (result 0 ((values ++ drop (length values) grades) ∷ []) []) .number ≡ 6 → _≡_ {A = ℕ} 0 6
       short true values e = absurd (omega arith)
       short false values e = e
 
-      go : (o : Outcome) (values : List ℕ) → gradeLeftAs (numbered o values) grades .number ≡ 6 → outcomeNumber o ≡ 6
+      go : (o : Outcome) (values : List ℕ) → gradeResult (numbered o values) grades .number ≡ 6 → outcomeNumber o ≡ 6
       go Accepted values e = short (ltb (length grades) (length values)) values e
       go (Refused r) values e = rw (le-ltb (length grades) 0 (omega arith)) at e
 

@@ -1,7 +1,7 @@
 -- What is left of a lent record: after a start or a run, and after a step.
 use mathlib.Core.Path.{_≡_, refl, ap, _∙_}
 use mathlib.Core.Bool.{true, false, not}
-use mathlib.Core.List.{List}
+use mathlib.Core.List.{List, [], _∷_}
 use Prim.Native.Nat.{ℕ, min, _+_, _≤_}
 use native.Mathlib.Omega.{arith}
 use lib.Dec.{eqb, ltb}
@@ -28,7 +28,7 @@ use Rattle.protocol.proofs.Steps.{accepted-by, start-by}
 use Rattle.recordbytes.specs.Layout.{sizeFor, recordByte, packCheck, packFor, packedWhole, unpacked}
 use Rattle.playback.specs.Bytes.{runCheckIn, runBytesIn}
 use Rattle.fleet.specs.Bytes.{bytesCheckIn, bytesStepIn}
-use Rattle.ffi.specs.Calls.{RecordLeft, recordLeft, recordAs, storeCall, runCallIn, startCall, stepCallIn}
+use Rattle.ffi.specs.Calls.{Result, result, recordAs, storeCall, runCallIn, startCall, stepCallIn}
 use Rattle.ffi.proofs.Narrow.{many-trucks, narrowed}
 
 -- the record of an accepted step has an n in range
@@ -50,27 +50,27 @@ record-number Accepted m f d = refl
 record-number (Refused r) m f d = refl
 
 -- the number of an outcome, and the buffer with m places put by it
-pub packed-as : (f : Fleet) (m : ℕ) (d l : List ℕ) (c o : Outcome) (k : ℕ) → o ≡ c → l ≡ packFor c m f d → k ≡ outcomeNumber o → recordLeft k l ≡ recordAs c m f d
+pub packed-as : (f : Fleet) (m : ℕ) (d l : List ℕ) (c o : Outcome) (k : ℕ) → o ≡ c → l ≡ packFor c m f d → k ≡ outcomeNumber o → result k (l ∷ []) [] ≡ recordAs c m f d
 packed-as f m d l c o k p q e = rw (e, p, q) (both c)
   where
-    both : (o : Outcome) → recordLeft (outcomeNumber o) (packFor o m f d) ≡ recordAs o m f d
+    both : (o : Outcome) → result (outcomeNumber o) (packFor o m f d ∷ []) [] ≡ recordAs o m f d
     both Accepted = refl
     both (Refused r) = refl
 
 -- ---- a whole record
 
 module _ (a : Answer) (d : List ℕ) where
-  pub store-refused : (r : Refusal) (k : ℕ) → a .outcome ≡ Refused r → k ≡ numberOf r → recordLeft k d ≡ storeCall a d
+  pub store-refused : (r : Refusal) (k : ℕ) → a .outcome ≡ Refused r → k ≡ numberOf r → result k (d ∷ []) [] ≡ storeCall a d
   unfolding storeCall
   store-refused r k h e = rw (e, h)
 
   pub store-0 : (a .outcome ≡ Accepted → badTrucks (a .fleet .n) ≡ false) → a .outcome ≡ Accepted → (o : Outcome) (l : List ℕ) (k : ℕ)
-      → o ≡ packCheck (a .fleet .n) (length d) → l ≡ packedWhole (a .fleet) d → k ≡ outcomeNumber o → recordLeft k l ≡ storeCall a d
+      → o ≡ packCheck (a .fleet .n) (length d) → l ≡ packedWhole (a .fleet) d → k ≡ outcomeNumber o → result k (l ∷ []) [] ≡ storeCall a d
   unfolding storeCall packedWhole packCheck
   store-0 range h o l k p q e = packed-as (a .fleet) 32 d l (packCheck (a .fleet .n) (length d)) o k p q e ∙ rw (range h, h)
 
   -- an accepted answer in a buffer with room, and the number 0 by which a caller knows of both
-  pub store-whole : a .outcome ≡ Accepted → sizeFor 32 ≤ length d → storeCall a d ≡ recordLeft 0 (filled (recordByte (a .fleet)) (sizeFor 32) d)
+  pub store-whole : a .outcome ≡ Accepted → sizeFor 32 ≤ length d → storeCall a d ≡ result 0 (filled (recordByte (a .fleet)) (sizeFor 32) d ∷ []) []
   unfolding storeCall
   store-whole h room = rw (h, le-ltb (length d) (sizeFor 32) room)
 
@@ -102,7 +102,7 @@ narrow-start n m openings e =
     (λ l. many-trucks n (omega arith))
     (λ k h. start-2 k openings h)
 
-pub start-stored : (n m : ℕ) (openings d : List ℕ) (a : Answer) (x : RecordLeft) → m ≡ min n 255 → a ≡ started m openings → x ≡ storeCall a d → x ≡ startCall n openings d
+pub start-stored : (n m : ℕ) (openings d : List ℕ) (a : Answer) (x : Result) → m ≡ min n 255 → a ≡ started m openings → x ≡ storeCall a d → x ≡ startCall n openings d
 unfolding startCall
 start-stored n m openings d a x e h s = s ∙ ap (λ (a : Answer). storeCall a d) (h ∙ narrow-start n m openings e)
 
@@ -114,7 +114,7 @@ step-range p f w h =
     let o = accepted-by (stepCheckIn p f w) (nextFleetIn p f w) f h in
     rw (o .1) (step-trucks p f w (o .0))
 
-pub step-left : (p : Protocol) (d w l : List ℕ) (o : Outcome) (k : ℕ) → o ≡ bytesCheckIn p d w → l ≡ bytesStepIn p d w → k ≡ outcomeNumber o → recordLeft k l ≡ stepCallIn p d w
+pub step-left : (p : Protocol) (d w l : List ℕ) (o : Outcome) (k : ℕ) → o ≡ bytesCheckIn p d w → l ≡ bytesStepIn p d w → k ≡ outcomeNumber o → result k (l ∷ []) [] ≡ stepCallIn p d w
 unfolding stepCallIn bytesCheckIn bytesStepIn
 step-left p d w l o k eo el ek =
     let a = steppedIn p (unpacked d .fleet) w in
@@ -129,7 +129,7 @@ run-range p s a e h =
     let g = bytes-good s (o .0) .frame in
     rw (e, o .1) (in-trucks (trucksOf s) (g .some) (g .most))
 
-pub run-left : (p : Protocol) (s d l : List ℕ) (o : Outcome) (k : ℕ) → o ≡ runCheckIn p s d → l ≡ runBytesIn p s d → k ≡ outcomeNumber o → recordLeft k l ≡ runCallIn p s d
+pub run-left : (p : Protocol) (s d l : List ℕ) (o : Outcome) (k : ℕ) → o ≡ runCheckIn p s d → l ≡ runBytesIn p s d → k ≡ outcomeNumber o → result k (l ∷ []) [] ≡ runCallIn p s d
 unfolding runCallIn storeCall runCheckIn runBytesIn
 run-left p s d l o k eo el ek =
     let a = ranIn p s in

@@ -22,141 +22,106 @@ use Rattle.protocol.specs.Fleets.{Protocol, twoRound, started, steppedIn, ranIn
 use Rattle.listing.specs.Listed.{listAnswer, listed}
 use Rattle.recordbytes.specs.Layout.{sizeFor, recordByte, unpacked}
 
+-- what a call leaves: the number answered, and in the order of its parameters the buffers and the single numbers that it was lent
+pub record Result : Type 0 where
+  pub number : ℕ
+  pub buffers : List (List ℕ)
+  pub numbers : List ℕ
+
+abbrev pub result : ℕ → List (List ℕ) → List ℕ → Result
+result number buffers numbers = record { number = number; buffers = buffers; numbers = numbers }
+
+-- the first of the buffers
+abbrev pub bufferOf : Result → List ℕ
+bufferOf l = getD (l .buffers) 0 []
+
 -- ---- the opening crusher
 
-pub record OpeningLeft : Type 0 where
-  pub number : ℕ
-  pub crusher : ℕ
-
-abbrev pub openingLeft : ℕ → ℕ → OpeningLeft
-openingLeft number crusher = record { number = number; crusher = crusher }
-
 -- 10, 11, 12, 13
-unfoldable pub openingCall : List ℕ → List ℕ → List ℕ → ℕ → OpeningLeft
+unfoldable pub openingCall : List ℕ → List ℕ → List ℕ → ℕ → Result
 openingCall lengths metres seconds crusher =
     let (number, values) = openingAnswer (openingOf lengths metres seconds) in
-    openingLeft number (getD values 0 crusher)
+    result number [] (getD values 0 crusher ∷ [])
 
 -- ---- reading to plain form
 
-pub record ReadLeft : Type 0 where
-  pub number : ℕ
-  pub openings : List ℕ
-  pub words : List ℕ
-  pub trucks : ℕ
-  pub rounds : ℕ
-
-abbrev pub readLeft : ℕ → List ℕ → List ℕ → ℕ → ℕ → ReadLeft
-readLeft number openings words trucks rounds =
-    record { number = number; openings = openings; words = words; trucks = trucks; rounds = rounds }
-
 -- 1 to 6, then 9
-unfoldable pub readCall : List ℕ → List ℕ → List ℕ → ℕ → ℕ → ReadLeft
+unfoldable pub readCall : List ℕ → List ℕ → List ℕ → ℕ → ℕ → Result
 readCall bytes openings words trucks rounds =
     let a = readPlain bytes openings words in
     let (number, values) = readAnswer (a .answer) in
-    readLeft number (a .openings) (a .words) (getD values 0 trucks) (getD values 1 rounds)
+    result number (a .openings ∷ a .words ∷ []) (getD values 0 trucks ∷ getD values 1 rounds ∷ [])
 
 -- ---- writing
 
-pub record WriteLeft : Type 0 where
-  pub number : ℕ
-  pub bytes : List ℕ
-  pub written : ℕ
-
-abbrev pub writeLeft : ℕ → List ℕ → ℕ → WriteLeft
-writeLeft number bytes written = record { number = number; bytes = bytes; written = written }
-
 -- 2, 3, 7, 8, 6, then 9
-unfoldable pub writeCall : ℕ → ℕ → List ℕ → List ℕ → List ℕ → ℕ → WriteLeft
+unfoldable pub writeCall : ℕ → ℕ → List ℕ → List ℕ → List ℕ → ℕ → Result
 writeCall n R openings words bytes written =
     let a = writePlain n R openings words bytes in
     let (number, values) = writeAnswer (a .answer) in
-    writeLeft number (a .buffer) (getD values 0 written)
+    result number (a .buffer ∷ []) (getD values 0 written ∷ [])
 
 -- ---- a recording's listing
 
-pub record ListLeft : Type 0 where
-  pub number : ℕ
-  pub text : List ℕ
-  pub written : ℕ
-
-abbrev pub listLeft : ℕ → List ℕ → ℕ → ListLeft
-listLeft number text written = record { number = number; text = text; written = written }
-
 -- 1 to 6, then 9
-unfoldable pub listCall : List ℕ → List ℕ → ℕ → ListLeft
+unfoldable pub listCall : List ℕ → List ℕ → ℕ → Result
 listCall bytes text written =
     let a = listed bytes text in
     let (number, values) = listAnswer (a .answer) in
-    listLeft number (a .buffer) (getD values 0 written)
+    result number (a .buffer ∷ []) (getD values 0 written ∷ [])
 
 -- ---- a recording's grading
 
-pub record GradeLeft : Type 0 where
-  pub number : ℕ
-  pub grades : List ℕ
-
-abbrev pub gradeLeft : ℕ → List ℕ → GradeLeft
-gradeLeft number grades = record { number = number; grades = grades }
-
 -- the values at the front of the buffer; 9 where it has fewer places than there are values
-abbrev pub gradeLeftAs : ℕ × List ℕ → List ℕ → GradeLeft
-gradeLeftAs (number, values) grades =
-    cond (ltb (length grades) (length values)) (gradeLeft (numberOf ShortBuffer) grades)
-    (gradeLeft number (values ++ drop (length values) grades))
+abbrev pub gradeResult : ℕ × List ℕ → List ℕ → Result
+gradeResult (number, values) grades =
+    cond (ltb (length grades) (length values)) (result (numberOf ShortBuffer) (grades ∷ []) [])
+    (result number ((values ++ drop (length values) grades) ∷ []) [])
 
 -- 1 to 6, then 9
-unfoldable pub gradeCallIn : Protocol → List ℕ → List ℕ → GradeLeft
-gradeCallIn p bytes grades = gradeLeftAs (gradeAnswer (gradedIn p bytes)) grades
+unfoldable pub gradeCallIn : Protocol → List ℕ → List ℕ → Result
+gradeCallIn p bytes grades = gradeResult (gradeAnswer (gradedIn p bytes)) grades
 
 -- by document 01's protocol
-abbrev pub gradeCall : List ℕ → List ℕ → GradeLeft
+abbrev pub gradeCall : List ℕ → List ℕ → Result
 gradeCall = gradeCallIn twoRound
 
 -- ---- fleet records as bytes
 
-pub record RecordLeft : Type 0 where
-  pub number : ℕ
-  pub bytes : List ℕ
-
-abbrev pub recordLeft : ℕ → List ℕ → RecordLeft
-recordLeft number bytes = record { number = number; bytes = bytes }
-
 -- the head and the first m places of a record
-abbrev pub recordAs : Outcome → ℕ → Fleet → List ℕ → RecordLeft
-recordAs Accepted m f d = recordLeft 0 (filled (recordByte f) (sizeFor m) d)
-recordAs (Refused r) m f d = recordLeft (numberOf r) d
+abbrev pub recordAs : Outcome → ℕ → Fleet → List ℕ → Result
+recordAs Accepted m f d = result 0 (filled (recordByte f) (sizeFor m) d ∷ []) []
+recordAs (Refused r) m f d = result (numberOf r) (d ∷ []) []
 
 -- a whole record, all 32 places; 9 where the buffer has fewer than 323 bytes
-unfoldable pub storeCall : Answer → List ℕ → RecordLeft
+unfoldable pub storeCall : Answer → List ℕ → Result
 storeCall a d = recordAs (andThen (a .outcome) (refuse (ltb (length d) (sizeFor 32)) ShortBuffer Accepted)) 32 (a .fleet) d
 
 -- running a recording: 1 to 6, then 9
-unfoldable pub runCallIn : Protocol → List ℕ → List ℕ → RecordLeft
+unfoldable pub runCallIn : Protocol → List ℕ → List ℕ → Result
 runCallIn p bytes d = storeCall (ranIn p bytes) d
 
-abbrev pub runCall : List ℕ → List ℕ → RecordLeft
+abbrev pub runCall : List ℕ → List ℕ → Result
 runCall = runCallIn twoRound
 
 -- starting a fleet: 2, 7, then 9
-unfoldable pub startCall : ℕ → List ℕ → List ℕ → RecordLeft
+unfoldable pub startCall : ℕ → List ℕ → List ℕ → Result
 startCall n openings d = storeCall (started n openings) d
 
 -- a step: 7 where the bytes are no record, then 7, 14, 8, 6; places n and above stay as they came
-unfoldable pub stepCallIn : Protocol → List ℕ → List ℕ → RecordLeft
+unfoldable pub stepCallIn : Protocol → List ℕ → List ℕ → Result
 stepCallIn p d words =
     let u = unpacked d in
     let a = steppedIn p (u .fleet) words in
     recordAs (andThen (u .outcome) (a .outcome)) (a .fleet .n) (a .fleet) d
 
-abbrev pub stepCall : List ℕ → List ℕ → RecordLeft
+abbrev pub stepCall : List ℕ → List ℕ → Result
 stepCall = stepCallIn twoRound
 
 -- the bytes after a list of steps, each on what the step before it left
 unfoldable pub bytesAfterIn : Protocol → List ℕ → List (List ℕ) → List ℕ
 bytesAfterIn p d [] = d
-bytesAfterIn p d (w ∷ ws) = bytesAfterIn p (stepCallIn p d w .bytes) ws
+bytesAfterIn p d (w ∷ ws) = bytesAfterIn p (bufferOf (stepCallIn p d w)) ws
 
 -- ---- where an own loss bit is: the round and the truck that refusal 6 names, as one number; 0 where none is named
 

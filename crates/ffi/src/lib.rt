@@ -1,15 +1,16 @@
 // The library for callers in other languages: functions on numbers and slices. A slice is passed as a pointer and then a length.
 // Each answers document 01's number of the refusal, or 0; a refusal changes nothing that was lent. What refusal 6 names besides is asked for by the last three.
 ghost use mathlib.Core.Path.{_≡_};
+ghost use mathlib.Core.List.{[], _∷_};
 ghost use mathlib.Core.Bool.{false};
 ghost use Prim.Native.Nat.{min};
 ghost use Rattle.refusals.specs.Numbers.{numberOf, outcomeNumber};
 ghost use Rattle.refusals.specs.Locations.{outcomeLocation, locationNumber};
 ghost use Rattle.refusals.specs.declared.Outcome.the-variants.{Accepted};
 ghost use Rattle.recording.specs.Checks.{badTrucks};
-ghost use Rattle.ffi.specs.Calls.{openingLeft, openingCall, readLeft, readCall, writeLeft, writeCall};
-ghost use Rattle.ffi.specs.Calls.{recordLeft, storeCall, runCallIn, runCall, startCall, stepCallIn, stepCall, listLeft, listCall};
-ghost use Rattle.ffi.specs.Calls.{gradeLeft, gradeLeftAs, gradeCallIn, gradeCall};
+ghost use Rattle.ffi.specs.Calls.{result, openingCall, readCall, writeCall};
+ghost use Rattle.ffi.specs.Calls.{storeCall, runCallIn, runCall, startCall, stepCallIn, stepCall, listCall};
+ghost use Rattle.ffi.specs.Calls.{gradeResult, gradeCallIn, gradeCall};
 ghost use Rattle.protocol.specs.Fleets.{sixRound, chosen, gradeAnswer};
 ghost use Rattle.ffi.specs.Calls.{recordingOwnLoss, writeOwnLoss, roundOwnLoss};
 use listing::Listed;
@@ -48,7 +49,7 @@ pub extern "C" fn rajvokshul_opening(
     seconds: &[u16],
     crusher: &mut u8,
 ) -> u32
-    ensures { λ r. ⌜ openingLeft r (now (crusher .exit))
+    ensures { λ r. ⌜ result r [] (now (crusher .exit) ∷ [])
         ≡ openingCall (now (lengths .entry)) (now (metres .entry)) (now (seconds .entry)) (now (crusher .entry)) ⌝ }
 {
     let o = roads::opening_crusher(lengths, metres, seconds);
@@ -70,7 +71,7 @@ pub extern "C" fn rajvokshul_read(
     trucks: &mut u32,
     rounds: &mut u32,
 ) -> u32
-    ensures { λ r. ⌜ readLeft r (now (openings .exit)) (now (words .exit)) (now (trucks .exit)) (now (rounds .exit))
+    ensures { λ r. ⌜ result r (now (openings .exit) ∷ now (words .exit) ∷ []) (now (trucks .exit) ∷ now (rounds .exit) ∷ [])
         ≡ readCall (now (bytes .entry)) (now (openings .entry)) (now (words .entry)) (now (trucks .entry)) (now (rounds .entry)) ⌝ }
 {
     let o = plain::read(bytes, openings, words);
@@ -110,7 +111,7 @@ pub extern "C" fn rajvokshul_write(
     bytes: &mut [u8],
     written: &mut usize,
 ) -> u32
-    ensures { λ r. ⌜ writeLeft r (now (bytes .exit)) (now (written .exit))
+    ensures { λ r. ⌜ result r (now (bytes .exit) ∷ []) (now (written .exit) ∷ [])
         ≡ writeCall trucks rounds (now (openings .entry)) (now (words .entry)) (now (bytes .entry)) (now (written .entry)) ⌝ }
 {
     let n = narrow_trucks(trucks);
@@ -128,7 +129,7 @@ pub extern "C" fn rajvokshul_write(
 // Puts the record of an answer into a lent buffer, all 32 places.
 fn store(a: Answer, d: &mut [u8]) -> u32
     requires { ⌜ (a .outcome ≡ Accepted → badTrucks (a .fleet .n) ≡ false) ⌝ }
-    ensures { λ r. ⌜ recordLeft r (now (d .exit)) ≡ storeCall a (now (d .entry)) ⌝ }
+    ensures { λ r. ⌜ result r (now (d .exit) ∷ []) [] ≡ storeCall a (now (d .entry)) ⌝ }
 {
     let o = a.outcome;
     let f = a.fleet;
@@ -141,7 +142,7 @@ fn store(a: Answer, d: &mut [u8]) -> u32
 // Runs a recording to its states.
 #[no_mangle]
 pub extern "C" fn rajvokshul_run(bytes: &[u8], fleet: &mut [u8]) -> u32
-    ensures { λ r. ⌜ recordLeft r (now (fleet .exit)) ≡ runCall (now (bytes .entry)) (now (fleet .entry)) ⌝ }
+    ensures { λ r. ⌜ result r (now (fleet .exit) ∷ []) [] ≡ runCall (now (bytes .entry)) (now (fleet .entry)) ⌝ }
 {
     outcome_number(fleet::run_bytes(Cycle::TwoRound, bytes, fleet))
 }
@@ -149,7 +150,7 @@ pub extern "C" fn rajvokshul_run(bytes: &[u8], fleet: &mut [u8]) -> u32
 // The same in the six-round cycle.
 #[no_mangle]
 pub extern "C" fn rajvokshul_run_six(bytes: &[u8], fleet: &mut [u8]) -> u32
-    ensures { λ r. ⌜ recordLeft r (now (fleet .exit)) ≡ runCallIn sixRound (now (bytes .entry)) (now (fleet .entry)) ⌝ }
+    ensures { λ r. ⌜ result r (now (fleet .exit) ∷ []) [] ≡ runCallIn sixRound (now (bytes .entry)) (now (fleet .entry)) ⌝ }
 {
     outcome_number(fleet::run_bytes(Cycle::SixRound, bytes, fleet))
 }
@@ -157,7 +158,7 @@ pub extern "C" fn rajvokshul_run_six(bytes: &[u8], fleet: &mut [u8]) -> u32
 // Runs a recording to its listing.
 #[no_mangle]
 pub extern "C" fn rajvokshul_list(bytes: &[u8], text: &mut [u8], written: &mut usize) -> u32
-    ensures { λ r. ⌜ listLeft r (now (text .exit)) (now (written .exit)) ≡ listCall (now (bytes .entry)) (now (text .entry)) (now (written .entry)) ⌝ }
+    ensures { λ r. ⌜ result r (now (text .exit) ∷ []) (now (written .exit) ∷ []) ≡ listCall (now (bytes .entry)) (now (text .entry)) (now (written .entry)) ⌝ }
 {
     let l = listing::list(bytes, text);
     match l {
@@ -171,7 +172,7 @@ pub extern "C" fn rajvokshul_list(bytes: &[u8], text: &mut [u8], written: &mut u
 
 // Puts the grades of an answer into a lent buffer.
 fn put_grades(g: Grading, grades: &mut [u16]) -> u32
-    ensures { λ r. ⌜ gradeLeft r (now (grades .exit)) ≡ gradeLeftAs (gradeAnswer g) (now (grades .entry)) ⌝ }
+    ensures { λ r. ⌜ result r (now (grades .exit) ∷ []) [] ≡ gradeResult (gradeAnswer g) (now (grades .entry)) ⌝ }
 {
     match g {
         Grading::Refused(r) => number(r),
@@ -191,7 +192,7 @@ fn put_grades(g: Grading, grades: &mut [u16]) -> u32
 // Grades a recording's marks.
 #[no_mangle]
 pub extern "C" fn rajvokshul_grade(bytes: &[u8], grades: &mut [u16]) -> u32
-    ensures { λ r. ⌜ gradeLeft r (now (grades .exit)) ≡ gradeCall (now (bytes .entry)) (now (grades .entry)) ⌝ }
+    ensures { λ r. ⌜ result r (now (grades .exit) ∷ []) [] ≡ gradeCall (now (bytes .entry)) (now (grades .entry)) ⌝ }
 {
     let g = fleet::grade(bytes);
     put_grades(g, grades)
@@ -200,7 +201,7 @@ pub extern "C" fn rajvokshul_grade(bytes: &[u8], grades: &mut [u16]) -> u32
 // The same in the six-round cycle.
 #[no_mangle]
 pub extern "C" fn rajvokshul_grade_six(bytes: &[u8], grades: &mut [u16]) -> u32
-    ensures { λ r. ⌜ gradeLeft r (now (grades .exit)) ≡ gradeCallIn sixRound (now (bytes .entry)) (now (grades .entry)) ⌝ }
+    ensures { λ r. ⌜ result r (now (grades .exit) ∷ []) [] ≡ gradeCallIn sixRound (now (bytes .entry)) (now (grades .entry)) ⌝ }
 {
     let g = fleet::grade_in(Cycle::SixRound, bytes);
     put_grades(g, grades)
@@ -209,7 +210,7 @@ pub extern "C" fn rajvokshul_grade_six(bytes: &[u8], grades: &mut [u16]) -> u32
 // Starts a fleet.
 #[no_mangle]
 pub extern "C" fn rajvokshul_start(trucks: u32, openings: &[u8], fleet: &mut [u8]) -> u32
-    ensures { λ r. ⌜ recordLeft r (now (fleet .exit)) ≡ startCall trucks (now (openings .entry)) (now (fleet .entry)) ⌝ }
+    ensures { λ r. ⌜ result r (now (fleet .exit) ∷ []) [] ≡ startCall trucks (now (openings .entry)) (now (fleet .entry)) ⌝ }
 {
     let a = fleet::start(narrow_trucks(trucks), openings);
     store(a, fleet)
@@ -217,7 +218,7 @@ pub extern "C" fn rajvokshul_start(trucks: u32, openings: &[u8], fleet: &mut [u8
 
 // A step of a record as bytes, in a cycle. Both exported steps go through it, so that the compiler makes one piece of it.
 fn step_bytes(cycle: Cycle, fleet: &mut [u8], words: &[u32]) -> u32
-    ensures { λ r. ⌜ recordLeft r (now (fleet .exit)) ≡ stepCallIn (chosen cycle) (now (fleet .entry)) (now (words .entry)) ⌝ }
+    ensures { λ r. ⌜ result r (now (fleet .exit) ∷ []) [] ≡ stepCallIn (chosen cycle) (now (fleet .entry)) (now (words .entry)) ⌝ }
 {
     outcome_number(fleet::step_bytes(cycle, fleet, words))
 }
@@ -225,7 +226,7 @@ fn step_bytes(cycle: Cycle, fleet: &mut [u8], words: &[u32]) -> u32
 // Steps a fleet by a round in plain form.
 #[no_mangle]
 pub extern "C" fn rajvokshul_step(fleet: &mut [u8], words: &[u32]) -> u32
-    ensures { λ r. ⌜ recordLeft r (now (fleet .exit)) ≡ stepCall (now (fleet .entry)) (now (words .entry)) ⌝ }
+    ensures { λ r. ⌜ result r (now (fleet .exit) ∷ []) [] ≡ stepCall (now (fleet .entry)) (now (words .entry)) ⌝ }
 {
     step_bytes(Cycle::TwoRound, fleet, words)
 }
@@ -233,7 +234,7 @@ pub extern "C" fn rajvokshul_step(fleet: &mut [u8], words: &[u32]) -> u32
 // The same in the six-round cycle.
 #[no_mangle]
 pub extern "C" fn rajvokshul_step_six(fleet: &mut [u8], words: &[u32]) -> u32
-    ensures { λ r. ⌜ recordLeft r (now (fleet .exit)) ≡ stepCallIn sixRound (now (fleet .entry)) (now (words .entry)) ⌝ }
+    ensures { λ r. ⌜ result r (now (fleet .exit) ∷ []) [] ≡ stepCallIn sixRound (now (fleet .entry)) (now (words .entry)) ⌝ }
 {
     step_bytes(Cycle::SixRound, fleet, words)
 }

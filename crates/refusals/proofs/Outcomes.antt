@@ -41,3 +41,8 @@ then-second (Refused r) b h = refused-not r h
 
 pub then-both : (a b : Outcome) → a ≡ Accepted → b ≡ Accepted → andThen a b ≡ Accepted
 then-both a b h e = rw (h, e)
+
+-- a second outcome that accepts where the first does adds nothing
+pub then-same : (o c : Outcome) → (o ≡ Accepted → c ≡ Accepted) → andThen o c ≡ o
+then-same Accepted c h = h refl
+then-same (Refused r) c h = refl

@@ -8,25 +8,26 @@ use borrow.Author.Tests.{eq-eqb, ne-eqb, lt-ltb, le-ltb}
 use lib.Dec.{eqb, ltb}
 use native.Mathlib.Nat.{add-zero}
 use native.Mathlib.Omega.{arith}
+use lib.ListN.{replicate}
 use Rattle.basics.specs.Lists.{first}
 use Rattle.basics.proofs.Laws.{first-le, first-kept, first-hit, first-on}
 use Rattle.radio.specs.Round.{stopBit}
 use Rattle.radio.specs.Radio.{Radio, complete, majorityComplete, zeroComplete, accurate, firstBreak}
 use Rattle.radio.proofs.Laws.{idle-classes}
-use Rattle.recording.specs.Packed.{trucksOf, openingsOf, roundAt}
+use Rattle.recording.specs.Packed.{trucksOf, openingsOf}
 use Rattle.protocol.specs.declared.Grades.{Grades}
 use Rattle.protocol.specs.Cycles.{Rules, radioIn}
 use Rattle.protocol.specs.Rules.{recorded, truck, runs}
 use Rattle.protocol.specs.Runs.{radiosIn, gradesFor}
 use Rattle.protocol.proofs.AnyRun.{radio-suc, kept}
-use Rattle.playback.specs.Replays.{noGrades, gradesAfter}
+use Rattle.playback.specs.Replays.{noGrades, gradesAfter, FoundAfter}
 use Rattle.playback.specs.Standing.{trucksAfter}
 use Rattle.playback.specs.Grading.{carried, carriedBy}
 use Rattle.playback.proofs.Stood.{nextRadio}
 
--- round k + 1 of a recording on the radio, by the rules of a cycle
-abbrev pub radioAfter : Rules recorded → List ℕ → ℕ → Radio
-radioAfter rules s k = nextRadio rules (trucksOf s) k (roundAt s k) (trucksAfter rules s k)
+-- round k + 1 of these rounds of a recording on the radio, by the rules of a cycle
+abbrev pub radioAfter : Rules recorded → (ℕ → List ℕ) → List ℕ → ℕ → Radio
+radioAfter rules rounds s k = nextRadio rules (trucksOf s) k (rounds k) (trucksAfter rules rounds s k)
 
 -- ---- the first break
 module _ (class : Radio → Bool) (radios : ℕ → Radio) where
@@ -64,20 +65,24 @@ carried-true g k = go (ℕ-discrete g 0)
     go (yes e) = rw (eq-eqb g 0 e) (sym e)
     go (no e) = rw (ne-eqb g 0 e)
 
-module _ (rules : Rules recorded) (s : List ℕ) where
+module _ (rules : Rules recorded) (rounds : ℕ → List ℕ) (s : List ℕ) where
   abbrev radios : ℕ → Radio
-  radios k = radiosIn rules (trucksOf s) (openingsOf s) (roundAt s) k
+  radios k = radiosIn rules (trucksOf s) (openingsOf s) rounds k
 
   -- before round 1
-  pub grades-none : (judging : Bool) → noGrades ≡ gradesAfter rules s judging 0
+  grades-none : (judging : Bool) → noGrades ≡ gradesAfter rules rounds s judging 0
   unfolding gradesAfter gradesFor
   grades-none true = rw (break-none complete radios, break-none majorityComplete radios, break-none zeroComplete radios, break-none accurate radios)
   grades-none false = refl
 
-  pub grades-next : (judging : Bool) (k : ℕ) → gradesAfter rules s judging (suc k) ≡ cond judging (carriedBy (gradesAfter rules s judging k) (radioAfter rules s k) (suc k)) (gradesAfter rules s judging k)
+  -- in a list that was lent as zeros
+  pub found-none : (judging : Bool) (l : List ℕ) → l ≡ replicate 4 0 → FoundAfter rules rounds s judging 0 l
+  found-none judging l e = rw e (record { four = refl; grades = grades-none judging })
+
+  pub grades-next : (judging : Bool) (k : ℕ) → gradesAfter rules rounds s judging (suc k) ≡ cond judging (carriedBy (gradesAfter rules rounds s judging k) (radioAfter rules rounds s k) (suc k)) (gradesAfter rules rounds s judging k)
   unfolding gradesAfter gradesFor carriedBy
   grades-next true k =
-      rw (break-next complete radios k, break-next majorityComplete radios k, break-next zeroComplete radios k, break-next accurate radios k, radio-suc rules (trucksOf s) (openingsOf s) (roundAt s) k)
+      rw (break-next complete radios k, break-next majorityComplete radios k, break-next zeroComplete radios k, break-next accurate radios k, radio-suc rules (trucksOf s) (openingsOf s) rounds k)
   grades-next false k = refl
 
 -- nobody runs: a round breaks nothing
@@ -87,20 +92,20 @@ idle-carried a h g k =
     let e = idle-classes a h in
     rw (e .0, e .1, e .2, e .3, carried-true (g .complete) k, carried-true (g .majority) k, carried-true (g .zero) k, carried-true (g .accurate) k)
 
-module _ (rules : Rules recorded) (s : List ℕ) (k : ℕ) (none : (j : ℕ) → j < trucksOf s → runs (truck (trucksAfter rules s k) j) ≡ false) where
-  idle-radio : (m j : ℕ) → j < trucksOf s → radioAfter rules s (k + m) .running j ≡ false
+module _ (rules : Rules recorded) (rounds : ℕ → List ℕ) (s : List ℕ) (k : ℕ) (none : (j : ℕ) → j < trucksOf s → runs (truck (trucksAfter rules rounds s k) j) ≡ false) where
+  idle-radio : (m j : ℕ) → j < trucksOf s → radioAfter rules rounds s (k + m) .running j ≡ false
   unfolding radioIn
-  idle-radio m j l = ap (λ (r : Bool). r && not (stopBit (roundAt s (k + m)) j)) (ap runs (kept rules (trucksOf s) (openingsOf s) (roundAt s) j l k m (none j l)) ∙ none j l)
+  idle-radio m j l = ap (λ (r : Bool). r && not (stopBit (rounds (k + m)) j)) (ap runs (kept rules (trucksOf s) (openingsOf s) rounds j l k m (none j l)) ∙ none j l)
 
-  pub grades-idle : (judging : Bool) (m : ℕ) → gradesAfter rules s judging (k + m) ≡ gradesAfter rules s judging k
+  pub grades-idle : (judging : Bool) (m : ℕ) → gradesAfter rules rounds s judging (k + m) ≡ gradesAfter rules rounds s judging k
   unfolding radioIn
-  grades-idle judging zero = ap (gradesAfter rules s judging) (add-zero k)
+  grades-idle judging zero = ap (gradesAfter rules rounds s judging) (add-zero k)
   grades-idle judging (suc m) =
-      ap (gradesAfter rules s judging) (let e : k + suc m ≡ suc (k + m) = omega arith in e)
-      ∙ grades-next rules s judging (k + m)
+      ap (gradesAfter rules rounds s judging) (let e : k + suc m ≡ suc (k + m) = omega arith in e)
+      ∙ grades-next rules rounds s judging (k + m)
       ∙ go judging
       ∙ grades-idle judging m
     where
-      go : (b : Bool) → cond b (carriedBy (gradesAfter rules s judging (k + m)) (radioAfter rules s (k + m)) (suc (k + m))) (gradesAfter rules s judging (k + m)) ≡ gradesAfter rules s judging (k + m)
-      go true = idle-carried (radioAfter rules s (k + m)) (idle-radio m) (gradesAfter rules s judging (k + m)) (suc (k + m))
+      go : (b : Bool) → cond b (carriedBy (gradesAfter rules rounds s judging (k + m)) (radioAfter rules rounds s (k + m)) (suc (k + m))) (gradesAfter rules rounds s judging (k + m)) ≡ gradesAfter rules rounds s judging (k + m)
+      go true = idle-carried (radioAfter rules rounds s (k + m)) (idle-radio m) (gradesAfter rules rounds s judging (k + m)) (suc (k + m))
       go false = refl

@@ -1,7 +1,7 @@
 -- Each class is judged by a set: the trucks that break it.
 use mathlib.Core.Path.{_≡_, refl, ap, ap₂, sym, _∙_}
 use mathlib.Core.Bool.{Bool, true, false, cond, not, _&&_, _||_, and-false, true≢false, false≢true}
-use mathlib.Core.List.{List}
+use mathlib.Core.List.{List, [], _∷_}
 use Prim.Native.Nat.{ℕ, _*_, _-_, _^_, _≤_, _<_}
 use native.Mathlib.Decide.{decLt, ℕ-discrete}
 use native.Mathlib.Omega.{arith}
@@ -9,6 +9,7 @@ use borrow.Author.Tests.{eq-eqb, ne-eqb, eqb-true, ltb-true, ltb-false, lt-leb}
 use lib.Bits.{bitAnd, bitOr, and-le-l, xor-lt}
 use lib.Count.{ones}
 use lib.Dec.{eqb, leb, ltb}
+use lib.ListN.{length, getD, set}
 use Rattle.basics.specs.Bits.{bit}
 use Rattle.basics.specs.Lists.{allBelow, someBelow}
 use Rattle.basics.proofs.Laws.{allBelow-all, allBelow-at, none-someBelow, someBelow-none}
@@ -22,7 +23,7 @@ use Rattle.protocol.specs.declared.Grades.{Grades}
 use Rattle.sets.specs.Sets.{Members, without}
 use Rattle.playback.specs.Listens.{rowFrom}
 use Rattle.playback.specs.Standing.{holds}
-use Rattle.playback.specs.Grading.{carried, heardAt, missesSome, carriedBy, RadioSets, askedOf}
+use Rattle.playback.specs.Grading.{carried, heardAt, missesSome, carriedBy, gradesOf, RadioSets, askedOf, Judges}
 use Rattle.playback.specs.declared.grading.Missed.{Missed}
 use Rattle.playback.proofs.Radios.{heard-fits, count-members, some-members}
 use Rattle.playback.proofs.Places.{turn-back}
@@ -329,17 +330,42 @@ module _ {a : Radio} {s : List ℕ} {at n going senders mark : ℕ} (d : RadioSe
         top true = refl
         top false = refl
 
--- what the function returns
-pub judged-done : {a : Radio} {s : List ℕ} {at n going senders mark : ℕ} → RadioSets a s at n going senders mark → (g : Grades) (m : Missed) (k u first last wanted x1 x2 x3 x4 c1 c2 c3 c4 : ℕ)
-    → u ≡ without going mark → first ≡ cond (eqb (g .complete) 0 || eqb (g .majority) 0 || eqb (g .zero) 0) u 0 → last ≡ cond (eqb (g .accurate) 0) (bitAnd going mark) 0
+-- four numbers put one after the other: what is read of the list meanwhile, and what it then says
+put-four : (l : List ℕ) (w x y z : ℕ) → 4 ≤ length l
+    → (length (set (set (set (set l 0 w) 1 x) 2 y) 3 z) ≡ length l)
+    × ((gradesOf (set (set (set (set l 0 w) 1 x) 2 y) 3 z) ≡ record { complete = w; majority = x; zero = y; accurate = z })
+    × ((getD (set l 0 w) 1 0 ≡ getD l 1 0) × ((getD (set (set l 0 w) 1 x) 2 0 ≡ getD l 2 0) × (getD (set (set (set l 0 w) 1 x) 2 y) 3 0 ≡ getD l 3 0))))
+put-four [] w x y z h = absurd (omega arith)
+put-four (a ∷ []) w x y z h = absurd (omega arith)
+put-four (a ∷ b ∷ []) w x y z h = absurd (omega arith)
+put-four (a ∷ b ∷ c ∷ []) w x y z h = absurd (omega arith)
+put-four (a ∷ b ∷ c ∷ d ∷ t) w x y z h = (refl, (refl, (refl, (refl, refl))))
+
+-- what the function makes of its list
+pub judged-four : (s : List ℕ) (at n going senders mark : ℕ) (l : List ℕ) → length l ≡ 4 → (m : Missed) (k u first last wanted x1 x2 x3 x4 c1 c2 c3 c4 : ℕ)
+    → u ≡ without going mark → first ≡ cond (eqb (getD l 0 0) 0 || eqb (getD l 1 0) 0 || eqb (getD l 2 0) 0) u 0 → last ≡ cond (eqb (getD l 3 0) 0) (bitAnd going mark) 0
     → wanted ≡ cond (eqb senders 0) 0 (bitOr first last)
     → Members (m .some) 32 (λ p. bit wanted p && missedAt s at n senders p)
     × (Members (m .all) 32 (λ p. bit wanted p && (missedAt s at n senders p && eqb (heardAt s at n senders p) 0))
     × Members (m .half) 32 (λ p. bit wanted p && (missedAt s at n senders p && leb (2 * ones (heardAt s at n senders p)) (ones senders))))
-    → x1 ≡ without (m .some) mark → c1 ≡ carried (g .complete) (eqb x1 0) k → x2 ≡ without (m .half) mark → c2 ≡ carried (g .majority) (eqb x2 0) k
-    → x3 ≡ without (m .all) mark → c3 ≡ carried (g .zero) (eqb x3 0) k → x4 ≡ without (bitAnd going mark) (m .some) → c4 ≡ carried (g .accurate) (eqb x4 0) k
-    → record { complete = c1; majority = c2; zero = c3; accurate = c4 } ≡ carriedBy g a k
-judged-done {a} {s} {at} {n} {going} {senders} {mark} d g m k u first last wanted x1 x2 x3 x4 c1 c2 c3 c4 eu ef el ew em e1 f1 e2 f2 e3 f3 e4 f4 =
-    rw (f1, e1, f2, e2, f3, e3, f4, e4)
-    (judged-by d g m wanted
-    (ew ∙ ap (cond (eqb senders 0) 0) (ap₂ bitOr (ef ∙ ap (λ (x : ℕ). cond (eqb (g .complete) 0 || eqb (g .majority) 0 || eqb (g .zero) 0) x 0) eu) el)) (em .0) (em .1 .0) (em .1 .1) k)
+    → x1 ≡ without (m .some) mark → c1 ≡ carried (getD l 0 0) (eqb x1 0) k → x2 ≡ without (m .half) mark → c2 ≡ carried (getD (set l 0 c1) 1 0) (eqb x2 0) k
+    → x3 ≡ without (m .all) mark → c3 ≡ carried (getD (set (set l 0 c1) 1 c2) 2 0) (eqb x3 0) k
+    → x4 ≡ without (bitAnd going mark) (m .some) → c4 ≡ carried (getD (set (set (set l 0 c1) 1 c2) 2 c3) 3 0) (eqb x4 0) k
+    → Judges true s at n k going senders mark l (set (set (set (set l 0 c1) 1 c2) 2 c3) 3 c4)
+judged-four s at n going senders mark l four m k u first last wanted x1 x2 x3 x4 c1 c2 c3 c4 eu ef el ew em e1 f1 e2 f2 e3 f3 e4 f4 =
+    let p = put-four l c1 c2 c3 c4 (omega (arith, four)) in
+    record {
+      four = p .0 ∙ four;
+      grades = λ a d.
+          p .1 .0
+          ∙ puts (f1 ∙ ap (λ (x : ℕ). carried (getD l 0 0) (eqb x 0) k) e1)
+          (f2 ∙ ap₂ (λ (y x : ℕ). carried y (eqb x 0) k) (p .1 .1 .0) e2)
+          (f3 ∙ ap₂ (λ (y x : ℕ). carried y (eqb x 0) k) (p .1 .1 .1 .0) e3)
+          (f4 ∙ ap₂ (λ (y x : ℕ). carried y (eqb x 0) k) (p .1 .1 .1 .1) e4)
+          ∙ judged-by d (gradesOf l) m wanted
+          (ew ∙ ap (cond (eqb senders 0) 0) (ap₂ bitOr (ef ∙ ap (λ (x : ℕ). cond (eqb (getD l 0 0) 0 || eqb (getD l 1 0) 0 || eqb (getD l 2 0) 0) x 0) eu) el)) (em .0) (em .1 .0) (em .1 .1) k;
+    }
+  where
+    puts : {w x y z w′ x′ y′ z′ : ℕ} → w ≡ w′ → x ≡ x′ → y ≡ y′ → z ≡ z′
+        → _≡_ {A = Grades} (record { complete = w; majority = x; zero = y; accurate = z }) (record { complete = w′; majority = x′; zero = y′; accurate = z′ })
+    puts a b c d = rw (a, b, c, d)

@@ -18,7 +18,7 @@ use Rattle.sets.proofs.Mirror.{mirror-bit, mirror-xor, mirror-power, mirror-zer
 use Rattle.bitreader.specs.Bits.{bitAt, rowAt, mirrored}
 use Rattle.bitreader.proofs.Digits.{digit-zero, digit-suc, bitAt-lt, one-shifted, numAt-digit, rowAt-digit, mirrored-lt}
 use Rattle.sets.specs.Sets.{Members}
-use Rattle.playback.specs.Standing.{holds, wordFrom, noted}
+use Rattle.playback.specs.Standing.{holds, wordFrom, noted, allOf}
 use Rattle.sets.proofs.Members.{replaced, replaced-all, replaced-none, replaced-more, within-removed}
 
 pub turn-back : (p : ℕ) → p < 32 → 31 - (31 - p) ≡ p
@@ -69,25 +69,22 @@ ones-below (suc n) zero l = ap (λ (x : ℕ). bit x 0) (ones-suc n) ∙ ap (λ (
 ones-below (suc n) (suc j) l =
     ap (λ (x : ℕ). bit x (suc j)) (ones-suc n) ∙ ap (λ (d : ℕ). eqb d 1) (digit-suc (2 ^ n - 1) j (lit< tt)) ∙ ones-below n j (omega arith)
 
-abbrev pub everyone : ℕ → ℕ
-everyone n = (2 ^ n - 1) * 2 ^ (32 - n)
-
-pub everyone-lt : (n : ℕ) → n ≤ 32 → everyone n < 2 ^ 32
+pub everyone-lt : (n : ℕ) → n ≤ 32 → allOf n < 2 ^ 32
 everyone-lt n m = omega (arith, shl-lt n (32 - n) (ones-lt n), ap (λ (x : ℕ). 2 ^ x) (let e : n + (32 - n) ≡ 32 = omega arith in e))
 
-pub everyone-in : (n j : ℕ) → n ≤ 32 → j < n → holds (everyone n) j ≡ true
+pub everyone-in : (n j : ℕ) → n ≤ 32 → j < n → holds (allOf n) j ≡ true
 everyone-in n j m l =
-    ap (bit (everyone n)) (let e : 31 - j ≡ (32 - n) + (n - suc j) = omega arith in e)
-    ∙ ap (λ (x : ℕ). eqb (x % 2) 1) (sym (shr-shr (everyone n) (32 - n) (n - suc j)) ∙ ap (λ (x : ℕ). x / 2 ^ (n - suc j)) (shl-shr (2 ^ n - 1) (32 - n)))
+    ap (bit (allOf n)) (let e : 31 - j ≡ (32 - n) + (n - suc j) = omega arith in e)
+    ∙ ap (λ (x : ℕ). eqb (x % 2) 1) (sym (shr-shr (allOf n) (32 - n) (n - suc j)) ∙ ap (λ (x : ℕ). x / 2 ^ (n - suc j)) (shl-shr (2 ^ n - 1) (32 - n)))
     ∙ ones-below n (n - suc j) (omega arith)
 
-pub everyone-out : (n j : ℕ) → n ≤ j → j < 32 → holds (everyone n) j ≡ false
+pub everyone-out : (n j : ℕ) → n ≤ j → j < 32 → holds (allOf n) j ≡ false
 everyone-out n j o l =
-    sym (bit-mod (everyone n) (32 - n) (31 - j) (omega arith))
-    ∙ ap (λ (x : ℕ). bit x (31 - j)) (ap (λ (x : ℕ). x % 2 ^ (32 - n)) (let e : everyone n ≡ (2 ^ n - 1) * 2 ^ (32 - n) + 0 = omega arith in e) ∙ low (2 ^ n - 1) (32 - n) (pow-pos (32 - n)))
+    sym (bit-mod (allOf n) (32 - n) (31 - j) (omega arith))
+    ∙ ap (λ (x : ℕ). bit x (31 - j)) (ap (λ (x : ℕ). x % 2 ^ (32 - n)) (let e : allOf n ≡ (2 ^ n - 1) * 2 ^ (32 - n) + 0 = omega arith in e) ∙ low (2 ^ n - 1) (32 - n) (pow-pos (32 - n)))
     ∙ bit-zero (31 - j)
 
-pub everyone-is : (n : ℕ) → n ≤ 32 → (1 * 2 ^ n % 2 ^ 64 - 1) * 2 ^ (32 - n) % 2 ^ 64 ≡ everyone n
+pub everyone-is : (n : ℕ) → n ≤ 32 → (1 * 2 ^ n % 2 ^ 64 - 1) * 2 ^ (32 - n) % 2 ^ 64 ≡ allOf n
 everyone-is n m = ap (λ (x : ℕ). (x - 1) * 2 ^ (32 - n) % 2 ^ 64) (one-shifted n (omega arith)) ∙ shl-exact n (32 - n) 64 (ones-lt n) (omega arith)
 
 -- ---- the ends of those of a set are noted one by one

@@ -12,7 +12,7 @@ use Rattle.sets.proofs.Members.{only-is}
 use Rattle.refusals.specs.declared.Refusal.{Refusal}
 use Rattle.refusals.specs.declared.Refusal.the-variants.{ShortBuffer}
 use Rattle.refusals.specs.declared.Outcome.the-variants.{Accepted, Refused}
-use Rattle.recording.specs.Packed.{roundsOf}
+use Rattle.recording.specs.Packed.{roundsOf, roundAt}
 use Rattle.recording.specs.Checks.{checkOf}
 use Rattle.counters.specs.Counters.{inUse}
 use Rattle.protocol.specs.declared.Sent.{Sent}
@@ -87,6 +87,6 @@ module _ (p : Protocol) (s d : List ℕ) where
     unfolding runCheckIn runBytesIn ranIn
     run-short l = (rw (taken, lt-ltb (length d) (sizeFor 32) l), rw (taken, lt-ltb (length d) (sizeFor 32) l))
 
-    pub run-put : sizeFor 32 ≤ length d → (l : List ℕ) → l ≡ filled (recordByte (fleetAfter p s (roundsOf s))) (sizeFor 32) d → (Accepted ≡ runCheckIn p s d) × (l ≡ runBytesIn p s d)
+    pub run-put : sizeFor 32 ≤ length d → (l : List ℕ) → l ≡ filled (recordByte (fleetAfter p (roundAt s) s (roundsOf s))) (sizeFor 32) d → (Accepted ≡ runCheckIn p s d) × (l ≡ runBytesIn p s d)
     unfolding runCheckIn runBytesIn ranIn
     run-put room l e = (rw (taken, le-ltb (length d) (sizeFor 32) room), e ∙ rw (taken, le-ltb (length d) (sizeFor 32) room))

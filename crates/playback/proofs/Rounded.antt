@@ -17,20 +17,20 @@ use Rattle.sets.proofs.Words.{bit-zero}
 use Rattle.sets.proofs.Members.{members-none, members-rest}
 use Rattle.playback.specs.Sets.{Sorted}
 use Rattle.playback.specs.Listens.{rowFrom, heardFrom, someValue, settled}
-use Rattle.playback.specs.Standing.{wordFrom, goingOn, proposersOf, unreadOf, wantedOf, Proposes, mayOf, Vetoes, unmarkedOf, Prepares, withBit, quietOf, askedIn, Listens, willingOf, Accepts}
+use Rattle.playback.specs.Standing.{wordFrom, goingOn, sendersOf, proposersOf, unreadOf, wantedOf, Proposes, mayOf, Vetoes, unmarkedOf, Prepares, withBit, quietOf, askedIn, Listens, willingOf, Accepts}
 
 pub proposes-by : (s : List ℕ) (at n left running : ℕ) (by by′ : List ℕ) (stop active mark going u fewer wanted changed : ℕ) (h : Hearing)
-    → stop ≡ wordFrom s at → active ≡ wordFrom s (at + n) → mark ≡ wordFrom s (at + 2 * n) → going ≡ without running stop → u ≡ unreadOf left mark → fewer ≡ without going u
+    → stop ≡ wordFrom s at → mark ≡ wordFrom s (at + 2 * n) → going ≡ without running stop → u ≡ unreadOf left mark → fewer ≡ without going u
     → wanted ≡ cond (eqb (bitAnd going active) 0) 0 fewer
     → Members (h .one) 32 (λ p. bit wanted p && isOne (heardFrom s (at + 3 * n) n (bitAnd going active) by p .heard))
     × (Members (h .several) 32 (λ p. bit wanted p && isSeveral (heardFrom s (at + 3 * n) n (bitAnd going active) by p .heard))
     × Sorted (h .taking) 32 wanted (λ p. heardFrom s (at + 3 * n) n (bitAnd going active) by p .least))
     → changed ≡ without (bitOr (h .one) (h .several)) mark → by′ ≡ filled (settled by (h .taking) changed) 16 by
-    → Proposes s at n left running by by′ (record { going = going; senders = bitAnd going active; mark = mark; one = h .one; several = h .several })
-proposes-by s at n left running by by′ stop active mark going u fewer wanted changed h es ea em eg eu ef ew eh ec eb =
+    → Proposes s at n left running active by by′ (record { going = going; senders = bitAnd going active; mark = mark; one = h .one; several = h .several })
+proposes-by s at n left running by by′ stop active mark going u fewer wanted changed h es em eg eu ef ew eh ec eb =
     let g : going ≡ goingOn s at running = eg ∙ ap (without running) es in
-    let d : bitAnd going active ≡ proposersOf s at n running = ap₂ bitAnd g ea in
-    let w : wanted ≡ wantedOf s at n left running = ew ∙ ap₂ (λ (x y : ℕ). cond (eqb x 0) 0 y) d (ef ∙ ap₂ without g (eu ∙ ap (unreadOf left) em)) in
+    let d : bitAnd going active ≡ sendersOf s at running active = ap (λ (x : ℕ). bitAnd x active) g in
+    let w : wanted ≡ wantedOf s at n left running active = ew ∙ ap₂ (λ (x y : ℕ). cond (eqb x 0) 0 y) d (ef ∙ ap₂ without g (eu ∙ ap (unreadOf left) em)) in
     record {
       going = g;
       senders = d;

@@ -36,7 +36,7 @@ use Rattle.sets.specs.Sets.{Members, without}
 use Rattle.playback.specs.Sets.{Sorted, heardSet, valuesOf}
 use Rattle.playback.specs.Sets.{estimates}
 use Rattle.playback.specs.Listens.{rowFrom, heardFrom, someValue, settled}
-use Rattle.playback.specs.Standing.{ReadsAs, nextTrucks, holds, wordFrom, stateOf, memoryOf, standing, sentBy, Stands, goingOn, proposersOf, mayOf, vetoersOf, Vetoes, noted}
+use Rattle.playback.specs.Standing.{ReadsAs, Active, nextTrucks, holds, wordFrom, stateOf, memoryOf, standing, sentBy, Stands, goingOn, sendersOf, mayOf, vetoersOf, Vetoes, noted}
 use Rattle.playback.specs.Grading.{RadioSets}
 use Rattle.sets.proofs.Members.{member-below}
 use Rattle.playback.proofs.ByCrusher.{values-right, values-silent}
@@ -148,22 +148,19 @@ module _ {n last k : ℕ} {opening : ℕ → ℕ} {ts : List Truck} {by ends sen
       unfolding afterIn
       next-truck j l = getD-filled _ n ts j (opened 0) l
 
-      word-bit : (i p j : ℕ) → i < 3 + n → p ≡ at + i * n → j < n → holds (wordFrom s p) j ≡ bit (getD w i 0) j
-      word-bit i p j li e l = ap (λ (x : ℕ). holds (wordFrom s x) j) e ∙ reads i j li l
+      word-bit : (i p j : ℕ) → (i ≡ 1 → ⊥) → i < 3 + n → p ≡ at + i * n → j < n → holds (wordFrom s p) j ≡ bit (getD w i 0) j
+      word-bit i p j ne li e l = ap (λ (x : ℕ). holds (wordFrom s x) j) e ∙ reads i j ne li l
 
       pub stop-bit : (j : ℕ) → j < n → holds (wordFrom s at) j ≡ stopBit w j
-      stop-bit j l = word-bit 0 at j (omega arith) (omega arith) l
-
-      pub active-bit : (j : ℕ) → j < n → holds (wordFrom s (at + n)) j ≡ activeBit w j
-      active-bit j l = word-bit 1 (at + n) j (omega arith) (omega arith) l
+      stop-bit j l = word-bit 0 at j (λ z. omega arith) (omega arith) (omega arith) l
 
       pub mark-bit : (j : ℕ) → j < n → holds (wordFrom s (at + 2 * n)) j ≡ markBit w j
-      mark-bit j l = word-bit 2 (at + 2 * n) j (omega arith) refl l
+      mark-bit j l = word-bit 2 (at + 2 * n) j (λ z. omega arith) (omega arith) refl l
 
       row-bit : (i j : ℕ) → i < n → j < n → holds (rowFrom s (at + 3 * n) n (31 - i)) j ≡ lossBit w i j
       row-bit i j li l =
           ap (λ (x : ℕ). holds (wordFrom s (at + 3 * n + x * n)) j) (turn-back i (omega (arith, few)))
-          ∙ word-bit (3 + i) (at + 3 * n + i * n) j (omega arith) (omega (arith, add-mul 3 i n)) l
+          ∙ word-bit (3 + i) (at + 3 * n + i * n) j (λ z. omega arith) (omega arith) (omega (arith, add-mul 3 i n)) l
 
       pub going-bit : (j : ℕ) → j < n → holds (goingOn s at running) j ≡ (holds running j && not (stopBit w j))
       going-bit j l = bit-without running (wordFrom s at) (31 - j) ∙ ap (λ (b : Bool). holds running j && not b) (stop-bit j l)
@@ -334,23 +331,29 @@ module _ {n last k : ℕ} {opening : ℕ → ℕ} {ts : List Truck} {by ends sen
             same j er ed ee = rw (er, ed, ee)
 
       -- ---- a round in which the active send their estimates
-      module _ (asks : (b : Bool) (t : Truck) → rules .sends (suc k) b t ≡ b) where
+      module _ (active : ℕ) (actives : Active n running w active) (asks : (b : Bool) (t : Truck) → rules .sends (suc k) b t ≡ b) where
         abbrev senders : ℕ
-        senders = proposersOf s at n running
+        senders = sendersOf s at running active
 
         pub senders-lt : senders < 2 ^ 32
-        senders-lt = omega (arith, and-le-l (goingOn s at running) (wordFrom s (at + n)), going-lt)
+        senders-lt = omega (arith, and-le-l (goingOn s at running) active, going-lt)
 
         pub proposers-bit : (j : ℕ) → j < n → holds senders j ≡ nextRadio rules n k w ts .sends j
         unfolding radioIn
         proposers-bit j l =
-            bit-and (goingOn s at running) (wordFrom s (at + n)) (31 - j) ∙ ap₂ _&&_ (going-bit j l) (active-bit j l)
+            bit-and (goingOn s at running) active (31 - j) ∙ ap (λ (b : Bool). b && holds active j) (going-bit j l)
+            ∙ go (holds running j) (not (stopBit w j)) (holds active j) (activeBit w j) (actives j l)
             ∙ sym (ap₂ (λ (x y : Bool). (x && not (stopBit w j)) && y) (runs-is j l) (asks (activeBit w j) (truck ts j)))
+          where
+            go : (x y b c : Bool) → (x ≡ true → b ≡ c) → ((x && y) && b) ≡ ((x && y) && c)
+            go true true b c e = e refl
+            go true false b c e = refl
+            go false y b c e = refl
 
         pub proposers-are : Members (mirrored 32 senders) n (nextRadio rules n k w ts .sends)
         proposers-are =
             placed senders n (nextRadio rules n k w ts .sends) few proposers-bit
-            (λ j h l. bit-and (goingOn s at running) (wordFrom s (at + n)) (31 - j) ∙ ap (λ (b : Bool). b && holds (wordFrom s (at + n)) j) (going-none j h l))
+            (λ j h l. bit-and (goingOn s at running) active (31 - j) ∙ ap (λ (b : Bool). b && holds active j) (going-none j h l))
 
         abbrev values : ℕ → List ℕ
         values j = valuesHeard (nextRadio rules n k w ts) ts j
@@ -399,7 +402,7 @@ module _ {n last k : ℕ} {opening : ℕ → ℕ} {ts : List Truck} {by ends sen
             (changes : (j : ℕ) → j < n → holds changed j ≡ ((holds running j && not (stopBit w j)) && not (markBit w j) && someValue (different (valuesHeard (nextRadio rules n k w ts) ts j))))
             (none : (j : ℕ) → n ≤ j → j < 32 → holds changed j ≡ false)
             (taken : (j : ℕ) → j < n → holds changed j ≡ true → (c : ℕ) → c < 16
-            → holds (getD taking c 0) j ≡ eqb (heardFrom s (at + 3 * n) n (proposersOf s at n running) by (31 - j) .least) c) where
+            → holds (getD taking c 0) j ≡ eqb (heardFrom s (at + 3 * n) n (sendersOf s at running active) by (31 - j) .least) c) where
           settled-bit : (c j : ℕ) → c < 16
               → holds (getD by′ c 0) j ≡ ((holds (getD by c 0) j && not (holds changed j)) || (holds (getD taking c 0) j && holds changed j))
           settled-bit c j lc =

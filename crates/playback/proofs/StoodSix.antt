@@ -35,7 +35,7 @@ use Rattle.playback.specs.declared.replay.Vetoed.{Vetoed}
 use Rattle.playback.specs.Sets.{estimates}
 use Rattle.playback.specs.Listens.{rowFrom, heardFrom, someValue}
 use Rattle.playback.specs.Sets.{heardSet}
-use Rattle.playback.specs.Standing.{ReadsAs, nextTrucks, holds, wordFrom, stateOf, memoryOf, standing, sentBy, Stands, goingOn, proposersOf, mayOf, Vetoes, noted, unmarkedOf, Prepares, quietOf, Listens, willingOf, Accepts}
+use Rattle.playback.specs.Standing.{ReadsAs, Active, nextTrucks, holds, wordFrom, stateOf, memoryOf, standing, sentBy, Stands, goingOn, proposersOf, mayOf, Vetoes, noted, unmarkedOf, Prepares, quietOf, Listens, willingOf, Accepts}
 use Rattle.playback.specs.Grading.{RadioSets}
 use Rattle.playback.proofs.Places.{placed}
 use Rattle.playback.proofs.Stood.{truck-same, memory-back, heard-silent, heard-others, nextRadio, runs-is, opening-is, running-is, mark-is, unwilling-is, estimate-after, sorted-kept, stands-next, mark-bit, going-bit, going-lt, going-none, any-heard, radio-sets, senders-lt, proposers-are, wanted-none, listens, now-sorted, crushers-kept}
@@ -131,23 +131,23 @@ module _ {n last k : ℕ} {opening : ℕ → ℕ} {ts : List Truck} {by ends sen
         estimate-after st sixRules few small s at w reads (λ t. refl) j l
         ∙ ap (λ (t : Truck). cond (goes j) (t .estimate) (truck ts j .estimate)) (prepare-plays j)
 
-    pub prepare-radio : RadioSets (nextRadio sixRules n k w ts) s (at + 3 * n) n (goingOn s at running) (proposersOf s at n running) (wordFrom s (at + 2 * n))
-    prepare-radio =
-        radio-sets st sixRules few small s at w reads (proposersOf s at n running) (senders-lt st sixRules few small s at w reads asks) (proposers-are st sixRules few small s at w reads asks)
+    pub prepare-radio : Active n running w (wordFrom s (at + n)) → RadioSets (nextRadio sixRules n k w ts) s (at + 3 * n) n (goingOn s at running) (proposersOf s at n running) (wordFrom s (at + 2 * n))
+    prepare-radio actives =
+        radio-sets st sixRules few small s at w reads (proposersOf s at n running) (senders-lt st sixRules few small s at w reads (wordFrom s (at + n)) actives asks) (proposers-are st sixRules few small s at w reads (wordFrom s (at + n)) actives asks)
 
-    module _ {by′ : List ℕ} {r : Played} (p : Prepares s at n running by by′ r) where
+    module _ (actives : Active n running w (wordFrom s (at + n))) {by′ : List ℕ} {r : Played} (p : Prepares s at n running by by′ r) where
       abbrev unread : ℕ
       unread = wordFrom s (at + 2 * n)
 
       changes : (j : ℕ) → j < n → holds (p .changed) j ≡ (goes j && not (markBit w j) && someValue (different (values j)))
       changes j l =
-          p .heard .each (31 - j) (omega arith) ∙ listens st sixRules few small s at w reads asks unread someValue refl j l
+          p .heard .each (31 - j) (omega arith) ∙ listens st sixRules few small s at w reads (wordFrom s (at + n)) actives asks unread someValue refl j l
           ∙ ap (λ (b : Bool). (goes j && not b) && someValue (different (values j))) (mark-bit st sixRules few small s at w reads j l)
 
       none : (j : ℕ) → n ≤ j → j < 32 → holds (p .changed) j ≡ false
       none j h l =
           p .heard .each (31 - j) (omega arith)
-          ∙ ap (λ (b : Bool). b && someValue (heardFrom s (at + 3 * n) n (proposersOf s at n running) by (31 - j) .heard)) (wanted-none st sixRules few small s at w reads asks unread j h l)
+          ∙ ap (λ (b : Bool). b && someValue (heardFrom s (at + 3 * n) n (proposersOf s at n running) by (31 - j) .heard)) (wanted-none st sixRules few small s at w reads (wordFrom s (at + n)) actives asks unread j h l)
 
       taken : (j : ℕ) → j < n → holds (p .changed) j ≡ true → (c : ℕ) → c < 16
           → holds (getD (p .taking) c 0) j ≡ eqb (heardFrom s (at + 3 * n) n (proposersOf s at n running) by (31 - j) .least) c
@@ -162,8 +162,8 @@ module _ {n last k : ℕ} {opening : ℕ → ℕ} {ts : List Truck} {by ends sen
           (λ j l g.
           subst (λ (x : Truck). x ≡ standing (opening j) (x .estimate) (x .heard) true false (holds 0 j) (holds 0 j) (getD ends j 0) (x .sent)) (sym (prepare-plays j))
           (plays-on (cond (markBit w j) (truck ts j .estimate) (leastOr (truck ts j .estimate) (values j))) false j l g 0 (sym (bit-zero (31 - j)))))
-          (crushers-kept st sixRules few small s at w reads asks takes (p .changed) (p .taking) by′ (p .took) changes none taken)
-          (now-sorted st sixRules few small s at w reads asks takes (p .changed) (p .taking) by′ (p .took) changes none taken)
+          (crushers-kept st sixRules few small s at w reads (wordFrom s (at + n)) actives asks takes (p .changed) (p .taking) by′ (p .took) changes none taken)
+          (now-sorted st sixRules few small s at w reads (wordFrom s (at + n)) actives asks takes (p .changed) (p .taking) by′ (p .took) changes none taken)
 
   -- estimates stay in the other rounds
   estimate-stays : ((j : ℕ) → playsIn sixRules radio (suc k) w ts j .estimate ≡ truck ts j .estimate) → (j : ℕ) → j < n → now j .estimate ≡ truck ts j .estimate

@@ -33,7 +33,7 @@ use Rattle.playback.specs.declared.replay.Proposed.{Proposed}
 use Rattle.playback.specs.declared.replay.Vetoed.{Vetoed}
 use Rattle.playback.specs.Sets.{estimates}
 use Rattle.playback.specs.Listens.{heardFrom, someValue}
-use Rattle.playback.specs.Standing.{ReadsAs, nextTrucks, holds, wordFrom, stateOf, standing, sentBy, Stands, unreadOf, wantedOf, proposersOf, Proposes, Vetoes, noted}
+use Rattle.playback.specs.Standing.{ReadsAs, Active, nextTrucks, holds, wordFrom, stateOf, standing, sentBy, Stands, unreadOf, wantedOf, sendersOf, Proposes, Vetoes, noted}
 use Rattle.playback.specs.Grading.{RadioSets}
 use Rattle.playback.proofs.Stood.{truck-same, nextRadio, opening-is, running-is, mark-is, unwilling-is, next-plays, estimate-after, sorted-kept, end-now, stands-next, mark-bit, going-bit, going-lt, going-none, radio-sets, senders-lt, proposers-bit, proposers-are, wanted-none, listens, now-sorted, crushers-kept}
 use Rattle.playback.proofs.Stood.{vetoers-lt, vetoers-bit, own-veto, done-bit, on-bit, on-none, on-lt, done-goes}
@@ -94,7 +94,7 @@ module _ {n last k : ℕ} {opening : ℕ → ℕ} {ts : List Truck} {by ends sen
         estimate-after st twoRules few small s at w reads (λ t. refl) j l
         ∙ ap (λ (t : Truck). cond (holds running j && not (stopBit w j)) (t .estimate) (truck ts j .estimate)) (plays-are j)
 
-    module _ (left : ℕ) (end : last ≡ k + left) {by′ : List ℕ} {r : Proposed} (p : Proposes s at n left running by by′ r) where
+    module _ (left : ℕ) (end : last ≡ k + left) (active : ℕ) (actives : Active n running w active) {by′ : List ℕ} {r : Proposed} (p : Proposes s at n left running active by by′ r) where
       abbrev unread : ℕ
       unread = unreadOf left (wordFrom s (at + 2 * n))
 
@@ -108,10 +108,10 @@ module _ {n last k : ℕ} {opening : ℕ → ℕ} {ts : List Truck} {by ends sen
       marks j l = ap (λ (x : ℕ). holds x j) (p .mark) ∙ mark-bit st twoRules few small s at w reads j l
 
       one-bit : (j : ℕ) → j < n → holds (r .one) j ≡ (((holds running j && not (stopBit w j)) && not (holds unread j)) && isOne (different (values j)))
-      one-bit j l = p .one .each (31 - j) (omega arith) ∙ listens st twoRules few small s at w reads asks unread isOne refl j l
+      one-bit j l = p .one .each (31 - j) (omega arith) ∙ listens st twoRules few small s at w reads active actives asks unread isOne refl j l
 
       several-bit : (j : ℕ) → j < n → holds (r .several) j ≡ (((holds running j && not (stopBit w j)) && not (holds unread j)) && isSeveral (different (values j)))
-      several-bit j l = p .several .each (31 - j) (omega arith) ∙ listens st twoRules few small s at w reads asks unread isSeveral refl j l
+      several-bit j l = p .several .each (31 - j) (omega arith) ∙ listens st twoRules few small s at w reads active actives asks unread isSeveral refl j l
 
       -- the row of a truck was read, unless it has a mark and rounds are left
       was-read : (j : ℕ) → j < n → (markBit w j ≡ true → suc k ≡ last) → holds unread j ≡ false
@@ -150,27 +150,27 @@ module _ {n last k : ℕ} {opening : ℕ → ℕ} {ts : List Truck} {by ends sen
       none j h l =
           changed-bit j
           ∙ ap₂ (λ (x y : Bool). (x || y) && not (holds (r .mark) j))
-          (p .one .each (31 - j) (omega arith) ∙ ap (λ (b : Bool). b && isOne (heardFrom s (at + 3 * n) n (proposersOf s at n running) by (31 - j) .heard)) (wanted-none st twoRules few small s at w reads asks unread j h l))
-          (p .several .each (31 - j) (omega arith) ∙ ap (λ (b : Bool). b && isSeveral (heardFrom s (at + 3 * n) n (proposersOf s at n running) by (31 - j) .heard)) (wanted-none st twoRules few small s at w reads asks unread j h l))
+          (p .one .each (31 - j) (omega arith) ∙ ap (λ (b : Bool). b && isOne (heardFrom s (at + 3 * n) n (sendersOf s at running active) by (31 - j) .heard)) (wanted-none st twoRules few small s at w reads active actives asks unread j h l))
+          (p .several .each (31 - j) (omega arith) ∙ ap (λ (b : Bool). b && isSeveral (heardFrom s (at + 3 * n) n (sendersOf s at running active) by (31 - j) .heard)) (wanted-none st twoRules few small s at w reads active actives asks unread j h l))
 
       taken : (j : ℕ) → j < n → holds changed j ≡ true → (c : ℕ) → c < 16
-          → holds (getD (p .taking) c 0) j ≡ eqb (heardFrom s (at + 3 * n) n (proposersOf s at n running) by (31 - j) .least) c
+          → holds (getD (p .taking) c 0) j ≡ eqb (heardFrom s (at + 3 * n) n (sendersOf s at running active) by (31 - j) .least) c
       taken j l h c lc =
           p .sorted c lc .each (31 - j) (omega arith)
-          ∙ ap (λ (b : Bool). b && eqb (heardFrom s (at + 3 * n) n (proposersOf s at n running) by (31 - j) .least) c)
+          ∙ ap (λ (b : Bool). b && eqb (heardFrom s (at + 3 * n) n (sendersOf s at running active) by (31 - j) .least) c)
           (asked (holds (r .one) j) refl (holds (r .several) j) refl (and-left (holds (r .one) j || holds (r .several) j) (not (holds (r .mark) j)) (sym (changed-bit j) ∙ h)))
         where
-          asked : (x : Bool) → holds (r .one) j ≡ x → (y : Bool) → holds (r .several) j ≡ y → (x || y) ≡ true → holds (wantedOf s at n left running) j ≡ true
+          asked : (x : Bool) → holds (r .one) j ≡ x → (y : Bool) → holds (r .several) j ≡ y → (x || y) ≡ true → holds (wantedOf s at n left running active) j ≡ true
           asked true ex y ey e =
-              and-left (holds (wantedOf s at n left running) j) (isOne (heardFrom s (at + 3 * n) n (proposersOf s at n running) by (31 - j) .heard)) (sym (p .one .each (31 - j) (omega arith)) ∙ ex)
+              and-left (holds (wantedOf s at n left running active) j) (isOne (heardFrom s (at + 3 * n) n (sendersOf s at running active) by (31 - j) .heard)) (sym (p .one .each (31 - j) (omega arith)) ∙ ex)
           asked false ex true ey e =
-              and-left (holds (wantedOf s at n left running) j) (isSeveral (heardFrom s (at + 3 * n) n (proposersOf s at n running) by (31 - j) .heard)) (sym (p .several .each (31 - j) (omega arith)) ∙ ey)
+              and-left (holds (wantedOf s at n left running active) j) (isSeveral (heardFrom s (at + 3 * n) n (sendersOf s at running active) by (31 - j) .heard)) (sym (p .several .each (31 - j) (omega arith)) ∙ ey)
           asked false ex false ey e = absurd (true≢false (sym e))
 
       pub proposal-radio : RadioSets (nextRadio twoRules n k w ts) s (at + 3 * n) n (r .going) (r .senders) (r .mark)
       proposal-radio =
           rw (p .going, p .senders, p .mark)
-          (radio-sets st twoRules few small s at w reads (proposersOf s at n running) (senders-lt st twoRules few small s at w reads asks) (proposers-are st twoRules few small s at w reads asks))
+          (radio-sets st twoRules few small s at w reads (sendersOf s at running active) (senders-lt st twoRules few small s at w reads active actives asks) (proposers-are st twoRules few small s at w reads active actives asks))
 
       pub proposal-stands : Stands n last (suc k) opening (nextTrucks twoRules n k w ts) by′ (filled (noted ends (without running (r .going)) (suc k)) 32 ends) (countedUp sent (r .senders)) (r .going) decided (r .mark) (r .one) (r .several) 0
       proposal-stands =
@@ -185,10 +185,10 @@ module _ {n last k : ℕ} {opening : ℕ → ℕ} {ts : List Truck} {by ends sen
           (truck-same (cond (markBit w j) (truck ts j .estimate) (leastOr (truck ts j .estimate) (values j)))
           (record { proposals = counted (radio .sends j) (truck ts j .sent .proposals); vetoes = truck ts j .sent .vetoes })
           (opening-is st j l) (sym (marks j l)) refl (willing j l ∙ sym (bit-zero (31 - j))) (running-is st j l (and-left (holds running j) (not (stopBit w j)) g))))
-          (crushers-kept st twoRules few small s at w reads asks takes changed (p .taking) by′ (p .took) changes none taken)
+          (crushers-kept st twoRules few small s at w reads active actives asks takes changed (p .taking) by′ (p .took) changes none taken)
           (length-up sent (r .senders) (st .digits))
-          (λ j l. counts-next j l (r .senders) (ap (λ (x : ℕ). holds x j) (p .senders) ∙ proposers-bit st twoRules few small s at w reads asks j l ∙ sym (ap (λ (b : Bool). b && radio .sends j) o))
-          (bit-high (r .senders) 32 (32 + (31 - j)) (rw (p .senders) (senders-lt st twoRules few small s at w reads asks)) (omega arith) ∙ sym (ap (λ (b : Bool). not b && radio .sends j) o)))
+          (λ j l. counts-next j l (r .senders) (ap (λ (x : ℕ). holds x j) (p .senders) ∙ proposers-bit st twoRules few small s at w reads active actives asks j l ∙ sym (ap (λ (b : Bool). b && radio .sends j) o))
+          (bit-high (r .senders) 32 (32 + (31 - j)) (rw (p .senders) (senders-lt st twoRules few small s at w reads active actives asks)) (omega arith) ∙ sym (ap (λ (b : Bool). not b && radio .sends j) o)))
           (λ j l g h.
           let on = sym (goes j l) ∙ g in
           let u = was-read j l (λ m. h (marks j l ∙ m)) in
@@ -196,7 +196,7 @@ module _ {n last k : ℕ} {opening : ℕ → ℕ} {ts : List Truck} {by ends sen
             ap isOne e ∙ sym (one-bit j l ∙ ap₂ (λ (x y : Bool). (x && not y) && isOne (different (values j))) on u),
             ap isSeveral e ∙ sym (several-bit j l ∙ ap₂ (λ (x y : Bool). (x && not y) && isSeveral (different (values j))) on u),
           ))
-          (now-sorted st twoRules few small s at w reads asks takes changed (p .taking) by′ (p .took) changes none taken)
+          (now-sorted st twoRules few small s at w reads active actives asks takes changed (p .taking) by′ (p .took) changes none taken)
 
   -- ---- a veto round
   module _ (o : odd (suc k) ≡ false) where

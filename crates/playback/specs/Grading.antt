@@ -6,6 +6,7 @@ use mathlib.Core.List.{List}
 use lib.Bits.{bitAnd, bitOr}
 use lib.Count.{ones}
 use lib.Dec.{eqb, leb}
+use lib.ListN.{length, getD}
 use Rattle.bitreader.specs.Bits.{mirrored}
 use Rattle.radio.specs.Radio.{Radio, hears, complete, majorityComplete, zeroComplete, accurate}
 use Rattle.protocol.specs.declared.Grades.{Grades}
@@ -42,6 +43,10 @@ carriedBy g a k =
       accurate = carried (g .accurate) (accurate a) k;
     }
 
+-- the grades, by the list of four numbers in which a run keeps them
+abbrev pub gradesOf : List ℕ → Grades
+gradesOf l = record { complete = getD l 0 0; majority = getD l 1 0; zero = getD l 2 0; accurate = getD l 3 0 }
+
 -- a round on the radio is what these sets say
 pub record RadioSets (a : Radio) (s : List ℕ) (at n going senders mark : ℕ) : Type 0 where
   pub few : a .trucks ≤ 32
@@ -57,3 +62,8 @@ pub record RadioSets (a : Radio) (s : List ℕ) (at n going senders mark : ℕ) 
 abbrev pub askedOf : Grades → ℕ → ℕ → ℕ
 askedOf g going mark =
     bitOr (cond (eqb (g .complete) 0 || eqb (g .majority) 0 || eqb (g .zero) 0) (without going mark) 0) (cond (eqb (g .accurate) 0) (bitAnd going mark) 0)
+
+-- what judging a round, with its first row at a place and as round k, makes of the four numbers, where it is asked for
+pub record Judges (judging : Bool) (s : List ℕ) (at n k going senders mark : ℕ) (l l′ : List ℕ) : Type 0 where
+  pub four : length l′ ≡ 4
+  pub grades : (a : Radio) → RadioSets a s at n going senders mark → gradesOf l′ ≡ cond judging (carriedBy (gradesOf l) a k) (gradesOf l)

@@ -1,6 +1,6 @@
 pub mod Sets
 pub mod Listens
-pub mod Replays
 pub mod Standing
 pub mod Grading
+pub mod Replays
 pub mod Bytes

@@ -5,13 +5,13 @@ use mathlib.Core.Bool.{Bool, true, false, cond, not, _&&_}
 use mathlib.Core.List.{List, []}
 use lib.Bits.{bitAnd, bitOr, bitXor}
 use lib.Dec.{eqb, ltb}
-use lib.ListN.{length, getD}
+use lib.ListN.{length, getD, replicate}
 use Rattle.basics.specs.Bits.{bit}
 use Rattle.basics.specs.Lists.{first, filled, someBelow}
 use Rattle.radio.specs.Round.{activeBit}
 use Rattle.refusals.specs.declared.Outcome.the-variants.{Accepted}
 use Rattle.bitreader.specs.Bits.{bitAt, numAt}
-use Rattle.recording.specs.Packed.{trucksOf, openingAt, openingsOf, roundPlace, roundAt}
+use Rattle.recording.specs.Packed.{trucksOf, countsOf, openingAt, openingsInto, openingsOf, roundPlace, roundAt}
 use Rattle.recording.specs.declared.Counts.{Counts}
 use Rattle.recording.specs.Checks.{frameCheck}
 use Rattle.protocol.specs.declared.Heard.{Heard}
@@ -27,6 +27,7 @@ use Rattle.protocol.specs.Runs.{openedTrucks, trucksIn}
 use Rattle.playback.specs.declared.replay.Proposed.{Proposed}
 use Rattle.playback.specs.declared.replay.Vetoed.{Vetoed}
 use Rattle.playback.specs.declared.replay.Sets.{Sets}
+use Rattle.playback.specs.declared.replay.Begun.{Begun}
 use Rattle.playback.specs.declared.six.Played.{Played}
 use Rattle.sets.specs.Sets.{Members, without}
 use Rattle.counters.specs.Counters.{tally, inUse}
@@ -41,9 +42,13 @@ holds set j = bit set (31 - j)
 abbrev pub wordFrom : List ℕ → ℕ → ℕ
 wordFrom s at = numAt (bitAt s) at 32
 
--- the trucks after k rounds by the rules of a cycle
-abbrev pub trucksAfter : Rules recorded → List ℕ → ℕ → List Truck
-trucksAfter c s k = trucksIn c (trucksOf s) (openingsOf s) (roundAt s) k
+-- the trucks of a recording after k of these rounds by the rules of a cycle
+abbrev pub trucksAfter : Rules recorded → (ℕ → List ℕ) → List ℕ → ℕ → List Truck
+trucksAfter c rounds s k = trucksIn c (trucksOf s) (openingsOf s) rounds k
+
+-- these rounds have the words of the recording but for the active bits
+abbrev pub AsRecorded : (ℕ → List ℕ) → List ℕ → Type 0
+AsRecorded rounds s = (k i : ℕ) → (i ≡ 1 → ⊥) → getD (rounds k) i 0 ≡ getD (roundAt s k) i 0
 
 abbrev pub stateOf : Bool → Bool → ℕ → State
 stateOf running decided end = cond running Running (cond decided (Decided end) (Stopped end))
@@ -107,9 +112,13 @@ pub record Stands (n last k : ℕ) (opening : ℕ → ℕ) (ts : List Truck) (by
       → (isOne (truck ts j .heard) ≡ holds one j) × (isSeveral (truck ts j .heard) ≡ holds several j)
   pub sorted : (c : ℕ) → c < 16 → (j : ℕ) → j < 32 → holds (getD by c 0) j ≡ (ltb j n && eqb (truck ts j .estimate) c)
 
--- the words of a round of n trucks stand packed at a place
+-- the words of a round of n trucks stand packed at a place, but for the active bits
 abbrev pub ReadsAs : List ℕ → ℕ → ℕ → List ℕ → Type 0
-ReadsAs s at n w = (i j : ℕ) → i < 3 + n → j < n → holds (wordFrom s (at + i * n)) j ≡ bit (getD w i 0) j
+ReadsAs s at n w = (i j : ℕ) → (i ≡ 1 → ⊥) → i < 3 + n → j < n → holds (wordFrom s (at + i * n)) j ≡ bit (getD w i 0) j
+
+-- the set says who of the running trucks is active in the round with the words w
+abbrev pub Active : ℕ → ℕ → List ℕ → ℕ → Type 0
+Active n running w active = (j : ℕ) → j < n → holds running j ≡ true → holds active j ≡ activeBit w j
 
 -- the trucks after round k + 1, which has the words w
 abbrev pub nextTrucks : Rules recorded → ℕ → ℕ → List ℕ → List Truck → List Truck
@@ -119,28 +128,33 @@ nextTrucks c n k w ts = afterIn c n (activeBit w) (suc k) w ts
 abbrev pub goingOn : List ℕ → ℕ → ℕ → ℕ
 goingOn s at running = without running (wordFrom s at)
 
--- the senders of a proposal round, and those whose rows are read: nobody's, where nobody sends, and without those of `unread`
-abbrev pub proposersOf : List ℕ → ℕ → ℕ → ℕ → ℕ
-proposersOf s at n running = bitAnd (goingOn s at running) (wordFrom s (at + n))
+-- the senders of a proposal round in which these are active
+abbrev pub sendersOf : List ℕ → ℕ → ℕ → ℕ → ℕ
+sendersOf s at running active = bitAnd (goingOn s at running) active
 
+-- the same by the active bits of the round
+abbrev pub proposersOf : List ℕ → ℕ → ℕ → ℕ → ℕ
+proposersOf s at n running = sendersOf s at running (wordFrom s (at + n))
+
+-- those whose rows are read: nobody's, where nobody sends, and without those of `unread`
 abbrev pub unreadOf : ℕ → ℕ → ℕ
 unreadOf left mark = cond (eqb left 1) 0 mark
 
-abbrev pub wantedOf : List ℕ → ℕ → ℕ → ℕ → ℕ → ℕ
-wantedOf s at n left running =
-    cond (eqb (proposersOf s at n running) 0) 0 (without (goingOn s at running) (unreadOf left (wordFrom s (at + 2 * n))))
+abbrev pub wantedOf : List ℕ → ℕ → ℕ → ℕ → ℕ → ℕ → ℕ
+wantedOf s at n left running active =
+    cond (eqb (sendersOf s at running active) 0) 0 (without (goingOn s at running) (unreadOf left (wordFrom s (at + 2 * n))))
 
 -- what a proposal round makes of the sets
-pub record Proposes (s : List ℕ) (at n left running : ℕ) (by by′ : List ℕ) (r : Proposed) : Type 0 where
+pub record Proposes (s : List ℕ) (at n left running active : ℕ) (by by′ : List ℕ) (r : Proposed) : Type 0 where
   pub going : r .going ≡ goingOn s at running
-  pub senders : r .senders ≡ proposersOf s at n running
+  pub senders : r .senders ≡ sendersOf s at running active
   pub mark : r .mark ≡ wordFrom s (at + 2 * n)
   pub one : Members (r .one) 32
-      (λ p. bit (wantedOf s at n left running) p && isOne (heardFrom s (at + 3 * n) n (proposersOf s at n running) by p .heard))
+      (λ p. bit (wantedOf s at n left running active) p && isOne (heardFrom s (at + 3 * n) n (sendersOf s at running active) by p .heard))
   pub several : Members (r .several) 32
-      (λ p. bit (wantedOf s at n left running) p && isSeveral (heardFrom s (at + 3 * n) n (proposersOf s at n running) by p .heard))
+      (λ p. bit (wantedOf s at n left running active) p && isSeveral (heardFrom s (at + 3 * n) n (sendersOf s at running active) by p .heard))
   pub taking : List ℕ
-  pub sorted : Sorted taking 32 (wantedOf s at n left running) (λ p. heardFrom s (at + 3 * n) n (proposersOf s at n running) by p .least)
+  pub sorted : Sorted taking 32 (wantedOf s at n left running active) (λ p. heardFrom s (at + 3 * n) n (sendersOf s at running active) by p .least)
   pub took : by′ ≡ filled (settled by taking (without (bitOr (r .one) (r .several)) (r .mark))) 16 by
 
 -- those that decide in a veto round where they hear no veto, and the senders
@@ -244,19 +258,32 @@ noted ends who k j = cond (holds who j) k (getD ends j 0)
 abbrev pub Fresh : ℕ → ℕ → List ℕ → ℕ → ℕ → Type 0
 Fresh n k ends decided until = (j : ℕ) → j < n → holds (bitAnd decided until) j ≡ true → getD ends j 0 ≡ k
 
--- the run by the rules of a cycle stands so after k rounds, and the next of those left begins at a place
-pub record Due (c : Rules recorded) (s : List ℕ) (at n left k : ℕ) (by ends sent : List ℕ) (running decided marked one several unwilling until : ℕ) : Type 0 where
+-- the run of these rounds by the rules of a cycle stands so after k rounds, and the next of those left begins at a place
+pub record Due (c : Rules recorded) (rounds : ℕ → List ℕ) (s : List ℕ) (at n left k : ℕ) (by ends sent : List ℕ) (running decided marked one several unwilling until : ℕ) : Type 0 where
   pub good : frameCheck s ≡ Accepted
-  pub stands : Stands (trucksOf s) (k + left) k (openingAt s) (trucksAfter c s k) by ends sent running decided marked one several unwilling
+  pub words : AsRecorded rounds s
+  pub stands : Stands (trucksOf s) (k + left) k (openingAt s) (trucksAfter c rounds s k) by ends sent running decided marked one several unwilling
   pub most : k + left ≤ 400
   pub count : n ≡ trucksOf s
   pub place : at ≡ roundPlace n k
   pub fresh : Fresh (trucksOf s) k ends decided until
 
 -- where the run came to its end: all rounds are done, nobody runs any more, or one of `until` decided, in the round done last
-pub record Halted (c : Rules recorded) (s : List ℕ) (last : ℕ) (by ends sent : List ℕ) (until : ℕ) (r : Sets) : Type 0 where
+pub record Halted (c : Rules recorded) (rounds : ℕ → List ℕ) (s : List ℕ) (last : ℕ) (by ends sent : List ℕ) (until : ℕ) (r : Sets) : Type 0 where
   pub good : frameCheck s ≡ Accepted
-  pub stands : Stands (trucksOf s) last (r .done) (openingAt s) (trucksAfter c s (r .done)) by ends sent (r .running) (r .decided) (r .marked) (r .one) (r .several) (r .unwilling)
+  pub stands : Stands (trucksOf s) last (r .done) (openingAt s) (trucksAfter c rounds s (r .done)) by ends sent (r .running) (r .decided) (r .marked) (r .one) (r .several) (r .unwilling)
   pub most : r .done ≤ last
   pub over : (r .running ≡ 0 → ⊥) → bitAnd (r .decided) until ≡ 0 → r .done ≡ last
   pub fresh : Fresh (trucksOf s) (r .done) ends (r .decided) until
+
+-- the set of the first n trucks
+abbrev pub allOf : ℕ → ℕ
+allOf n = (2 ^ n - 1) * 2 ^ (32 - n)
+
+-- a recording before round 1: the counts and the openings as they were read, all trucks, and those of each opening
+pub record Opens (s openings by : List ℕ) (r : Begun) : Type 0 where
+  pub counts : r .counts ≡ countsOf s
+  pub read : openings ≡ openingsInto s (replicate 32 0)
+  pub all : r .all ≡ allOf (r .counts .trucks)
+  pub sorted : Sorted by 32 (r .all) (λ p. getD openings (31 - p) 0)
+  pub crushers : length by ≡ 16

@@ -3,15 +3,15 @@ use crate::hearing::heard_by;
 use crate::replay::listeners;
 use protocol::Grades;
 ghost use mathlib.Core.Path.{_≡_};
-ghost use mathlib.Core.Bool.{cond, _&&_};
+ghost use mathlib.Core.Bool.{true, cond, _&&_};
 ghost use Prim.Native.Nat.{_<_, _≤_, _^_, _*_};
 ghost use lib.Bits.{bitOr};
 ghost use lib.Count.{ones};
 ghost use lib.Dec.{eqb, leb};
+ghost use lib.ListN.{length};
 ghost use Rattle.basics.specs.Bits.{bit};
-ghost use Rattle.radio.specs.Radio.{Radio};
 ghost use Rattle.sets.specs.Sets.{Members};
-ghost use Rattle.playback.specs.Grading.{heardAt, missesSome, missesAll, missesHalf, carried, carriedBy, RadioSets};
+ghost use Rattle.playback.specs.Grading.{heardAt, missesSome, missesAll, missesHalf, carried, gradesOf, Judges};
 
 // Who missed a message, who of them heard none, and who of them no majority.
 pub struct Missed {
@@ -81,10 +81,22 @@ fn carry(first: u16, ok: bool, k: u16) -> u16
     if ok { 0 } else { k }
 }
 
-// The grades with round k, of which the first row stands at a place, where they are asked for.
-pub(crate) fn judged(
-    judging: bool,
-    grades: Grades,
+// The grades, by the four numbers in which a run keeps them.
+pub(crate) fn grades_of(found: &[u16; 4]) -> Grades
+    requires { ⌜ length (now found) ≡ 4 ⌝ }
+    ensures { λ r. ⌜ r ≡ gradesOf (now (found .entry)) ⌝ }
+{
+    Grades {
+        complete: found[0],
+        majority: found[1],
+        zero: found[2],
+        accurate: found[3],
+    }
+}
+
+// The grades with round k too, of which the first row stands at a place.
+fn judged_into(
+    found: &mut [u16; 4],
     s: &[u8],
     at: usize,
     n: usize,
@@ -92,23 +104,59 @@ pub(crate) fn judged(
     going: u32,
     senders: u32,
     mark: u32,
-) -> Grades
-    requires { ⌜ (n ≤ 32) × (at < 2 ^ 32) ⌝ }
-    ensures { λ r. ⌜ ((a : Radio) → RadioSets a (now (s .entry)) at n going senders mark → r ≡ cond judging (carriedBy grades a k) grades) ⌝ }
+)
+    requires { ⌜ (n ≤ 32) × ((at < 2 ^ 32) × (length (now found) ≡ 4)) ⌝ }
+    ensures { λ _. ⌜ Judges true (now (s .entry)) at n k going senders mark (now (found .entry)) (now (found .exit)) ⌝ }
 {
-    if !judging {
-        return grades;
-    }
     let first = where_open(
-        (grades.complete == 0) | (grades.majority == 0) | (grades.zero == 0),
+        (found[0] == 0) | (found[1] == 0) | (found[2] == 0),
         sets::without(going, mark),
     );
-    let last = where_open(grades.accurate == 0, going & mark);
+    let last = where_open(found[3] == 0, going & mark);
     let m = missing(s, at, n, senders, listeners(senders, first | last));
-    Grades {
-        complete: carry(grades.complete, sets::without(m.some, mark) == 0, k),
-        majority: carry(grades.majority, sets::without(m.half, mark) == 0, k),
-        zero: carry(grades.zero, sets::without(m.all, mark) == 0, k),
-        accurate: carry(grades.accurate, sets::without(going & mark, m.some) == 0, k),
+    found[0] = carry(found[0], sets::without(m.some, mark) == 0, k);
+    found[1] = carry(found[1], sets::without(m.half, mark) == 0, k);
+    found[2] = carry(found[2], sets::without(m.all, mark) == 0, k);
+    found[3] = carry(found[3], sets::without(going & mark, m.some) == 0, k);
+}
+
+// The grades with a proposal round or a round of the six-round cycle too, where they are asked for. Veto rounds have a function of their own, so that
+// `judged_into` has two callers: the compiler builds a function with one caller into it, and every round would then make a call to ask for nothing.
+pub(crate) fn judged_proposing(
+    judging: bool,
+    found: &mut [u16; 4],
+    s: &[u8],
+    at: usize,
+    n: usize,
+    k: u16,
+    going: u32,
+    senders: u32,
+    mark: u32,
+)
+    requires { ⌜ (n ≤ 32) × ((at < 2 ^ 32) × (length (now found) ≡ 4)) ⌝ }
+    ensures { λ _. ⌜ Judges judging (now (s .entry)) at n k going senders mark (now (found .entry)) (now (found .exit)) ⌝ }
+{
+    if judging {
+        judged_into(found, s, at, n, k, going, senders, mark);
+    }
+}
+
+// The grades with a veto round too, where they are asked for.
+pub(crate) fn judged_vetoing(
+    judging: bool,
+    found: &mut [u16; 4],
+    s: &[u8],
+    at: usize,
+    n: usize,
+    k: u16,
+    going: u32,
+    vetoers: u32,
+    mark: u32,
+)
+    requires { ⌜ (n ≤ 32) × ((at < 2 ^ 32) × (length (now found) ≡ 4)) ⌝ }
+    ensures { λ _. ⌜ Judges judging (now (s .entry)) at n k going vetoers mark (now (found .entry)) (now (found .exit)) ⌝ }
+{
+    if judging {
+        judged_into(found, s, at, n, k, going, vetoers, mark);
     }
 }

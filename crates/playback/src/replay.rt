@@ -1,6 +1,8 @@
 // A recording run from its bytes by sets in packed order, truck j at the bit worth 2 to the 31 - j: proposal rounds and veto rounds hand on
 // to each other, each with one round fewer left. The rounds of the six-round cycle are in six.rt.
-use crate::grading::judged;
+use crate::grading::grades_of;
+use crate::grading::judged_proposing;
+use crate::grading::judged_vetoing;
 use crate::hearing::first_heard;
 use crate::listening::hear;
 use crate::listening::hearing_some;
@@ -16,21 +18,21 @@ use protocol::Truck;
 use recording::Counts;
 ghost use mathlib.Core.Path.{_≡_};
 ghost use mathlib.Core.Bool.{false, true, cond};
-ghost use Prim.Native.Nat.{_+_, _*_, _-_, _<_, _≤_, _^_, ℕ};
+ghost use Prim.Native.Nat.{_+_, _-_, _<_, _≤_, _^_, ℕ};
 ghost use lib.Dec.{eqb};
 ghost use lib.ListN.{length, getD, replicate};
 ghost use Rattle.basics.specs.Bits.{odd};
 ghost use Rattle.basics.specs.Lists.{filled};
 ghost use Rattle.refusals.specs.declared.Outcome.the-variants.{Accepted};
-ghost use Rattle.recording.specs.Packed.{roundsOf};
+ghost use Rattle.recording.specs.Packed.{roundsOf, roundAt};
 ghost use Rattle.recording.specs.Checks.{frameCheck};
 ghost use Rattle.protocol.specs.declared.Heard.the-variants.{Nothing};
 ghost use Rattle.recordbytes.specs.Layout.{sizeFor, recordByte};
 ghost use Rattle.protocol.specs.Rules.{twoRules};
 ghost use Rattle.protocol.specs.Fleets.{chosen};
 ghost use Rattle.playback.specs.Sets.{Sorted};
-ghost use Rattle.playback.specs.Replays.{fleetAfter, gradesAfter};
-ghost use Rattle.playback.specs.Standing.{stateOf, memoryOf, sentBy, truckOf, fleetBy, unreadOf, Proposes, Vetoes, noted, Due, Halted};
+ghost use Rattle.playback.specs.Replays.{fleetAfter, gradesAfter, FoundAfter};
+ghost use Rattle.playback.specs.Standing.{wordFrom, stateOf, memoryOf, sentBy, truckOf, fleetBy, unreadOf, Proposes, Vetoes, noted, Due, Halted, allOf, Opens};
 
 // Those that go on after a proposal round's stops, its senders and marks, and who heard one value and who several.
 pub struct Proposed {
@@ -59,7 +61,12 @@ pub struct Sets {
     pub several: u32,
     pub unwilling: u32,
     pub done: u16,
-    pub grades: Grades,
+}
+
+// The header's counts, and the set of all trucks.
+pub struct Begun {
+    pub counts: Counts,
+    pub all: u32,
 }
 
 // What a run has come to.
@@ -98,7 +105,7 @@ pub(crate) fn listeners(senders: u32, wanted: u32) -> u32
 // The proposal round at a place.
 fn propose(s: &[u8], at: usize, n: usize, left: u16, running: u32, by: &mut [u32; 16]) -> Proposed
     requires { ⌜ (n ≤ 32) × ((at < 2 ^ 31) × (length (now by) ≡ 16)) ⌝ }
-    ensures { λ r. ⌜ Proposes (now (s .entry)) at n left running (now (by .entry)) (now (by .exit)) r ⌝ }
+    ensures { λ r. ⌜ Proposes (now (s .entry)) at n left running (wordFrom (now (s .entry)) (at + n)) (now (by .entry)) (now (by .exit)) r ⌝ }
 {
     let stop = bitreader::read_at(s, at, 32);
     let active = bitreader::read_at(s, at + n, 32);
@@ -153,16 +160,16 @@ fn proposals(
     by: &mut [u32; 16],
     ends: &mut [u16; 32],
     sent: &mut [u64; 8],
+    found: &mut [u16; 4],
     running: u32,
     decided: u32,
     until: u32,
     judging: bool,
-    grades: Grades,
 ) -> Sets
-    requires { ⌜ Due twoRules (now s) at n left k (now by) (now ends) (now sent) running decided 0 0 0 0 until
-        × ((odd k ≡ false) × (grades ≡ gradesAfter twoRules (now s) judging k)) ⌝ }
-    ensures { λ r. ⌜ Halted twoRules (now (s .entry)) (k + left) (now (by .exit)) (now (ends .exit)) (now (sent .exit)) until r
-        × (r .grades ≡ gradesAfter twoRules (now (s .entry)) judging (r .done)) ⌝ }
+    requires { ⌜ Due twoRules (roundAt (now s)) (now s) at n left k (now by) (now ends) (now sent) running decided 0 0 0 0 until
+        × ((odd k ≡ false) × FoundAfter twoRules (roundAt (now s)) (now s) judging k (now found)) ⌝ }
+    ensures { λ r. ⌜ Halted twoRules (roundAt (now (s .entry))) (now (s .entry)) (k + left) (now (by .exit)) (now (ends .exit)) (now (sent .exit)) until r
+        × FoundAfter twoRules (roundAt (now (s .entry))) (now (s .entry)) judging (r .done) (now (found .exit)) ⌝ }
 {
     if (left == 0) | (running == 0) | (decided & until != 0) {
         return Sets {
@@ -173,13 +180,12 @@ fn proposals(
             several: 0,
             unwilling: 0,
             done: k,
-            grades,
         };
     }
     let q = propose(s, at, n, left, running, by);
-    let g = judged(
+    judged_proposing(
         judging,
-        grades,
+        found,
         s,
         at + 3 * n,
         n,
@@ -199,6 +205,7 @@ fn proposals(
         by,
         ends,
         sent,
+        found,
         q.going,
         decided,
         q.mark,
@@ -206,7 +213,6 @@ fn proposals(
         q.several,
         until,
         judging,
-        g,
     )
 }
 
@@ -220,6 +226,7 @@ fn vetoes(
     by: &mut [u32; 16],
     ends: &mut [u16; 32],
     sent: &mut [u64; 8],
+    found: &mut [u16; 4],
     running: u32,
     decided: u32,
     marked: u32,
@@ -227,12 +234,11 @@ fn vetoes(
     several: u32,
     until: u32,
     judging: bool,
-    grades: Grades,
 ) -> Sets
-    requires { ⌜ Due twoRules (now s) at n left k (now by) (now ends) (now sent) running decided marked one several 0 until
-        × ((odd k ≡ true) × (grades ≡ gradesAfter twoRules (now s) judging k)) ⌝ }
-    ensures { λ r. ⌜ Halted twoRules (now (s .entry)) (k + left) (now (by .exit)) (now (ends .exit)) (now (sent .exit)) until r
-        × (r .grades ≡ gradesAfter twoRules (now (s .entry)) judging (r .done)) ⌝ }
+    requires { ⌜ Due twoRules (roundAt (now s)) (now s) at n left k (now by) (now ends) (now sent) running decided marked one several 0 until
+        × ((odd k ≡ true) × FoundAfter twoRules (roundAt (now s)) (now s) judging k (now found)) ⌝ }
+    ensures { λ r. ⌜ Halted twoRules (roundAt (now (s .entry))) (now (s .entry)) (k + left) (now (by .exit)) (now (ends .exit)) (now (sent .exit)) until r
+        × FoundAfter twoRules (roundAt (now (s .entry))) (now (s .entry)) judging (r .done) (now (found .exit)) ⌝ }
 {
     if (left == 0) | (running == 0) | (decided & until != 0) {
         return Sets {
@@ -243,13 +249,12 @@ fn vetoes(
             several,
             unwilling: 0,
             done: k,
-            grades,
         };
     }
     let q = veto(s, at, n, running, marked, one, several);
-    let g = judged(
+    judged_vetoing(
         judging,
-        grades,
+        found,
         s,
         at + 3 * n,
         n,
@@ -269,11 +274,11 @@ fn vetoes(
         by,
         ends,
         sent,
+        found,
         q.on,
         decided | q.done,
         until,
         judging,
-        g,
     )
 }
 
@@ -432,7 +437,7 @@ fn openers(openings: &[u8; 32], all: u32, by: &mut [u32; 16])
 // The first n trucks.
 fn everyone(n: usize) -> u32
     requires { ⌜ n ≤ 32 ⌝ }
-    ensures { λ r. ⌜ r ≡ (2 ^ n - 1) * 2 ^ (32 - n) ⌝ }
+    ensures { λ r. ⌜ r ≡ allOf n ⌝ }
 {
     (((1u64 << n) - 1) << (32 - n)) as u32
 }
@@ -447,19 +452,15 @@ fn rounds_in(
     by: &mut [u32; 16],
     ends: &mut [u16; 32],
     sent: &mut [u64; 8],
+    found: &mut [u16; 4],
     all: u32,
     judging: bool,
 ) -> Sets
-    requires { ⌜ Due (chosen cycle .rules) (now s) at n rounds 0 (now by) (now ends) (now sent) all 0 0 0 0 0 0 × (now sent ≡ replicate 8 0) ⌝ }
-    ensures { λ r. ⌜ Halted (chosen cycle .rules) (now (s .entry)) rounds (now (by .exit)) (now (ends .exit)) (now (sent .exit)) 0 r
-        × (r .grades ≡ gradesAfter (chosen cycle .rules) (now (s .entry)) judging (r .done)) ⌝ }
+    requires { ⌜ Due (chosen cycle .rules) (roundAt (now s)) (now s) at n rounds 0 (now by) (now ends) (now sent) all 0 0 0 0 0 0
+        × ((now sent ≡ replicate 8 0) × (now found ≡ replicate 4 0)) ⌝ }
+    ensures { λ r. ⌜ Halted (chosen cycle .rules) (roundAt (now (s .entry))) (now (s .entry)) rounds (now (by .exit)) (now (ends .exit)) (now (sent .exit)) 0 r
+        × FoundAfter (chosen cycle .rules) (roundAt (now (s .entry))) (now (s .entry)) judging (r .done) (now (found .exit)) ⌝ }
 {
-    let none = Grades {
-        complete: 0,
-        majority: 0,
-        zero: 0,
-        accurate: 0,
-    };
     match cycle {
         Cycle::TwoRound => {
             proposals(
@@ -471,15 +472,26 @@ fn rounds_in(
                 by,
                 ends,
                 sent,
+                found,
                 all,
                 0,
                 0,
                 judging,
-                none,
             )
         }
-        Cycle::SixRound => six_rounds(s, at, n, rounds, by, ends, all, judging, none),
+        Cycle::SixRound => six_rounds(s, at, n, rounds, by, ends, found, all, judging),
     }
+}
+
+// A recording before round 1: its openings are read, and the trucks of each opening put together.
+fn begin(s: &[u8], openings: &mut [u8; 32], by: &mut [u32; 16]) -> Begun
+    requires { ⌜ (frameCheck (now s) ≡ Accepted) × (now openings ≡ replicate 32 0) × (now by ≡ replicate 16 0) ⌝ }
+    ensures { λ r. ⌜ Opens (now (s .entry)) (now (openings .exit)) (now (by .exit)) r ⌝ }
+{
+    let c = recording::read_front(s, openings);
+    let all = everyone(c.trucks as usize);
+    openers(openings, all, by);
+    Begun { counts: c, all }
 }
 
 // All rounds of a recording whose frame is good, in arrays that are lent as zeros.
@@ -490,28 +502,29 @@ fn play(
     by: &mut [u32; 16],
     ends: &mut [u16; 32],
     sent: &mut [u64; 8],
+    found: &mut [u16; 4],
     judging: bool,
 ) -> Course
-    requires { ⌜ (frameCheck (now s) ≡ Accepted) × (now openings ≡ replicate 32 0) × (now by ≡ replicate 16 0) × (now ends ≡ replicate 32 0) × (now sent ≡ replicate 8 0) ⌝ }
+    requires { ⌜ (frameCheck (now s) ≡ Accepted) × (now openings ≡ replicate 32 0) × (now by ≡ replicate 16 0) × (now ends ≡ replicate 32 0) × (now sent ≡ replicate 8 0)
+        × (now found ≡ replicate 4 0) ⌝ }
     ensures few { λ r. ⌜ r .counts .trucks ≤ 32 ⌝ }
     ensures fleet { λ r. ⌜ fleetBy (r .counts) (now (openings .exit)) (r .sets) (now (by .exit)) (now (ends .exit)) (now (sent .exit))
-        ≡ fleetAfter (chosen cycle) (now (s .entry)) (roundsOf (now (s .entry))) ⌝ }
-    ensures grades { λ r. ⌜ r .sets .grades ≡ gradesAfter (chosen cycle .rules) (now (s .entry)) judging (roundsOf (now (s .entry))) ⌝ }
+        ≡ fleetAfter (chosen cycle) (roundAt (now (s .entry))) (now (s .entry)) (roundsOf (now (s .entry))) ⌝ }
+    ensures grades { λ _. ⌜ FoundAfter (chosen cycle .rules) (roundAt (now (s .entry))) (now (s .entry)) judging (roundsOf (now (s .entry))) (now (found .exit)) ⌝ }
 {
-    let c = recording::read_front(s, openings);
-    let n = c.trucks as usize;
-    let all = everyone(n);
-    openers(openings, all, by);
+    let g = begin(s, openings, by);
+    let c = g.counts;
     let b = rounds_in(
         cycle,
         s,
         recording::word_place(c.trucks, 0),
-        n,
+        c.trucks as usize,
         c.rounds,
         by,
         ends,
         sent,
-        all,
+        found,
+        g.all,
         judging,
     );
     Course { counts: c, sets: b }
@@ -520,12 +533,13 @@ fn play(
 // The record after all rounds.
 pub(crate) fn ran(cycle: Cycle, s: &[u8]) -> Fleet
     requires { ⌜ frameCheck (now s) ≡ Accepted ⌝ }
-    ensures { λ r. ⌜ r ≡ fleetAfter (chosen cycle) (now (s .entry)) (roundsOf (now (s .entry))) ⌝ }
+    ensures { λ r. ⌜ r ≡ fleetAfter (chosen cycle) (roundAt (now (s .entry))) (now (s .entry)) (roundsOf (now (s .entry))) ⌝ }
 {
     let mut openings = [0u8; 32];
     let mut by = [0u32; 16];
     let mut ends = [0u16; 32];
     let mut sent = [0u64; 8];
+    let mut found = [0u16; 4];
     let q = play(
         cycle,
         s,
@@ -533,6 +547,7 @@ pub(crate) fn ran(cycle: Cycle, s: &[u8]) -> Fleet
         &mut by,
         &mut ends,
         &mut sent,
+        &mut found,
         false,
     );
     let c = q.counts;
@@ -543,12 +558,13 @@ pub(crate) fn ran(cycle: Cycle, s: &[u8]) -> Fleet
 // The same, put into bytes that have room for it: no record is built, which is much of what a run of few trucks and rounds takes.
 pub(crate) fn run_into(cycle: Cycle, s: &[u8], d: &mut [u8])
     requires { ⌜ (frameCheck (now s) ≡ Accepted) × (sizeFor 32 ≤ length (now d)) ⌝ }
-    ensures { λ r. ⌜ now (d .exit) ≡ filled (recordByte (fleetAfter (chosen cycle) (now (s .entry)) (roundsOf (now (s .entry))))) (sizeFor 32) (now (d .entry)) ⌝ }
+    ensures { λ r. ⌜ now (d .exit) ≡ filled (recordByte (fleetAfter (chosen cycle) (roundAt (now (s .entry))) (now (s .entry)) (roundsOf (now (s .entry))))) (sizeFor 32) (now (d .entry)) ⌝ }
 {
     let mut openings = [0u8; 32];
     let mut by = [0u32; 16];
     let mut ends = [0u16; 32];
     let mut sent = [0u64; 8];
+    let mut found = [0u16; 4];
     let q = play(
         cycle,
         s,
@@ -556,6 +572,7 @@ pub(crate) fn run_into(cycle: Cycle, s: &[u8], d: &mut [u8])
         &mut by,
         &mut ends,
         &mut sent,
+        &mut found,
         false,
     );
     let c = q.counts;
@@ -566,13 +583,22 @@ pub(crate) fn run_into(cycle: Cycle, s: &[u8], d: &mut [u8])
 // The grades of all rounds.
 pub(crate) fn graded(cycle: Cycle, s: &[u8]) -> Grades
     requires { ⌜ frameCheck (now s) ≡ Accepted ⌝ }
-    ensures { λ r. ⌜ r ≡ gradesAfter (chosen cycle .rules) (now (s .entry)) true (roundsOf (now (s .entry))) ⌝ }
+    ensures { λ r. ⌜ r ≡ gradesAfter (chosen cycle .rules) (roundAt (now (s .entry))) (now (s .entry)) true (roundsOf (now (s .entry))) ⌝ }
 {
     let mut openings = [0u8; 32];
     let mut by = [0u32; 16];
     let mut ends = [0u16; 32];
     let mut sent = [0u64; 8];
-    let q = play(cycle, s, &mut openings, &mut by, &mut ends, &mut sent, true);
-    let b = q.sets;
-    b.grades
+    let mut found = [0u16; 4];
+    play(
+        cycle,
+        s,
+        &mut openings,
+        &mut by,
+        &mut ends,
+        &mut sent,
+        &mut found,
+        true,
+    );
+    grades_of(&found)
 }

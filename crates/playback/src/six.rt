@@ -1,19 +1,19 @@
 // The rounds of the six-round cycle by sets in packed order, truck j at the bit worth 2 to the 31 - j. The senders of a bit round are the trucks of the crushers
 // that have its bit.
-use crate::grading::judged;
+use crate::grading::judged_proposing;
 use crate::listening::hearing_some;
 use crate::listening::least_heard;
 use crate::listening::settle;
 use crate::replay::Sets;
 use crate::replay::ended;
 use crate::replay::listeners;
-use protocol::Grades;
 ghost use mathlib.Core.Path.{_≡_};
 ghost use Prim.Native.Nat.{ℕ, _<_, _≤_, _^_};
 ghost use lib.ListN.{length, replicate};
 ghost use Rattle.basics.specs.Bits.{bit};
 ghost use Rattle.protocol.specs.Six.{sixRules};
-ghost use Rattle.playback.specs.Replays.{gradesAfter};
+ghost use Rattle.recording.specs.Packed.{roundAt};
+ghost use Rattle.playback.specs.Replays.{FoundAfter};
 ghost use Rattle.playback.specs.Standing.{withBit, Prepares, Listens, Accepts, SixPlays, Due, Halted};
 
 // Those that go on after a round's stops, its senders and marks, those that run on after it, those that decided in it, and those that are unwilling then.
@@ -145,25 +145,25 @@ pub(crate) fn six_rounds(
     rounds: u16,
     by: &mut [u32; 16],
     ends: &mut [u16; 32],
+    found: &mut [u16; 4],
     all: u32,
     judging: bool,
-    none: Grades,
 ) -> Sets
-    requires { ⌜ Due sixRules (now s) first n rounds 0 (now by) (now ends) (replicate 8 0) all 0 0 0 0 0 0 × (none ≡ gradesAfter sixRules (now s) judging 0) ⌝ }
-    ensures { λ r. ⌜ Halted sixRules (now (s .entry)) rounds (now (by .exit)) (now (ends .exit)) (replicate 8 0) 0 r
-        × (r .grades ≡ gradesAfter sixRules (now (s .entry)) judging (r .done)) ⌝ }
+    requires { ⌜ Due sixRules (roundAt (now s)) (now s) first n rounds 0 (now by) (now ends) (replicate 8 0) all 0 0 0 0 0 0
+        × FoundAfter sixRules (roundAt (now s)) (now s) judging 0 (now found) ⌝ }
+    ensures { λ r. ⌜ Halted sixRules (roundAt (now (s .entry))) (now (s .entry)) rounds (now (by .exit)) (now (ends .exit)) (replicate 8 0) 0 r
+        × FoundAfter sixRules (roundAt (now (s .entry))) (now (s .entry)) judging (r .done) (now (found .exit)) ⌝ }
 {
     let mut at = first;
     let mut k = 0u16;
     let mut running = all;
     let mut decided = 0;
     let mut unwilling = 0;
-    let mut grades = none;
     while (k < rounds) & (running != 0) {
         let q = six_round(s, at, n, k % 6, running, unwilling, by);
-        grades = judged(
+        judged_proposing(
             judging,
-            grades,
+            found,
             s,
             at + 3 * n,
             n,
@@ -187,6 +187,5 @@ pub(crate) fn six_rounds(
         several: 0,
         unwilling,
         done: k,
-        grades,
     }
 }

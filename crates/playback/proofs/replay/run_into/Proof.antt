@@ -9,7 +9,7 @@ use Rattle.playback.proofs.replay.run_into.Tie as tie
 
 returns : tie.Need-returns
 returns c =
-    let a = c .before .before .before .before .before .before .before .before .before .before .before .before .before .before .before .before .before .args in
+    let a = c .before .before .before .before .before .before .before .before .before .before .before .before .before .before .before .before .before .before .args in
     c .before .before .put-fleet .ensures ∙ ap (λ (f : Fleet). filled (recordByte f) (sizeFor 32) (a .d .now)) (c .before .before .before .before .before .before .before .before .before .before .play .ensures .1 .0)
 
 pub run-into-spec : {M : Type 1} → statement M

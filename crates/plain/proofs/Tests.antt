@@ -12,9 +12,10 @@ use lib.ListN.{length, getD}
 use lib.Pow.{pow-mono, pow-pos, pow-add, shl-exact}
 use Rattle.basics.specs.Bits.{digit, bit}
 use Rattle.basics.specs.Lists.{first, someBelow}
-use Rattle.basics.proofs.Laws.{someBelow-by, some-past, some-ext, first-past, first-ext}
+use Rattle.basics.proofs.Laws.{someBelow-by, some-past, first-past}
 use Rattle.bitreader.proofs.Digits.{digit-lt}
 use Rattle.recording.specs.Checks.{highBit, ownBit, ownIn, ownTruck, badOpenings, badWords}
+use Rattle.recording.proofs.OwnLoss.{own-looked, own-searched}
 
 -- a shift in place of a power
 pub high-shift : (n w : ℕ) → leb 1 (w / 2 ^ n) ≡ highBit n w
@@ -112,15 +113,10 @@ module _ (words : List ℕ) (n m r base : ℕ) (fits : (k : ℕ) → getD words 
   none-above : (k : ℕ) → m ≤ k → k < n → ownPlain words base k ≡ false
   none-above k l u = sym (bit-none (getD words (base + (3 + k)) 0) k (omega arith) (fits (base + (3 + k))))
 
-  pub own-looked : (b : Bool) → b ≡ someBelow (ownPlain words base) m → ownIn (λ w. getD words w 0) n r ≡ b
-  unfolding ownIn
-  own-looked b e =
-      sym (e ∙ some-past (ownPlain words base) m n (omega arith) none-above ∙ some-ext (ownPlain words base) (ownBit (λ w. getD words w 0) n r) n (λ i l. own-plain i))
+  pub plain-looked : (b : Bool) → b ≡ someBelow (ownPlain words base) m → ownIn (λ w. getD words w 0) n r ≡ b
+  plain-looked b e =
+      own-looked (λ w. getD words w 0) n r (ownPlain words base) (λ i l. own-plain i) b (e ∙ some-past (ownPlain words base) m n (omega arith) none-above)
 
-  pub own-searched : (truck : ℕ) → someBelow (ownPlain words base) m ≡ true → truck ≡ first (ownPlain words base) m → ownTruck (λ w. getD words w 0) n r ≡ truck
-  unfolding ownTruck
-  own-searched truck h e =
-      sym
-      (e
-      ∙ first-past (ownPlain words base) m n (omega arith) h
-      ∙ first-ext (ownPlain words base) (ownBit (λ w. getD words w 0) n r) n (λ i l. own-plain i))
+  pub plain-searched : (truck : ℕ) → someBelow (ownPlain words base) m ≡ true → truck ≡ first (ownPlain words base) m → ownTruck (λ w. getD words w 0) n r ≡ truck
+  plain-searched truck h e =
+      own-searched (λ w. getD words w 0) n r (ownPlain words base) (λ i l. own-plain i) truck (e ∙ first-past (ownPlain words base) m n (omega arith) h)

@@ -158,10 +158,10 @@ module _ (s : List ℕ) where
   R = roundsOf s
 
   r-5 : Outcome
-  r-5 = refuse (endBit s) EndBit Accepted
+  r-5 = refuse (endBit (bitAt s) (length s) n R) EndBit Accepted
 
   r-4 : Outcome
-  r-4 = refuse (badLength s) RecordingLength r-5
+  r-4 = refuse (badLength (length s) n R) RecordingLength r-5
 
   r-3 : Outcome
   r-3 = refuse (badRounds R) RoundCount r-4
@@ -169,7 +169,7 @@ module _ (s : List ℕ) where
   r-2 : Outcome
   r-2 = refuse (badTrucks n) TruckCount r-3
 
-  ends-zero : endBit s ≡ false → (p : ℕ) → bitsFor n R ≤ p → p < 8 * length s → bitAt s p ≡ 0
+  ends-zero : endBit (bitAt s) (length s) n R ≡ false → (p : ℕ) → bitsFor n R ≤ p → p < 8 * length s → bitAt s p ≡ 0
   unfolding endBit n R
   ends-zero h p l u =
       let total : ℕ = bitsFor n R in
@@ -179,7 +179,7 @@ module _ (s : List ℕ) where
       let d : bitAt s p ≡ 1 → ⊥ = eqb-false (bitAt s p) 1 (ap (λ (q : ℕ). eqb (bitAt s q) 1) (sym e) ∙ z) in
       omega (arith, bitAt-lt s p)
 
-  zero-ends : ((p : ℕ) → bitsFor n R ≤ p → p < 8 * length s → bitAt s p ≡ 0) → endBit s ≡ false
+  zero-ends : ((p : ℕ) → bitsFor n R ≤ p → p < 8 * length s → bitAt s p ≡ 0) → endBit (bitAt s) (length s) n R ≡ false
   unfolding endBit n R
   zero-ends h =
       none-someBelow (λ j. eqb (bitAt s (bitsFor n R + j)) 1) (8 * length s - bitsFor n R)
@@ -191,7 +191,7 @@ module _ (s : List ℕ) where
       let h₁ : r-2 ≡ Accepted = refuse-rest (tooShort s) ShortRecording r-2 h in
       let h₂ : r-3 ≡ Accepted = refuse-rest (badTrucks n) TruckCount r-3 h₁ in
       let h₃ : r-4 ≡ Accepted = refuse-rest (badRounds R) RoundCount r-4 h₂ in
-      let h₄ : r-5 ≡ Accepted = refuse-rest (badLength s) RecordingLength r-5 h₃ in
+      let h₄ : r-5 ≡ Accepted = refuse-rest (badLength (length s) n R) RecordingLength r-5 h₃ in
       let t : (0 < n) × (n ≤ 32) = trucks-in n (refuse-false (badTrucks n) TruckCount r-3 h₁) in
       record {
         long = ltb-false (length s) 2 (refuse-false (tooShort s) ShortRecording r-2 h);
@@ -199,8 +199,8 @@ module _ (s : List ℕ) where
         most = t .1;
         rounds = rounds-in R (refuse-false (badRounds R) RoundCount r-4 h₂);
         size = eqb-true (length s) (bytesFor n R)
-            (not-false (eqb (length s) (bytesFor n R)) (refuse-false (badLength s) RecordingLength r-5 h₃));
-        ends = ends-zero (refuse-false (endBit s) EndBit Accepted h₄);
+            (not-false (eqb (length s) (bytesFor n R)) (refuse-false (badLength (length s) n R) RecordingLength r-5 h₃));
+        ends = ends-zero (refuse-false (endBit (bitAt s) (length s) n R) EndBit Accepted h₄);
       }
 
   pub good-frame : GoodFrame s → frameCheck s ≡ Accepted
@@ -209,8 +209,8 @@ module _ (s : List ℕ) where
       refuse-on (tooShort s) ShortRecording r-2 (le-ltb (length s) 2 (g .long))
       (refuse-on (badTrucks n) TruckCount r-3 (in-trucks n (g .some) (g .most))
       (refuse-on (badRounds R) RoundCount r-4 (in-rounds R (g .rounds))
-      (refuse-on (badLength s) RecordingLength r-5 (ap not (eq-eqb (length s) (bytesFor n R) (g .size)))
-      (refuse-on (endBit s) EndBit Accepted (zero-ends (g .ends)) refl))))
+      (refuse-on (badLength (length s) n R) RecordingLength r-5 (ap not (eq-eqb (length s) (bytesFor n R) (g .size)))
+      (refuse-on (endBit (bitAt s) (length s) n R) EndBit Accepted (zero-ends (g .ends)) refl))))
 
 pub record GoodBytes (s : List ℕ) : Type 0 where
   pub frame : GoodFrame s
@@ -233,7 +233,8 @@ good-bytes s g =
 pub check-number : (s : List ℕ) → outcomeNumber (checkOf s) ≤ 6
 unfolding checkOf frameCheck ownCheck ownLossCheck
 check-number s =
-    go (tooShort s) (badTrucks (trucksOf s)) (badRounds (roundsOf s)) (badLength s) (endBit s) (ownLoss (wordAt s) (trucksOf s) (roundsOf s))
+    go (tooShort s) (badTrucks (trucksOf s)) (badRounds (roundsOf s)) (badLength (length s) (trucksOf s) (roundsOf s))
+    (endBit (bitAt s) (length s) (trucksOf s) (roundsOf s)) (ownLoss (wordAt s) (trucksOf s) (roundsOf s))
   where
     round : ℕ
     round = ownRound (wordAt s) (trucksOf s) (roundsOf s)

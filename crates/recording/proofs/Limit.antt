@@ -7,6 +7,7 @@ use Prim.Native.Nat.{ℕ, _+_, _-_, _/_, _%_, _≤_, _<_}
 use native.Mathlib.Decide.{decLe}
 use native.Mathlib.Omega.{arith}
 use borrow.Author.Tests.{le-ltb, ne-eqb}
+use lib.Dec.{eqb}
 use lib.ListN.{length, take}
 use lib.Seq.{getD-take, length-take-le, take-all}
 use Rattle.basics.specs.Bits.{digit}
@@ -39,18 +40,19 @@ abbrev longCheck : ℕ → ℕ → Outcome
 longCheck n R = refuse (badTrucks n) TruckCount (refuse (badRounds R) RoundCount (Refused RecordingLength))
 
 -- the check of a recording whose length is wrong wherever its counts are right
-by-counts : (s : List ℕ) (t r : Bool) → (t ≡ false → r ≡ false → badLength s ≡ true)
-    → andThen (refuse t TruckCount (refuse r RoundCount (refuse (badLength s) RecordingLength (refuse (endBit s) EndBit Accepted)))) (ownCheck s)
+by-counts : (t r d e : Bool) (o : Outcome) → (t ≡ false → r ≡ false → d ≡ true)
+    → andThen (refuse t TruckCount (refuse r RoundCount (refuse d RecordingLength (refuse e EndBit Accepted)))) o
     ≡ refuse t TruckCount (refuse r RoundCount (Refused RecordingLength))
-by-counts s true r h = refl
-by-counts s false true h = refl
-by-counts s false false h = rw (h refl refl)
+by-counts true r d e o h = refl
+by-counts false true d e o h = refl
+by-counts false false d e o h = rw (h refl refl)
 
 long-check : (s : List ℕ) → largestRecording < length s → checkOf s ≡ longCheck (trucksOf s) (roundsOf s)
 unfolding checkOf frameCheck tooShort badLength
 long-check s l =
     rw (le-ltb (length s) 2 (omega arith))
-    (by-counts s (badTrucks (trucksOf s)) (badRounds (roundsOf s))
+    (by-counts (badTrucks (trucksOf s)) (badRounds (roundsOf s)) (not (eqb (length s) (bytesFor (trucksOf s) (roundsOf s))))
+    (endBit (bitAt s) (length s) (trucksOf s) (roundsOf s)) (ownCheck s)
     (λ t r.
     let m = bytes-most (trucksOf s) (roundsOf s) (trucks-in (trucksOf s) t .1) (rounds-in (roundsOf s) r) in
     ap not (ne-eqb (length s) (bytesFor (trucksOf s) (roundsOf s)) (λ e. omega (arith, m)))))

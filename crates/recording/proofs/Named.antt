@@ -1,18 +1,18 @@
 -- What refusal 6 names of a recording, of a round and of rounds in plain form: the bit that it names is 1, no earlier round has one that is, and in that round
 -- no lower truck has.
 use mathlib.Core.Path.{_≡_, refl, ap, sym, _∙_}
-use mathlib.Core.Bool.{false}
+use mathlib.Core.Bool.{Bool, false}
 use mathlib.Core.List.{List}
 use Prim.Native.Nat.{ℕ, zero, suc, _≤_, _<_}
 use native.Mathlib.Omega.{arith}
-use lib.ListN.{getD}
+use lib.ListN.{length, getD}
 use Rattle.refusals.specs.declared.Refusal.{Refusal}
 use Rattle.refusals.specs.declared.Refusal.the-variants.{ShortRecording, TruckCount, RoundCount, RecordingLength, EndBit, OwnLoss, Record, PlainRound}
 use Rattle.refusals.specs.declared.Outcome.{Outcome}
 use Rattle.refusals.specs.declared.Outcome.the-variants.{Accepted, Refused}
 use Rattle.refusals.specs.Outcomes.{refuse, andThen}
 use Rattle.refusals.proofs.Outcomes.{refused-not, refuse-past}
-use Rattle.recording.specs.Packed.{trucksOf, roundsOf, wordAt}
+use Rattle.recording.specs.Packed.{bitAt, trucksOf, roundsOf, wordAt}
 use Rattle.recording.specs.Checks.{tooShort, badTrucks, badRounds, badLength, endBit, badOpenings, badWords, FirstOwn, FirstOwnAt, frameCheck, ownCheck, ownLossCheck, checkOf, roundsCheck, roundCheck, plainCheck}
 use Rattle.recording.proofs.Accepted.{frame-good}
 use Rattle.recording.proofs.OwnLoss.{own-named, own-names}
@@ -22,15 +22,17 @@ frame-other : {A : Type 0} (s : List ℕ) (round truck : ℕ) → frameCheck s �
 unfolding frameCheck
 frame-other s round truck h =
     let q : Refusal = OwnLoss round truck in
-    let r-5 : Outcome = refuse (endBit s) EndBit Accepted in
-    let r-4 : Outcome = refuse (badLength s) RecordingLength r-5 in
+    let wrong : Bool = badLength (length s) (trucksOf s) (roundsOf s) in
+    let ended : Bool = endBit (bitAt s) (length s) (trucksOf s) (roundsOf s) in
+    let r-5 : Outcome = refuse ended EndBit Accepted in
+    let r-4 : Outcome = refuse wrong RecordingLength r-5 in
     let r-3 : Outcome = refuse (badRounds (roundsOf s)) RoundCount r-4 in
     let r-2 : Outcome = refuse (badTrucks (trucksOf s)) TruckCount r-3 in
     let h₂ = refuse-past (tooShort s) ShortRecording q r-2 (λ e. omega arith) h .1 in
     let h₃ = refuse-past (badTrucks (trucksOf s)) TruckCount q r-3 (λ e. omega arith) h₂ .1 in
     let h₄ = refuse-past (badRounds (roundsOf s)) RoundCount q r-4 (λ e. omega arith) h₃ .1 in
-    let h₅ = refuse-past (badLength s) RecordingLength q r-5 (λ e. omega arith) h₄ .1 in
-    refused-not q (sym (refuse-past (endBit s) EndBit q Accepted (λ e. omega arith) h₅ .1))
+    let h₅ = refuse-past wrong RecordingLength q r-5 (λ e. omega arith) h₄ .1 in
+    refused-not q (sym (refuse-past ended EndBit q Accepted (λ e. omega arith) h₅ .1))
 
 -- a recording: 1 to 5 accept it, and the bit is the first
 module _ (s : List ℕ) (round truck : ℕ) where

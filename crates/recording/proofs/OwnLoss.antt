@@ -9,8 +9,8 @@ use Rattle.refusals.specs.declared.Outcome.the-variants.{Accepted, Refused}
 use Rattle.refusals.specs.Outcomes.{refuse}
 use Rattle.refusals.proofs.Outcomes.{refused-not, refuse-false, refuse-on}
 use Rattle.basics.specs.Bits.{bit}
-use Rattle.basics.specs.Lists.{first}
-use Rattle.basics.proofs.Laws.{someBelow-none, none-someBelow, someBelow-by, some-first, first-none, first-before, first-at, first-unique, first-step, first-found}
+use Rattle.basics.specs.Lists.{first, someBelow}
+use Rattle.basics.proofs.Laws.{someBelow-none, none-someBelow, someBelow-by, some-first, first-none, first-before, first-at, first-unique, first-step, first-found, first-ext, some-ext}
 use Rattle.recording.specs.Checks.{ownBit, ownIn, ownLoss, ownRound, ownTruck, ownLossCheck, FirstOwn, FirstOwnAt}
 
 -- words that agree have the same own loss bits
@@ -94,6 +94,16 @@ module _ (word : ℕ → ℕ) (n : ℕ) where
         go : (b : Bool) → ownLoss word n R ≡ b → refuse b (OwnLoss (k + r) (ownTruck word n r)) Accepted ≡ Refused (OwnLoss round truck) → FirstOwnAt word n k R round truck
         go true e g = (r, cc, subst (λ (i : ℕ). FirstOwn word n R r i) (cc) (own-first R e))
         go false e g = refused-not (OwnLoss round truck) (sym g)
+
+  -- what a look at round r says of it, by a test that agrees with its own loss bits
+  module _ (r : ℕ) (p : ℕ → Bool) (same : (i : ℕ) → i < n → p i ≡ ownBit word n r i) where
+    pub own-looked : (b : Bool) → b ≡ someBelow p n → ownIn word n r ≡ b
+    unfolding ownIn
+    own-looked b e = sym (e ∙ some-ext p (ownBit word n r) n same)
+
+    pub own-searched : (truck : ℕ) → truck ≡ first p n → ownTruck word n r ≡ truck
+    unfolding ownTruck
+    own-searched truck e = sym (e ∙ first-ext p (ownBit word n r) n same)
 
   -- a search by rounds that goes upward and is at round r: it begins, passes the round, has found it, or has passed all of them
   pub own-begins : ownRound word n 0 ≡ 0

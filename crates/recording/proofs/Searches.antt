@@ -9,19 +9,17 @@ use borrow.Author.Tests.{eqb-false, eq-eqb, ne-eqb, lt-ltb, le-ltb}
 use lib.Bits.{bitOr}
 use lib.Dec.{eqb}
 use lib.ListN.{length, getD}
-use Rattle.refusals.specs.declared.Refusal.{Refusal}
 use Rattle.refusals.specs.declared.Refusal.the-variants.{ShortRecording, TruckCount, RoundCount, RecordingLength, EndBit}
 use Rattle.refusals.specs.declared.Outcome.{Outcome}
-use Rattle.refusals.specs.declared.Outcome.the-variants.{Accepted, Refused}
-use Rattle.refusals.specs.Outcomes.{refuse, andThen}
+use Rattle.refusals.specs.declared.Outcome.the-variants.{Refused}
 use Rattle.basics.specs.Bits.{bit, digit}
-use Rattle.basics.specs.Lists.{first, someBelow}
-use Rattle.basics.proofs.Laws.{someBelow-none, none-someBelow, some-more, first-ext, some-ext}
+use Rattle.basics.specs.Lists.{someBelow}
+use Rattle.basics.proofs.Laws.{someBelow-none, none-someBelow, some-more}
 use Rattle.basics.proofs.Bits.{bit-or}
 use Rattle.bitreader.proofs.Digits.{bitAt-lt, numAt-digit, rowAt-digit, numAt-one, bit-in-byte}
-use Rattle.recording.specs.Packed.{bitAt, numAt, rowAt, trucksOf, roundsOf, wordPlace, roundPlace, wordAt, bitsFor, bytesFor}
-use Rattle.recording.specs.Checks.{tooShort, badTrucks, badRounds, badLength, endBit, ownBit, ownIn, ownTruck, ownLossCheck, frameCheck, ownCheck, checkOf}
-use Rattle.recording.proofs.Accepted.{GoodFrame, frame-good, trucks-in}
+use Rattle.recording.specs.Packed.{bitAt, numAt, trucksOf, roundsOf, wordPlace, roundPlace, wordIn, wordAt, bitsFor, bytesFor}
+use Rattle.recording.specs.Checks.{tooShort, badTrucks, badRounds, badLength, endBit, ownBit, ownLossCheck, frameCheck, countedCheck, ownCheck, checkOf}
+use Rattle.recording.proofs.Accepted.{trucks-in}
 use Rattle.recording.proofs.Sizes.{bits-small}
 
 -- ---- a run of bits that is 0
@@ -65,24 +63,14 @@ number-tests f bits p k v e = go (someBelow (λ j. eqb (f (p + j)) 1) k) refl
 abbrev pub ownPacked : List ℕ → ℕ → ℕ → ℕ → Bool
 ownPacked s at n i = eqb (bitAt s (at + i * (n + 1))) 1
 
--- that place in round r: what a look at the round says of it
-module _ (s : List ℕ) (n r at : ℕ) (counted : n ≡ trucksOf s) (placed : at ≡ roundPlace n r + 3 * n) where
-  own-packed : (i : ℕ) → i < n → ownPacked s at n i ≡ ownBit (wordAt s) n r i
-  unfolding wordAt ownBit
-  own-packed i h =
-      let w : ℕ = r * (3 + n) + (3 + i) in
-      sym
-      (ap (λ (m : ℕ). bit (rowAt (bitAt s) (wordPlace m w) m) i) (sym counted)
-      ∙ ap (λ (b : ℕ). eqb b 1) (rowAt-digit (bitAt s) (bitAt-lt s) (wordPlace n w) n i h)
-      ∙ ap (λ (q : ℕ). eqb (bitAt s q) 1) (omega arith))
-
-  pub own-looked : (b : Bool) → b ≡ someBelow (ownPacked s at n) n → ownIn (wordAt s) n r ≡ b
-  unfolding ownIn
-  own-looked b e = sym (e ∙ some-ext (ownPacked s at n) (ownBit (wordAt s) n r) n own-packed)
-
-  pub own-searched : (truck : ℕ) → truck ≡ first (ownPacked s at n) n → ownTruck (wordAt s) n r ≡ truck
-  unfolding ownTruck
-  own-searched truck e = sym (e ∙ first-ext (ownPacked s at n) (ownBit (wordAt s) n r) n own-packed)
+-- they are those of round r, where that place is its
+pub own-packed : (s : List ℕ) (n r at : ℕ) → at ≡ roundPlace n r + 3 * n → (i : ℕ) → i < n → ownPacked s at n i ≡ ownBit (wordIn (bitAt s) n) n r i
+unfolding ownBit
+own-packed s n r at placed i h =
+    let w : ℕ = r * (3 + n) + (3 + i) in
+    sym
+    (ap (λ (b : ℕ). eqb b 1) (rowAt-digit (bitAt s) (bitAt-lt s) (wordPlace n w) n i h)
+    ∙ ap (λ (q : ℕ). eqb (bitAt s q) 1) (omega arith))
 
 -- the places of a round's own bits are not far apart
 pub own-near : (n i : ℕ) → n ≤ 32 → i ≤ n → i * (n + 1) ≤ 1056
@@ -106,89 +94,54 @@ within-rows n i h =
     let o : (i + 1) * (n + 1) ≤ n * (n + 1) = mul-le-mul-right (n + 1) (let l : i + 1 ≤ n = omega arith in l) in
     omega arith
 
--- ---- outcomes by conditions
-frame-by : (s : List ℕ) (a b c d e : Bool)
-    → tooShort s ≡ a → badTrucks (trucksOf s) ≡ b → badRounds (roundsOf s) ≡ c → badLength s ≡ d → endBit s ≡ e
-    → refuse a ShortRecording (refuse b TruckCount (refuse c RoundCount (refuse d RecordingLength (refuse e EndBit Accepted)))) ≡ frameCheck s
-unfolding frameCheck
-frame-by s a b c d e p q r t u = rw (← p, ← q, ← r, ← t, ← u)
+-- ---- outcomes by conditions: 2 to 6 by the counts n and R
+module _ (s : List ℕ) (n R : ℕ) (b : Bool) (tested : b ≡ badTrucks n) where
+  pub counted-2 : b ≡ true → Refused TruckCount ≡ countedCheck (bitAt s) (length s) n R
+  unfolding countedCheck
+  counted-2 h = rw (sym tested ∙ h)
 
-pub frame-1 : (s : List ℕ) → length s < 2 → Refused ShortRecording ≡ frameCheck s
-unfolding tooShort
-frame-1 s h = frame-by s true (badTrucks (trucksOf s)) (badRounds (roundsOf s)) (badLength s) (endBit s) (lt-ltb (length s) 2 h) refl refl refl refl
-
-module _ (s : List ℕ) (n : ℕ) (b : Bool) (long : 2 ≤ length s) (counted : n ≡ trucksOf s) (tested : b ≡ badTrucks n) where
-  enough : tooShort s ≡ false
-  unfolding tooShort
-  enough = le-ltb (length s) 2 long
-
-  trucks-test : badTrucks (trucksOf s) ≡ b
-  trucks-test = ap badTrucks (sym counted) ∙ sym tested
-
-  pub frame-2 : b ≡ true → Refused TruckCount ≡ frameCheck s
-  frame-2 h = frame-by s false true (badRounds (roundsOf s)) (badLength s) (endBit s) enough (trucks-test ∙ h) refl refl refl
-
-  module _ (R : ℕ) (good : b ≡ false) (played : R ≡ roundsOf s) where
-    pub frame-3 : 400 < R → Refused RoundCount ≡ frameCheck s
-    unfolding badRounds
-    frame-3 h =
-        frame-by s false false true (badLength s) (endBit s) enough (trucks-test ∙ good) (lt-ltb 400 (roundsOf s) (omega arith)) refl refl
+  module _ (good : b ≡ false) where
+    pub counted-3 : 400 < R → Refused RoundCount ≡ countedCheck (bitAt s) (length s) n R
+    unfolding countedCheck badRounds
+    counted-3 h = rw (sym tested ∙ good, lt-ltb 400 R h)
 
     module _ (m : ℕ) (few : R ≤ 400) (sized : m ≡ bytesFor n R) where
-      few-test : badRounds (roundsOf s) ≡ false
-      unfolding badRounds
-      few-test = le-ltb 400 (roundsOf s) (omega arith)
+      pub counted-4 : (length s ≡ m → ⊥) → Refused RecordingLength ≡ countedCheck (bitAt s) (length s) n R
+      unfolding countedCheck badRounds badLength
+      counted-4 h = rw (sym tested ∙ good, le-ltb 400 R few, ne-eqb (length s) (bytesFor n R) (λ e. h (e ∙ sym sized)))
 
-      size-same : bytesFor (trucksOf s) (roundsOf s) ≡ m
-      size-same = ap₂ bytesFor (sym counted) (sym played) ∙ sym sized
+      module _ (exact : length s ≡ m) where
+        pub end-fits : (total : ℕ) → total ≡ bitsFor n R → (length s < 2 ^ 32) × ((total ≤ 8 * length s) × (8 * length s ≤ total + 7))
+        unfolding bytesFor
+        end-fits total bits =
+            let i : (0 < n) × (n ≤ 32) = trucks-in n (sym tested ∙ good) in
+            omega (arith, i .1, bits-small n R (omega (arith, i .1)) (omega arith))
 
-      pub frame-4 : (length s ≡ m → ⊥) → Refused RecordingLength ≡ frameCheck s
-      unfolding badLength
-      frame-4 h =
-          frame-by s false false false true (endBit s) enough (trucks-test ∙ good) few-test
-          (ap not (ne-eqb (length s) (bytesFor (trucksOf s) (roundsOf s)) (λ e. h (e ∙ size-same)))) refl
+        pub own-fits : (n ≤ 32) × (R ≤ 400) × (bitsFor n R ≤ 8 * length s)
+        unfolding bytesFor
+        own-fits = (trucks-in n (sym tested ∙ good) .1, few, omega arith)
 
-      pub end-fits : (total : ℕ) → length s ≡ m → total ≡ bitsFor n R → (length s < 2 ^ 32) × ((total ≤ 8 * length s) × (8 * length s ≤ total + 7))
-      unfolding bytesFor
-      end-fits total exact bits =
-          let i : (0 < n) × (n ≤ 32) = trucks-in n (sym tested ∙ good) in
-          omega (arith, i .1, bits-small n R (omega (arith, i .1)) (omega arith))
+        module _ (total : ℕ) (e : Bool) (bits : total ≡ bitsFor n R) (ended : e ≡ someBelow (λ j. eqb (bitAt s (total + j)) 1) (8 * length s - total)) where
+          end-test : endBit (bitAt s) (length s) n R ≡ e
+          unfolding endBit
+          end-test = ap (λ (t : ℕ). someBelow (λ j. eqb (bitAt s (t + j)) 1) (8 * length s - t)) (sym bits) ∙ sym ended
 
-      module _ (total : ℕ) (e : Bool) (exact : length s ≡ m) (bits : total ≡ bitsFor n R) (ended : e ≡ someBelow (λ j. eqb (bitAt s (total + j)) 1) (8 * length s - total)) where
-        pub frame-end : refuse e EndBit Accepted ≡ frameCheck s
-        unfolding badLength endBit
-        frame-end =
-            frame-by s false false false false e enough (trucks-test ∙ good) few-test
-            (ap not (eq-eqb (length s) (bytesFor (trucksOf s) (roundsOf s)) (exact ∙ sym size-same)))
-            (ap (λ (t : ℕ). someBelow (λ j. eqb (bitAt s (t + j)) 1) (8 * length s - t)) (ap₂ bitsFor (sym counted) (sym played) ∙ sym bits) ∙ sym ended)
+          pub counted-5 : e ≡ true → Refused EndBit ≡ countedCheck (bitAt s) (length s) n R
+          unfolding countedCheck badRounds badLength
+          counted-5 h = rw (sym tested ∙ good, le-ltb 400 R few, eq-eqb (length s) (bytesFor n R) (exact ∙ sized), end-test ∙ h)
 
-        pub frame-5 : e ≡ true → Refused EndBit ≡ frameCheck s
-        frame-5 h = rw h at frame-end
+          pub counted-6 : (o : Outcome) → e ≡ false → o ≡ ownLossCheck (wordIn (bitAt s) n) n 1 R → o ≡ countedCheck (bitAt s) (length s) n R
+          unfolding countedCheck badRounds badLength
+          counted-6 o h g = rw (sym tested ∙ good, le-ltb 400 R few, eq-eqb (length s) (bytesFor n R) (exact ∙ sized), end-test ∙ h) g
 
-        pub frame-0 : e ≡ false → Accepted ≡ frameCheck s
-        frame-0 h = rw h at frame-end
+-- ---- 1, then 2 to 6 by the counts of the header
+pub check-1 : (s : List ℕ) → length s < 2 → Refused ShortRecording ≡ checkOf s
+unfolding checkOf frameCheck tooShort
+check-1 s h = rw (lt-ltb (length s) 2 h)
 
-pub check-refused : (s : List ℕ) (f : Outcome) (r : Refusal) → f ≡ frameCheck s → f ≡ Refused r → Refused r ≡ checkOf s
-unfolding checkOf
-check-refused s f r e h = ap (λ (o : Outcome). andThen o (ownCheck s)) (sym h ∙ e)
+check-counted : (s : List ℕ) → 2 ≤ length s → countedCheck (bitAt s) (length s) (trucksOf s) (roundsOf s) ≡ checkOf s
+unfolding checkOf frameCheck tooShort ownCheck wordAt countedCheck
+check-counted s h = rw (le-ltb (length s) 2 h)
 
-module _ (s : List ℕ) (f : Outcome) (n R : ℕ) (framed : f ≡ frameCheck s) (kept : f ≡ Accepted) (counted : n ≡ trucksOf s) (played : R ≡ roundsOf s) where
-  good : GoodFrame s
-  good = frame-good s (sym framed ∙ kept)
-
-  pub trucks-fit : n ≤ 32
-  trucks-fit = omega (arith, good .most)
-
-  pub rounds-fit : R ≤ 400
-  rounds-fit = omega (arith, good .rounds)
-
-  pub bits-fit : bitsFor n R ≤ 8 * length s
-  unfolding bytesFor
-  bits-fit = omega (arith, good .size, ap₂ bitsFor counted played)
-
-  pub check-own : (o : Outcome) → o ≡ ownLossCheck (wordAt s) n 1 R → o ≡ checkOf s
-  unfolding checkOf ownCheck
-  check-own o e =
-      e
-      ∙ ap₂ (λ (a b : ℕ). ownLossCheck (wordAt s) a 1 b) counted played
-      ∙ ap (λ (x : Outcome). andThen x (ownCheck s)) (sym kept ∙ framed)
+pub check-on : (s : List ℕ) (n R : ℕ) (o : Outcome) → 2 ≤ length s → n ≡ trucksOf s → R ≡ roundsOf s → o ≡ countedCheck (bitAt s) (length s) n R → o ≡ checkOf s
+check-on s n R o long counted played e = e ∙ ap₂ (countedCheck (bitAt s) (length s)) counted played ∙ check-counted s long

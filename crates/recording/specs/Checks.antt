@@ -11,7 +11,7 @@ use Rattle.refusals.specs.declared.Outcome.the-variants.{Accepted}
 use Rattle.refusals.specs.Outcomes.{refuse, andThen}
 use Rattle.basics.specs.Bits.{bit}
 use Rattle.basics.specs.Lists.{first, someBelow}
-use Rattle.recording.specs.Packed.{bitAt, trucksOf, roundsOf, wordAt, bitsFor, bytesFor, roundWords}
+use Rattle.recording.specs.Packed.{bitAt, trucksOf, roundsOf, wordIn, wordAt, bitsFor, bytesFor, roundWords}
 
 -- 1: fewer than 2 bytes
 unfoldable pub tooShort : List ℕ → Bool
@@ -25,15 +25,15 @@ badTrucks n = eqb n 0 || ltb 32 n
 unfoldable pub badRounds : ℕ → Bool
 badRounds R = ltb 400 R
 
--- 4: byte length differs from the one n and R fix
-unfoldable pub badLength : List ℕ → Bool
-badLength s = not (eqb (length s) (bytesFor (trucksOf s) (roundsOf s)))
+-- 4: byte length m differs from the one n and R fix
+unfoldable pub badLength : ℕ → ℕ → ℕ → Bool
+badLength m n R = not (eqb m (bytesFor n R))
 
--- 5: a leftover end bit is 1
-unfoldable pub endBit : List ℕ → Bool
-endBit s =
-    let total = bitsFor (trucksOf s) (roundsOf s) in
-    someBelow (λ j. eqb (bitAt s (total + j)) 1) (8 * length s - total)
+-- 5: a leftover end bit is 1, of m bytes whose bits are f
+unfoldable pub endBit : (ℕ → ℕ) → ℕ → ℕ → ℕ → Bool
+endBit f m n R =
+    let total = bitsFor n R in
+    someBelow (λ j. eqb (f (total + j)) 1) (8 * m - total)
 
 -- the own loss bit of truck i in round r is 1, by the words of the rounds of n trucks; rounds are counted from 0 here
 unfoldable pub ownBit : (ℕ → ℕ) → ℕ → ℕ → ℕ → Bool
@@ -80,21 +80,28 @@ unfoldable pub badWords : ℕ → ℕ → List ℕ → Bool
 badWords n R words =
     not (eqb (length words) (R * roundWords n)) || someBelow (λ w. highBit n (getD words w 0)) (length words)
 
+-- 2 to 5: counts, length and end bits, of m bytes whose bits are f, by the counts n and R
+abbrev pub countedFrame : (ℕ → ℕ) → ℕ → ℕ → ℕ → Outcome
+countedFrame f m n R =
+    refuse (badTrucks n) TruckCount
+    (refuse (badRounds R) RoundCount
+    (refuse (badLength m n R) RecordingLength
+    (refuse (endBit f m n R) EndBit
+    Accepted)))
+
 -- 1 to 5: header, length and end bits
 unfoldable pub frameCheck : List ℕ → Outcome
-frameCheck s =
-    refuse (tooShort s) ShortRecording
-    (refuse (badTrucks (trucksOf s)) TruckCount
-    (refuse (badRounds (roundsOf s)) RoundCount
-    (refuse (badLength s) RecordingLength
-    (refuse (endBit s) EndBit
-    Accepted))))
+frameCheck s = refuse (tooShort s) ShortRecording (countedFrame (bitAt s) (length s) (trucksOf s) (roundsOf s))
 
 -- 6, of R rounds whose first is round k: it names the earliest round and, in it, the lowest truck
 unfoldable pub ownLossCheck : (ℕ → ℕ) → ℕ → ℕ → ℕ → Outcome
 ownLossCheck word n k R =
     let r = ownRound word n R in
     refuse (ownLoss word n R) (OwnLoss (k + r) (ownTruck word n r)) Accepted
+
+-- 2 to 6, in this order, by the counts n and R: no bit before the openings is asked for
+unfoldable pub countedCheck : (ℕ → ℕ) → ℕ → ℕ → ℕ → Outcome
+countedCheck f m n R = andThen (countedFrame f m n R) (ownLossCheck (wordIn f n) n 1 R)
 
 -- 6 of a recording
 unfoldable pub ownCheck : List ℕ → Outcome

@@ -53,9 +53,13 @@ wordPlace n w = openingPlace n + w * n
 abbrev pub roundPlace : ℕ → ℕ → ℕ
 roundPlace n k = wordPlace n (k * roundWords n)
 
+-- word w of the rounds of n trucks, in a packed form whose bits are f
+abbrev pub wordIn : (ℕ → ℕ) → ℕ → ℕ → ℕ
+wordIn f n w = rowAt f (wordPlace n w) n
+
 -- word w of the rounds
 unfoldable pub wordAt : List ℕ → ℕ → ℕ
-wordAt s w = rowAt (bitAt s) (wordPlace (trucksOf s) w) (trucksOf s)
+wordAt s w = wordIn (bitAt s) (trucksOf s) w
 
 -- all rounds in plain form
 unfoldable pub wordsOf : List ℕ → List ℕ

@@ -4,8 +4,8 @@ ghost use Prim.Native.Nat.{_+_, _*_, _-_, _<_, _≤_, _^_, min};
 ghost use lib.Dec.{eqb};
 ghost use lib.ListN.{length};
 ghost use Rattle.basics.specs.Lists.{first, someBelow};
-ghost use Rattle.recording.specs.Packed.{bitAt, trucksOf, roundsOf, countsOf, openingPlace, openingsInto, wordPlace, wordAt, bitsFor, bytesFor};
-ghost use Rattle.recording.specs.Checks.{badTrucks, frameCheck, ownLossCheck, checkOf};
+ghost use Rattle.recording.specs.Packed.{bitAt, countsOf, openingPlace, openingsInto, wordPlace, wordIn, bitsFor, bytesFor};
+ghost use Rattle.recording.specs.Checks.{badTrucks, ownLossCheck, countedCheck, checkOf};
 use refusals::Outcome;
 use refusals::Refusal;
 
@@ -98,29 +98,6 @@ fn end_bit(s: &[u8], total: usize) -> bool
     bitreader::read_at(s, total, 8 * s.len() - total) != 0
 }
 
-// Refusals 1 to 5, by the counts that the header has.
-fn check_frame(s: &[u8], n: u8, rounds: u16) -> Outcome
-    requires { ⌜ (n ≡ trucksOf (now s)) × (rounds ≡ roundsOf (now s)) ⌝ }
-    ensures { λ r. ⌜ r ≡ frameCheck (now (s .entry)) ⌝ }
-{
-    if s.len() < 2 {
-        return Outcome::Refused(Refusal::ShortRecording);
-    }
-    if bad_trucks(n) {
-        return Outcome::Refused(Refusal::TruckCount);
-    }
-    if 400 < rounds {
-        return Outcome::Refused(Refusal::RoundCount);
-    }
-    if s.len() != bytes_for(n, rounds) {
-        return Outcome::Refused(Refusal::RecordingLength);
-    }
-    if end_bit(s, bits_for(n, rounds)) {
-        return Outcome::Refused(Refusal::EndBit);
-    }
-    Outcome::Accepted
-}
-
 // Whether an own loss bit of a round is 1. The first own bit stands at `at`, and each other one n + 1 bits after the one before it.
 // By the union of their bytes, each shifted so that its own bit is worth 128: with no branch for each truck this is faster than a search.
 fn own_any(s: &[u8], at: usize, n: usize) -> bool
@@ -157,8 +134,8 @@ fn own_truck(s: &[u8], at: usize, n: usize) -> usize
 
 // Refusal 6, of so many rounds from the first one on. Only in the round that it names is the truck searched for.
 fn check_own(s: &[u8], trucks: u8, rounds: u16) -> Outcome
-    requires { ⌜ (trucks ≡ trucksOf (now s)) × (trucks ≤ 32) × (rounds ≤ 400) × (bitsFor trucks rounds ≤ 8 * length (now s)) ⌝ }
-    ensures { λ r. ⌜ r ≡ ownLossCheck (wordAt (now (s .entry))) trucks 1 rounds ⌝ }
+    requires { ⌜ (trucks ≤ 32) × (rounds ≤ 400) × (bitsFor trucks rounds ≤ 8 * length (now s)) ⌝ }
+    ensures { λ r. ⌜ r ≡ ownLossCheck (wordIn (bitAt (now (s .entry))) trucks) trucks 1 rounds ⌝ }
 {
     let n = trucks as usize;
     let size = 3 * n + n * n;
@@ -177,14 +154,32 @@ fn check_own(s: &[u8], trucks: u8, rounds: u16) -> Outcome
     Outcome::Accepted
 }
 
+// Refusals 2 to 6, by counts that are given: the header is not read.
+fn check_counted(s: &[u8], n: u8, rounds: u16) -> Outcome
+    ensures { λ r. ⌜ r ≡ countedCheck (bitAt (now (s .entry))) (length (now (s .entry))) n rounds ⌝ }
+{
+    if bad_trucks(n) {
+        return Outcome::Refused(Refusal::TruckCount);
+    }
+    if 400 < rounds {
+        return Outcome::Refused(Refusal::RoundCount);
+    }
+    if s.len() != bytes_for(n, rounds) {
+        return Outcome::Refused(Refusal::RecordingLength);
+    }
+    if end_bit(s, bits_for(n, rounds)) {
+        return Outcome::Refused(Refusal::EndBit);
+    }
+    check_own(s, n, rounds)
+}
+
 // Refusals 1 to 6.
 pub fn check(s: &[u8]) -> Outcome
     ensures { λ r. ⌜ r ≡ checkOf (now (s .entry)) ⌝ }
 {
-    let c = read_counts(s);
-    let frame = check_frame(s, c.trucks, c.rounds);
-    match frame {
-        Outcome::Refused(r) => Outcome::Refused(r),
-        Outcome::Accepted => check_own(s, c.trucks, c.rounds),
+    if s.len() < 2 {
+        return Outcome::Refused(Refusal::ShortRecording);
     }
+    let c = read_counts(s);
+    check_counted(s, c.trucks, c.rounds)
 }

@@ -8,7 +8,7 @@ use Rattle.basics.proofs.Laws.{first-le}
 use Rattle.recording.specs.Checks.{ownIn, ownRound}
 use Rattle.recording.proofs.OwnLoss.{own-begins, own-passes, own-found, own-ends}
 use Rattle.plain.proofs.Outcomes.{base-fits}
-use Rattle.plain.proofs.Tests.{ownPlain, own-looked, own-searched, words-small}
+use Rattle.plain.proofs.Tests.{ownPlain, plain-looked, plain-searched, words-small}
 use Rattle.plain.proofs.check_own.Statement.{statement}
 use Rattle.plain.proofs.check_own.Tie as tie
 
@@ -55,7 +55,7 @@ looked c =
     let a = k .before .args in
     let l = c .before .before .loop in
     let held = c .before .before .before .trucks-held in
-    own-looked (a .words .now) (a .n) (held .result) (l .r) (l .base) (λ i. omega (arith, k .shared-slice-known .given i)) (held .ensures) (l .inv .1) (c .own-any .result) (c .own-any .ensures)
+    plain-looked (a .words .now) (a .n) (held .result) (l .r) (l .base) (λ i. omega (arith, k .shared-slice-known .given i)) (held .ensures) (l .inv .1) (c .own-any .result) (c .own-any .ensures)
 
 returns : tie.Need-returns Inv-loop μ-loop
 returns c =
@@ -66,7 +66,7 @@ returns c =
     let held = c .before .before .before .before .before .trucks-held in
     let any = c .before .before in
     own-found (λ w. getD (a .words .now) w 0) (a .n) (a .k) (a .rounds) (l .r) (a .k + l .r) (c .own-truck .result) (omega arith) (l .inv .2) (looked any ∙ c .before .if1 .taken)
-    (own-searched (a .words .now) (a .n) (held .result) (l .r) (l .base) (λ i. omega (arith, k .shared-slice-known .given i)) (held .ensures) (l .inv .1) (c .own-truck .result)
+    (plain-searched (a .words .now) (a .n) (held .result) (l .r) (l .base) (λ i. omega (arith, k .shared-slice-known .given i)) (held .ensures) (l .inv .1) (c .own-truck .result)
     (sym (any .own-any .ensures) ∙ c .before .if1 .taken) (c .own-truck .ensures))
     refl
 

@@ -278,7 +278,7 @@ fn shown(view: View, cycle: Cycle, recording: &[u8]) -> Result<Answer, Failure> 
     let out = match view {
         View::List => list(recording)?,
         View::Grade => {
-            let Grades { complete, majority, zero, accurate } = grade_in(cycle, recording)?;
+            let Grades { complete, majority, zero, accurate, .. } = grade_in(cycle, recording)?;
             format!("complete {complete}\nmajority {majority}\nzero {zero}\naccurate {accurate}\n")
         }
         View::Explain => {

@@ -73,13 +73,11 @@ pub struct Round {
 }
 
 impl Round {
-    /// It with its number, and in six rounds with its name too: `round 4`, `round 4 (bit 2)`.
+    /// It with its number, and in any cycle but the two-round one with its name too: `round 4`, `round 4 (bit 2)`.
     pub fn named(&self) -> String {
         match self.kind {
             RoundKind::Proposals | RoundKind::Vetoes => format!("round {}", self.number),
-            RoundKind::Prepare | RoundKind::Bit(_) | RoundKind::Accept => {
-                format!("round {} ({})", self.number, self.kind)
-            }
+            _ => format!("round {} ({})", self.number, self.kind),
         }
     }
 
@@ -195,7 +193,7 @@ impl Answers {
     pub fn story(&self) -> Result<Story, Failure> {
         let openings = self.plain.openings.clone();
         let count = openings.len();
-        let mut before: Vec<Truck> = openings.iter().map(|&opening| opened(opening)).collect();
+        let mut before: Vec<Truck> = openings.iter().copied().map(Truck::opened).collect();
         hold(self.records.len() == self.plain.rounds as usize + 1, || {
             format!("{} records of {} rounds", self.records.len(), self.plain.rounds)
         })?;
@@ -203,7 +201,7 @@ impl Answers {
         let mut rounds = Vec::new();
         for (words, record) in self.plain.words.chunks_exact(3 + count).zip(&self.records[1..]) {
             let number = rounds.len() as u16 + 1;
-            let round = derive(self.cycle, number, words, &before);
+            let round = derive(self.cycle, number, words, &before)?;
             before = (0..count).map(|i| after(&before, &round, i)).collect();
             agree(&before, number, record)?;
             rounds.push(round);
@@ -218,19 +216,6 @@ impl Answers {
         let story = Story { cycle, openings, rounds, end: before, grades };
         verdict::hold_against_proofs(&story)?;
         Ok(story)
-    }
-}
-
-/// A truck before round 1.
-fn opened(opening: u8) -> Truck {
-    Truck {
-        opening,
-        estimate: opening,
-        mark: false,
-        heard: Heard::Nothing,
-        unwilling: false,
-        state: State::Running,
-        sent: Sent { proposals: 0, vetoes: 0 },
     }
 }
 
@@ -253,9 +238,22 @@ fn agree(derived: &[Truck], number: u16, record: &Fleet) -> Result<(), Failure> 
     Ok(())
 }
 
-/// A round by its words and the trucks before it.
-fn derive(cycle: Cycle, number: u16, words: &[u32], before: &[Truck]) -> Round {
+/// Whether this program has the rules of a round. A later library may have rounds for something else.
+fn is_known(kind: RoundKind) -> bool {
+    matches!(
+        kind,
+        RoundKind::Proposals
+            | RoundKind::Vetoes
+            | RoundKind::Prepare
+            | RoundKind::Bit(_)
+            | RoundKind::Accept
+    )
+}
+
+/// A round by its words and the trucks before it; a contradiction where this program has no rules of it.
+fn derive(cycle: Cycle, number: u16, words: &[u32], before: &[Truck]) -> Result<Round, Failure> {
     let (count, kind) = (before.len(), cycle.round_kind(number));
+    hold(is_known(kind), || format!("round {number} is for {kind}, which has no rules here"))?;
     let was_running = TruckSet::of(count, |i| before[i].state == State::Running);
     let stops = TruckSet(was_running.0 & words[0]);
     let runs = TruckSet(was_running.0 & !words[0]);
@@ -268,6 +266,8 @@ fn derive(cycle: Cycle, number: u16, words: &[u32], before: &[Truck]) -> Round {
             RoundKind::Vetoes => (truck.mark || truck.heard == Heard::Several, Message::Veto),
             RoundKind::Bit(worth) => (truck.estimate & worth != 0, Message::Bit),
             RoundKind::Accept => (truck.unwilling, Message::Veto),
+            // Nothing is made up of a round without rules.
+            _ => return None,
         };
         (runs.has(i) && sends).then_some(message)
     };
@@ -292,7 +292,7 @@ fn derive(cycle: Cycle, number: u16, words: &[u32], before: &[Truck]) -> Round {
         };
         concluded(turn, kind, before, i)
     });
-    Round { number, kind, senders, turns: turns.collect() }
+    Ok(Round { number, kind, senders, turns: turns.collect() })
 }
 
 /// A turn with what comes of it: a new estimate where estimates are sent, unwillingness after a bit round, a decision after
@@ -314,43 +314,43 @@ fn concluded(turn: Turn, kind: RoundKind, before: &[Truck], i: usize) -> Turn {
         }
         RoundKind::Vetoes => Turn { decides: !turn.notices() && truck.heard == Heard::One, ..turn },
         RoundKind::Accept => Turn { decides: !turn.notices() && !truck.unwilling, ..turn },
+        _ => turn,
     }
 }
 
-/// What a truck has sent after one more round: proposals and vetoes of two rounds are counted, and nothing of six.
-fn counted(before: Sent, kind: RoundKind, sends: bool) -> Sent {
+/// What a truck has sent after one more round: proposals and vetoes of two rounds are counted, and nothing else.
+fn counted(mut sent: Sent, kind: RoundKind, sends: bool) -> Sent {
     let one = u8::from(sends);
     match kind {
-        RoundKind::Proposals => Sent { proposals: before.proposals + one, ..before },
-        RoundKind::Vetoes => Sent { vetoes: before.vetoes + one, ..before },
-        RoundKind::Prepare | RoundKind::Bit(_) | RoundKind::Accept => before,
+        RoundKind::Proposals => sent.proposals += one,
+        RoundKind::Vetoes => sent.vetoes += one,
+        _ => {}
     }
+    sent
 }
 
 /// Truck `i` after a round, from the trucks before it. What belongs to the other cycle is left as it was.
 fn after(before: &[Truck], round: &Round, i: usize) -> Truck {
-    let (turn, was) = (&round.turns[i], before[i]);
-    let state = match turn {
+    let (turn, mut truck) = (&round.turns[i], before[i]);
+    truck.estimate = turn.after;
+    truck.state = match turn {
         Turn { stops: true, .. } => State::Stopped(round.number),
         Turn { decides: true, .. } => State::Decided(round.number),
-        _ => was.state,
+        _ => truck.state,
     };
-    let sent = counted(was.sent, round.kind, turn.sent.is_some());
-    let truck = Truck { estimate: turn.after, state, sent, ..was };
+    truck.sent = counted(truck.sent, round.kind, turn.sent.is_some());
     match round.kind {
         RoundKind::Proposals if turn.runs => {
-            Truck { mark: turn.marked, heard: values(before, turn), ..truck }
+            (truck.mark, truck.heard) = (turn.marked, values(before, turn));
         }
         RoundKind::Proposals | RoundKind::Vetoes => {
-            Truck { mark: false, heard: Heard::Nothing, ..truck }
+            (truck.mark, truck.heard) = (false, Heard::Nothing);
         }
-        RoundKind::Bit(_) if turn.runs => {
-            Truck { unwilling: was.unwilling || turn.becomes_unwilling, ..truck }
-        }
-        RoundKind::Prepare | RoundKind::Bit(_) | RoundKind::Accept => {
-            Truck { unwilling: false, ..truck }
-        }
+        RoundKind::Bit(_) if turn.runs => truck.unwilling |= turn.becomes_unwilling,
+        RoundKind::Prepare | RoundKind::Bit(_) | RoundKind::Accept => truck.unwilling = false,
+        _ => {}
     }
+    truck
 }
 
 /// How many different values are heard in a turn.

@@ -35,13 +35,14 @@ pub fn timeline(story: &Story) -> String {
     text
 }
 
-/// How many trucks and rounds there are, and the cycle where it is the six-round one.
+/// How many trucks and rounds there are, and the cycle where it is not the two-round one.
 pub fn size_text(story: &Story) -> String {
     let (trucks, rounds) = (story.openings.len(), story.rounds.len());
     let size = format!("{}, {}", counted(trucks, "truck"), counted(rounds, "round"));
     match story.cycle {
         Cycle::TwoRound => size,
         Cycle::SixRound => size + " in the six-round cycle",
+        other => format!("{size} in the cycle of {other}"),
     }
 }
 
@@ -63,12 +64,12 @@ fn round_text(round: &Round) -> String {
     let message = match round.kind {
         RoundKind::Proposals => "proposal",
         RoundKind::Prepare => "estimate",
-        RoundKind::Bit(_) => "message",
         RoundKind::Vetoes | RoundKind::Accept => "veto",
+        _ => "message",
     };
     let name = match round.kind {
         RoundKind::Proposals | RoundKind::Vetoes => format!("{} ({message})", round.named()),
-        RoundKind::Prepare | RoundKind::Bit(_) | RoundKind::Accept => round.named(),
+        _ => round.named(),
     };
     let mut text = format!(
         "{name}: {} of {} running, {} sent",

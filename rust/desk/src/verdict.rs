@@ -1,6 +1,6 @@
 //! What a run came to: grades, calm, counts and the closing sentences.
 
-use rajvokshul::{Cycle, Grades, RoundKind, State};
+use rajvokshul::{Class, Cycle, Grades, RoundKind, State};
 
 use crate::story::{hold, Failure, Round, Story, Turn};
 use crate::trucks::{counted, TruckSet};
@@ -55,12 +55,11 @@ pub fn grades_of(rounds: &[Round]) -> Grades {
         let found = rounds.iter().find(|round| !breaking(round, broken).is_empty());
         found.map_or(0, |round| round.number)
     };
-    Grades {
-        complete: first(|b| b.complete),
-        majority: first(|b| b.majority),
-        zero: first(|b| b.zero),
-        accurate: first(|b| b.accurate),
-    }
+    Grades::default()
+        .with_first_break(Class::Complete, first(|b| b.complete))
+        .with_first_break(Class::Majority, first(|b| b.majority))
+        .with_first_break(Class::Zero, first(|b| b.zero))
+        .with_first_break(Class::Accurate, first(|b| b.accurate))
 }
 
 /// A round whose marks are less than agreement asks of it.
@@ -68,7 +67,7 @@ pub fn grades_of(rounds: &[Round]) -> Grades {
 pub struct Weak {
     /// Its number.
     pub round: u16,
-    /// What its marks are not: majority complete in a round for proposals, zero complete in any other.
+    /// What its marks are not: majority complete in a round for proposals, zero complete in the others.
     pub class: &'static str,
     /// The trucks that lack a mark.
     pub trucks: TruckSet,
@@ -82,6 +81,8 @@ pub fn first_weak(rounds: &[Round]) -> Option<Weak> {
             RoundKind::Vetoes | RoundKind::Prepare | RoundKind::Bit(_) | RoundKind::Accept => {
                 ("zero complete", breaking(round, |b| b.zero))
             }
+            // Nothing is known of what agreement asks of any other, so no less than all of it.
+            _ => ("complete", breaking(round, |b| b.complete)),
         };
         (!trucks.is_empty()).then_some(Weak { round: round.number, class, trucks })
     })
@@ -123,17 +124,18 @@ pub struct Calm {
     pub senders: usize,
 }
 
-/// How many rounds are calm together, in a number and in words.
-fn calm_rounds(cycle: Cycle) -> (usize, &'static str) {
+/// How many rounds are calm together, in a number and in words, where that is known of a cycle.
+fn calm_rounds(cycle: Cycle) -> Option<(usize, &'static str)> {
     match cycle {
-        Cycle::TwoRound => (5, "five"),
-        Cycle::SixRound => (11, "eleven"),
+        Cycle::TwoRound => Some((5, "five")),
+        Cycle::SixRound => Some((11, "eleven")),
+        _ => None,
     }
 }
 
 /// The first calm rounds, with the least b.
 pub fn first_calm(story: &Story) -> Option<Calm> {
-    let (count, _) = calm_rounds(story.cycle);
+    let (count, _) = calm_rounds(story.cycle)?;
     story.rounds.windows(count).find_map(|calm| {
         let senders = calm_senders(calm)?;
         let from = calm[0].number;
@@ -207,7 +209,7 @@ pub fn counts(story: &Story) -> Counts {
         match round.kind {
             RoundKind::Proposals => counts.proposals += round.senders.count(),
             RoundKind::Vetoes => counts.vetoes += round.senders.count(),
-            RoundKind::Prepare | RoundKind::Bit(_) | RoundKind::Accept => {}
+            _ => {}
         }
     }
     for turn in story.rounds.iter().flat_map(|round| &round.turns) {
@@ -248,6 +250,7 @@ fn agreement_sentence(story: &Story) -> String {
                 "majority complete in odd rounds and zero complete in even ones"
             }
             (Cycle::SixRound, _) => "zero complete in every round",
+            _ => "complete in every round",
         };
         return format!("Agreement was guaranteed: marks were {worth}.");
     };
@@ -337,12 +340,14 @@ fn others(story: &Story) -> String {
 
 fn calm_sentence(story: &Story) -> String {
     let Some(Calm { from, last, senders }) = first_calm(story) else {
-        let (_, count) = calm_rounds(story.cycle);
-        return format!("No {count} rounds in a row were calm.");
+        return match calm_rounds(story.cycle) {
+            Some((_, count)) => format!("No {count} rounds in a row were calm."),
+            None => format!("Nothing is known of calm rounds in the cycle of {}.", story.cycle),
+        };
     };
     let asked = match story.cycle {
         Cycle::TwoRound => "proposal",
-        Cycle::SixRound => "prepare",
+        _ => "prepare",
     };
     let how = match senders {
         0 => format!("as no truck runs in a {asked} round of these"),

@@ -18,6 +18,7 @@ use std::fmt;
 /// # Ok::<(), Refusal>(())
 /// ```
 #[derive(Clone, Copy, Debug, Default, PartialEq, Eq, Hash)]
+#[non_exhaustive]
 pub enum Cycle {
     /// Proposals and vetoes. No two trucks decide different crushers where marks are majority complete in rounds for proposals
     /// and zero complete in those for vetoes.
@@ -84,6 +85,7 @@ impl fmt::Display for Cycle {
 
 /// What a round of a cycle is for; [`Cycle::round_kind`] tells it of a round, and `to_string` names it.
 #[derive(Clone, Copy, Debug, PartialEq, Eq, Hash)]
+#[non_exhaustive]
 pub enum RoundKind {
     /// In two rounds the odd ones: active trucks send their estimates, and a truck with no mark takes the least value it hears.
     Proposals,

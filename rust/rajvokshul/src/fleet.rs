@@ -35,8 +35,9 @@ pub enum State {
 }
 
 /// How many messages a truck has sent in the two-round cycle; the six-round one counts none. A truck sends at most one in a
-/// round, so that each count is at most 200.
-#[derive(Clone, Copy, Debug, PartialEq, Eq, Hash)]
+/// round, so that each count is at most 200. `Sent::default()` is that of a truck that has sent nothing.
+#[derive(Clone, Copy, Debug, Default, PartialEq, Eq, Hash)]
+#[non_exhaustive]
 pub struct Sent {
     /// Proposals: the odd rounds in which it sent.
     pub proposals: u8,
@@ -47,6 +48,7 @@ pub struct Sent {
 /// One truck of a fleet. What it heard and sent belongs to the two-round cycle, willingness to the six-round one: a step of
 /// either cycle neither reads nor changes what belongs to the other.
 #[derive(Clone, Copy, Debug, PartialEq, Eq, Hash)]
+#[non_exhaustive]
 pub struct Truck {
     /// The crusher that it opened with.
     pub opening: u8,
@@ -64,10 +66,33 @@ pub struct Truck {
     pub sent: Sent,
 }
 
+impl Truck {
+    /// A truck of a fleet that starts: it runs, is willing, remembers nothing and has sent nothing. For programs that work out
+    /// by themselves what a truck should be and compare it with the one of a [`Fleet`].
+    ///
+    /// ```
+    /// # use rajvokshul::{Fleet, Refusal, Truck};
+    /// let fleet = Fleet::start(2, &[3, 5])?;
+    /// assert_eq!(fleet.truck(1), Some(Truck::opened(5)));
+    /// # Ok::<(), Refusal>(())
+    /// ```
+    pub fn opened(opening: u8) -> Truck {
+        Truck {
+            opening,
+            estimate: opening,
+            mark: false,
+            heard: Heard::Nothing,
+            unwilling: false,
+            state: State::Running,
+            sent: Sent::default(),
+        }
+    }
+}
+
 /// A fleet of 1 to 32 trucks with 0 to 400 rounds done.
 ///
 /// ```
-/// use rajvokshul::{Fleet, Sent, State};
+/// use rajvokshul::{Fleet, State};
 ///
 /// let mut fleet = Fleet::start(2, &[3, 5])?;
 /// // A round in plain form: stop, active, mark, then what each truck missed.
@@ -78,7 +103,7 @@ pub struct Truck {
 /// for truck in &fleet {
 ///     assert_eq!(truck.state, State::Running);
 ///     // Both heard two values in round 1, so that both sent a veto in round 2.
-///     assert_eq!(truck.sent, Sent { proposals: 1, vetoes: 1 });
+///     assert_eq!((truck.sent.proposals, truck.sent.vetoes), (1, 1));
 /// }
 /// # Ok::<(), rajvokshul::Refusal>(())
 /// ```

@@ -36,6 +36,44 @@
 //! );
 //! # Ok::<(), Refusal>(())
 //! ```
+//!
+//! # Later versions
+//!
+//! [`Refusal`], [`Cycle`], [`RoundKind`] and [`Class`] may get more cases, and [`Truck`], [`Sent`], [`Grades`] and [`Plain`]
+//! more fields. So a match on the former has an arm for cases that are not known yet; of a refusal [`Refusal::reason`] has the
+//! words then:
+//!
+//! ```
+//! use rajvokshul::Refusal;
+//!
+//! fn who(refusal: Refusal) -> String {
+//!     match refusal {
+//!         Refusal::OwnLoss { truck, .. } => format!("ask the driver of truck {truck}"),
+//!         Refusal::RoadLists => "ask the office".to_string(),
+//!         other => other.reason().to_string(),
+//!     }
+//! }
+//! assert_eq!(who(Refusal::ShortBuffer), "a lent buffer is too short");
+//! ```
+//!
+//! Without it the match is not taken:
+//!
+//! ```compile_fail,E0004
+//! fn rounds(cycle: rajvokshul::Cycle) -> u16 {
+//!     match cycle {
+//!         rajvokshul::Cycle::TwoRound => 2,
+//!         rajvokshul::Cycle::SixRound => 6,
+//!     }
+//! }
+//! ```
+//!
+//! The structs are answered by calls and not written out. A program that works out by itself what an answer should be starts
+//! with [`Truck::opened`], `Sent::default()` or `Grades::default()` and sets fields. [`State`] and [`Heard`] are the whole of
+//! what a truck can be and remember, by the bytes of a record, and a match on them is complete.
+//!
+//! ```compile_fail,E0639
+//! let sent = rajvokshul::Sent { proposals: 1, vetoes: 0 };
+//! ```
 
 #![deny(missing_docs)]
 #![deny(unsafe_op_in_unsafe_fn)]

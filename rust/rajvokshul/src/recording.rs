@@ -16,6 +16,7 @@ pub const MAX_TEXT: usize = 1_761;
 
 /// What the marks of a round are worth. Running trucks are judged, by the messages sent.
 #[derive(Clone, Copy, Debug, PartialEq, Eq, Hash)]
+#[non_exhaustive]
 pub enum Class {
     /// A truck that misses a message has a mark.
     Complete,
@@ -32,7 +33,7 @@ impl Class {
     pub const ALL: [Class; 4] = [Class::Complete, Class::Majority, Class::Zero, Class::Accurate];
 }
 
-/// For each class of marks the first round that breaks it, or 0.
+/// For each class of marks the first round that breaks it, or 0. `Grades::default()` breaks none.
 ///
 /// It is proved that no two trucks decide different crushers
 ///
@@ -50,7 +51,8 @@ impl Class {
 /// assert_eq!(grades.first_break(Class::Zero), None);
 /// # Ok::<(), rajvokshul::Refusal>(())
 /// ```
-#[derive(Clone, Copy, Debug, PartialEq, Eq, Hash)]
+#[derive(Clone, Copy, Debug, Default, PartialEq, Eq, Hash)]
+#[non_exhaustive]
 pub struct Grades {
     /// The first round that breaks [`Class::Complete`], or 0.
     pub complete: u16,
@@ -66,10 +68,11 @@ impl Grades {
     /// The first round that breaks a class, if one does.
     ///
     /// ```
-    /// # use rajvokshul::{Class, Grades};
-    /// let grades = Grades { complete: 3, majority: 0, zero: 0, accurate: 0 };
-    /// assert_eq!(grades.first_break(Class::Complete), Some(3));
-    /// assert!(grades.first_break(Class::Majority).is_none());
+    /// # use rajvokshul::{grade, Class};
+    /// let grades = grade(&[0x08, 0x02, 0x35, 0x31, 0x80, 0x00])?;
+    /// assert_eq!(grades.first_break(Class::Complete), Some(1));
+    /// assert!(grades.first_break(Class::Zero).is_none());
+    /// # Ok::<(), rajvokshul::Refusal>(())
     /// ```
     pub fn first_break(&self, class: Class) -> Option<u16> {
         let round = match class {
@@ -79,6 +82,27 @@ impl Grades {
             Class::Accurate => self.accurate,
         };
         (round != 0).then_some(round)
+    }
+
+    /// The same with another first round that breaks a class, or 0 for none. For programs that work out by themselves what the
+    /// grades should be and compare them with those of [`grade`].
+    ///
+    /// ```
+    /// # use rajvokshul::{Class, Grades};
+    /// let grades = Grades::default().with_first_break(Class::Complete, 3);
+    /// assert_eq!(grades.first_break(Class::Complete), Some(3));
+    /// assert!(grades.first_break(Class::Majority).is_none());
+    /// ```
+    #[must_use = "it answers other grades and leaves these as they are"]
+    pub fn with_first_break(mut self, class: Class, round: u16) -> Grades {
+        let first = match class {
+            Class::Complete => &mut self.complete,
+            Class::Majority => &mut self.majority,
+            Class::Zero => &mut self.zero,
+            Class::Accurate => &mut self.accurate,
+        };
+        *first = round;
+        self
     }
 }
 
@@ -98,6 +122,7 @@ impl Grades {
 /// # Ok::<(), Refusal>(())
 /// ```
 #[derive(Clone, PartialEq, Eq, Hash)]
+#[non_exhaustive]
 pub struct Plain {
     /// The number of rounds.
     pub rounds: u32,
@@ -206,10 +231,9 @@ pub(crate) fn own_loss(recording: &[u8]) -> u32 {
 /// Grades the marks of a recording in the two-round cycle. Refusals: 1 to 6.
 ///
 /// ```
-/// use rajvokshul::{grade, Grades};
-///
-/// let graded = grade(&[0x08, 0x02, 0x35, 0x31, 0x80, 0x00]);
-/// assert_eq!(graded, Ok(Grades { complete: 1, majority: 1, zero: 0, accurate: 0 }));
+/// let grades = rajvokshul::grade(&[0x08, 0x02, 0x35, 0x31, 0x80, 0x00])?;
+/// assert_eq!((grades.complete, grades.majority, grades.zero, grades.accurate), (1, 1, 0, 0));
+/// # Ok::<(), rajvokshul::Refusal>(())
 /// ```
 pub fn grade(recording: &[u8]) -> Result<Grades, Refusal> {
     grade_in(Cycle::TwoRound, recording)

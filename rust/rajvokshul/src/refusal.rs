@@ -3,7 +3,11 @@
 use std::fmt;
 
 /// Why an input is refused. [`Refusal::number`] is the number of the scope paper.
+///
+/// A later version may refuse for more reasons, so that a match on it has an arm for others. [`Refusal::reason`] and `to_string`
+/// have words for each.
 #[derive(Clone, Copy, Debug, PartialEq, Eq, Hash)]
+#[non_exhaustive]
 pub enum Refusal {
     /// A recording of fewer than 2 bytes.
     ShortRecording,

@@ -48,7 +48,7 @@ fn c1_decides_in_round_4() {
             (t.estimate, t.mark, t.heard, t.state),
             (3, false, Heard::Several, State::Running)
         );
-        assert_eq!(t.sent, Sent { proposals: 1, vetoes: 0 });
+        assert_eq!((t.sent.proposals, t.sent.vetoes), (1, 0));
     }
     for k in 2..=4 {
         fleet.step(plain.round(k).unwrap()).unwrap();
@@ -61,7 +61,8 @@ fn c1_decides_in_round_4() {
 #[test]
 fn c2_half_is_no_majority() {
     assert_eq!(ends(&C2), [(3, State::Decided(2), 1, 0), (5, State::Decided(2), 1, 0)]);
-    assert_eq!(grade(&C2), Ok(Grades { complete: 1, majority: 1, zero: 0, accurate: 0 }));
+    let complete = Grades::default().with_first_break(Class::Complete, 1);
+    assert_eq!(grade(&C2), Ok(complete.with_first_break(Class::Majority, 1)));
 }
 
 #[test]
@@ -212,7 +213,7 @@ fn standing_at_a_crusher() {
 fn c13_two_of_three_messages_are_a_majority() {
     // All three are active in round 1, and truck 0 misses truck 2.
     let recording = write(3, 1, &[1, 1, 1], &[0, 0b111, 0, 0b100, 0, 0]).unwrap();
-    assert_eq!(grade(&recording), Ok(Grades { complete: 1, majority: 0, zero: 0, accurate: 0 }));
+    assert_eq!(grade(&recording), Ok(Grades::default().with_first_break(Class::Complete, 1)));
 }
 
 #[test]
@@ -307,8 +308,9 @@ fn sending_in_every_round() {
     let mut fleet = Fleet::start(1, &[7]).unwrap();
     for done in 1..=400u16 {
         fleet.step([0, 1, 1, 0]).unwrap();
-        let Sent { proposals, vetoes } = fleet.truck(0).unwrap().sent;
-        assert_eq!((u16::from(proposals), u16::from(vetoes)), (done.div_ceil(2), done / 2));
+        let sent = fleet.truck(0).unwrap().sent;
+        let counts = (u16::from(sent.proposals), u16::from(sent.vetoes));
+        assert_eq!(counts, (done.div_ceil(2), done / 2));
     }
     assert_eq!(fleet, Fleet::run(&recording).unwrap());
 }
@@ -349,11 +351,11 @@ fn counts_beyond_the_rounds_done() {
                 bytes[17..20].copy_from_slice(&state);
                 bytes[20] = proposals as u8;
                 bytes[21] = vetoes as u8;
-                Fleet::try_from(bytes).map(|fleet| fleet.truck(1).unwrap().sent)
+                let sent = |fleet: Fleet| fleet.truck(1).unwrap().sent;
+                Fleet::try_from(bytes).map(sent).map(|sent| (sent.proposals, sent.vetoes))
             };
             let (odd, even) = (done - done / 2, done / 2);
-            let most = Sent { proposals: odd as u8, vetoes: even as u8 };
-            assert_eq!(record(odd, even), Ok(most), "{done} {state:?}");
+            assert_eq!(record(odd, even), Ok((odd as u8, even as u8)), "{done} {state:?}");
             assert_eq!(record(odd + 1, even), Err(Refusal::Record), "{done} {state:?}");
             assert_eq!(record(odd, even + 1), Err(Refusal::Record), "{done} {state:?}");
         }

@@ -10,6 +10,7 @@ fn read_as(cycle: Cycle) -> oracle::Cycle {
     match cycle {
         Cycle::TwoRound => oracle::Cycle::TwoRound,
         Cycle::SixRound => oracle::Cycle::SixRound,
+        other => panic!("the independent reading has no rules of {other}"),
     }
 }
 
@@ -209,13 +210,18 @@ fn trucks_come_in_their_order() {
 
 #[test]
 fn grades_by_class() {
-    let grades = Grades { complete: 1, majority: 20, zero: 0, accurate: 400 };
+    let breaking = |breaks: &[(Class, u16)]| {
+        let none = Grades::default();
+        breaks.iter().fold(none, |grades, &(class, round)| grades.with_first_break(class, round))
+    };
+    let grades = breaking(&[(Class::Complete, 1), (Class::Majority, 20), (Class::Accurate, 400)]);
     assert_eq!(
         Class::ALL.map(|class| grades.first_break(class)),
         [Some(1), Some(20), None, Some(400)]
     );
-    let none = Grades { complete: 0, majority: 0, zero: 7, accurate: 0 };
-    assert_eq!(Class::ALL.map(|class| none.first_break(class)), [None, None, Some(7), None]);
+    assert_eq!((grades.complete, grades.majority, grades.zero, grades.accurate), (1, 20, 0, 400));
+    let zero = breaking(&[(Class::Accurate, 2), (Class::Zero, 7), (Class::Accurate, 0)]);
+    assert_eq!(Class::ALL.map(|class| zero.first_break(class)), [None, None, Some(7), None]);
 }
 
 #[test]
@@ -237,7 +243,9 @@ fn what_is_shown_names_trucks() {
         "Plain { openings: [7], rounds: [Round { trucks: 1, stopped: {}, active: {0}, marked: {}, lost: {} }] }"
     );
     for (rounds, words) in [(2, vec![0; 4]), (1, vec![0; 5]), (1, vec![0, 2, 0, 0])] {
-        let shown = format!("{:?}", Plain { rounds, words: words.clone(), ..plain.clone() });
+        let mut plain = plain.clone();
+        (plain.rounds, plain.words) = (rounds, words.clone());
+        let shown = format!("{plain:?}");
         assert_eq!(shown, format!("Plain {{ openings: [7], rounds: {rounds}, words: {words:?} }}"));
     }
 }

@@ -29,7 +29,7 @@ fn after(openings: [u8; 2], rounds: &[[u32; 5]]) -> Fleet {
     assert_eq!(Fleet::run_in(SixRound, &recorder.recording()), Ok(fleet.clone()));
     assert_eq!(Fleet::from_bytes_in(SixRound, *fleet.as_bytes()), Ok(fleet.clone()));
     // this cycle counts no messages and remembers no values
-    assert!(fleet.iter().all(|t| t.sent == Sent { proposals: 0, vetoes: 0 }));
+    assert!(fleet.iter().all(|t| t.sent == Sent::default()));
     assert!(fleet.iter().all(|t| !t.mark && t.heard == Heard::Nothing));
     fleet
 }
@@ -148,7 +148,8 @@ fn what_was_heard_and_sent_is_handed_on() {
     fleet.step_in(SixRound, [0b10, 0, 0, 0, 0]).unwrap();
     assert_eq!(ends(&fleet), [(3, false, Running), (3, false, Stopped(3))]);
     for truck in &fleet {
-        assert_eq!((truck.heard, truck.sent), (Heard::Several, Sent { proposals: 1, vetoes: 0 }));
+        assert_eq!(truck.heard, Heard::Several);
+        assert_eq!((truck.sent.proposals, truck.sent.vetoes), (1, 0));
     }
     // a stopped truck with a memory is no record of two rounds, but one of six
     assert_eq!(fleet.step(QUIET), Err(Refusal::Record));
@@ -201,12 +202,12 @@ fn refusals_of_the_six_round_calls() {
 fn marks_are_graded_in_the_cycle_that_is_asked_for() {
     // 3 and 5 miss each other throughout, without a mark: each hears itself where it sends. In round 3 truck 1 sends alone.
     let apart = write(2, 6, &[3, 5], &[0, 0b11, 0, 0b10, 0b01].repeat(6)).unwrap();
-    let expected = Grades { complete: 1, majority: 1, zero: 3, accurate: 0 };
-    assert_eq!(grade_in(SixRound, &apart), Ok(expected));
+    let complete = Grades::default().with_first_break(Class::Complete, 1);
+    let two = complete.with_first_break(Class::Majority, 1);
+    assert_eq!(grade_in(SixRound, &apart), Ok(two.with_first_break(Class::Zero, 3)));
     let ended = ends(&Fleet::run_in(SixRound, &apart).unwrap());
     assert_eq!(ended, [(3, false, Decided(6)), (5, false, Decided(6))]);
     // in two rounds both decide in round 2, and nobody sends after
-    let two = Grades { zero: 0, ..expected };
     assert_eq!(grade_in(Cycle::TwoRound, &apart), Ok(two));
     assert_eq!(grade(&apart), Ok(two));
 }

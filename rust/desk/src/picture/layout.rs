@@ -32,12 +32,12 @@ pub struct Scale {
 }
 
 impl Scale {
-    /// Sizes for a story's number of trucks and rounds. The names of six rounds take more room than letters.
+    /// Sizes for a story's number of trucks and rounds. The names of rounds take more room than the letters of two.
     fn of(story: &Story) -> Scale {
         let (trucks, rounds) = (story.openings.len(), story.rounds.len().max(1) as i32);
         let least = match story.cycle {
             Cycle::TwoRound => 36,
-            Cycle::SixRound => 44,
+            _ => 44,
         };
         let fill = (LEAST_WIDTH - 2 * MARGIN - NAMES - OPENING - ENDS) / rounds;
         if rounds <= 24 && trucks <= 12 {
@@ -73,7 +73,7 @@ impl Scale {
     pub fn label_step(&self, cycle: Cycle) -> u16 {
         let fives = match cycle {
             Cycle::TwoRound => 5,
-            Cycle::SixRound => 6,
+            _ => cycle.rounds(),
         };
         match self.cell {
             30.. => 1,

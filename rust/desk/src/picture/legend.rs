@@ -72,7 +72,7 @@ fn symbols(cycle: Cycle) -> Vec<Item> {
     let sent = |meaning: &str| item(14, meaning, |x, y| key("k-sent", &shapes::sent(x, y, 6)));
     let mut items = match cycle {
         Cycle::TwoRound => vec![sent("proposal sent")],
-        Cycle::SixRound => vec![
+        _ => vec![
             sent("estimate sent"),
             item(10, "message sent in a bit round", |x, y| key("k-bit", &shapes::bit(x, y, 6))),
             item(14, "became unwilling", |x, y| key("k-unwilling", &shapes::unwilling(x, y, 6))),
@@ -100,7 +100,7 @@ fn ticks(cycle: Cycle) -> Vec<Item> {
     };
     let mut items = match cycle {
         Cycle::TwoRound => vec![sent("proposal sent (above the bar)")],
-        Cycle::SixRound => vec![
+        _ => vec![
             sent("estimate sent (above the bar)"),
             item(10, "message sent in a bit round (above the bar)", |x, y| {
                 key("k-bit", &shapes::block(x - 1, y - 4, 2, 7))
@@ -135,6 +135,7 @@ fn lines(wide: bool, cycle: Cycle) -> Vec<Item> {
         Cycle::TwoRound => "veto round (V); the others are for proposals (P)",
         Cycle::SixRound if wide => "accept round",
         Cycle::SixRound => "accept round; the five before it are prepare and bits 8, 4, 2, 1",
+        _ => "last round of a cycle",
     };
     vec![
         item(26, "after a decision", |x, y| key("k-rest", &format!("M{} {y}h26", x - 13))),

@@ -58,7 +58,7 @@ fn summary(story: &Story) -> String {
     let running = story.openings.len() - counts.decided - counts.stopped;
     let sent = match story.cycle {
         Cycle::TwoRound => messages(counts.proposals, counts.vetoes) + ", ",
-        Cycle::SixRound => String::new(),
+        _ => String::new(),
     };
     format!(
         "{} decided, {} stopped, {running} running; {sent}{} missed, {} ({} false)",
@@ -110,7 +110,7 @@ fn columns(story: &Story, layout: &Layout) -> String {
         let class = match round.kind {
             RoundKind::Vetoes => "even",
             RoundKind::Accept => "accept",
-            RoundKind::Proposals | RoundKind::Prepare | RoundKind::Bit(_) => continue,
+            _ => continue,
         };
         let (x, width) = (layout.round_x(round.number), layout.scale.cell);
         let (y, height) = (top - 16, end - top + 16);
@@ -144,6 +144,7 @@ fn kind(layout: &Layout, round: &Round) -> String {
         RoundKind::Vetoes => "V".to_string(),
         RoundKind::Bit(worth) => worth.to_string(),
         RoundKind::Accept => "A".to_string(),
+        other => other.to_string().chars().take(1).collect(),
     };
     let text = |said: &str| {
         let (middle, y) = (x + cell / 2, top - 4);
@@ -153,7 +154,7 @@ fn kind(layout: &Layout, round: &Round) -> String {
         RoundKind::Proposals | RoundKind::Vetoes if wide => return text(&short),
         RoundKind::Proposals | RoundKind::Vetoes => return String::new(),
         _ if wide => return text(&round.kind.to_string()),
-        RoundKind::Prepare | RoundKind::Bit(_) | RoundKind::Accept => {}
+        _ => {}
     }
     let short = if cell >= 8 { text(&short) } else { String::new() };
     format!(
@@ -196,7 +197,7 @@ fn row(story: &Story, layout: &Layout, truck: usize) -> String {
             let sent = messages(end.sent.proposals.into(), end.sent.vetoes.into());
             format!("<title>truck {truck} sent {sent}</title>")
         }
-        Cycle::SixRound => String::new(),
+        _ => String::new(),
     };
     let x = layout.end_x();
     svg + &format!("<text class=\"end\" x=\"{x}\" y=\"{text_y}\">{sent}{how}</text>\n")

@@ -12,7 +12,7 @@ cat > "$box/expected" << 'END'
 644 lib/pkgconfig/rajvokshul.pc
 755 libexec/rajvokshul/replay
 END
-(cd rust/rajvokshul && printf '644 share/rajvokshul/rust/rajvokshul/%s\n' Cargo.toml build.rs examples/*.rs src/*.rs) >> "$box/expected"
+(cd rust && printf '644 share/rajvokshul/rust/%s\n' rajvokshul-sys/{Cargo.toml,build.rs,src/*.rs} rajvokshul/{Cargo.toml,examples/*.rs,src/*.rs}) >> "$box/expected"
 expect "install puts these files and no others" diff "$box/expected" <(cd "$prefix" && find . -type f -printf '%m %P\n' | LC_ALL=C sort -k 2)
 expect "install says what it puts where" test "$(grep -cF "install: $prefix/" "$box/said")" -eq "$(wc -l < "$box/expected")"
 expect "nothing installed names the repository" test -z "$(grep -rlF "$PWD" "$prefix")"

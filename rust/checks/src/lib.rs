@@ -1,114 +1,20 @@
-//! The exported functions as they are.
+//! The exported functions on slices: what a call answers is the bare number, and what it leaves in a buffer is there to be
+//! looked at, also after a refusal.
+
+#![deny(clippy::undocumented_unsafe_blocks)]
 
 use oracle::{Cycle, OwnBit};
+use rajvokshul_sys as sys;
 
 pub mod inputs;
 pub mod same;
 pub mod steps;
 
-mod raw {
-    extern "C" {
-        pub fn rajvokshul_opening(
-            lengths: *const u16,
-            lengths_len: usize,
-            metres: *const u16,
-            metres_len: usize,
-            seconds: *const u16,
-            seconds_len: usize,
-            crusher: *mut u8,
-        ) -> u32;
-        pub fn rajvokshul_list(
-            bytes: *const u8,
-            bytes_len: usize,
-            text: *mut u8,
-            text_len: usize,
-            written: *mut usize,
-        ) -> u32;
-        pub fn rajvokshul_run(
-            bytes: *const u8,
-            bytes_len: usize,
-            record: *mut u8,
-            record_len: usize,
-        ) -> u32;
-        pub fn rajvokshul_run_six(
-            bytes: *const u8,
-            bytes_len: usize,
-            record: *mut u8,
-            record_len: usize,
-        ) -> u32;
-        pub fn rajvokshul_grade(
-            bytes: *const u8,
-            bytes_len: usize,
-            grades: *mut u16,
-            grades_len: usize,
-        ) -> u32;
-        pub fn rajvokshul_grade_six(
-            bytes: *const u8,
-            bytes_len: usize,
-            grades: *mut u16,
-            grades_len: usize,
-        ) -> u32;
-        pub fn rajvokshul_read(
-            bytes: *const u8,
-            bytes_len: usize,
-            openings: *mut u8,
-            openings_len: usize,
-            words: *mut u32,
-            words_len: usize,
-            trucks: *mut u32,
-            rounds: *mut u32,
-        ) -> u32;
-        pub fn rajvokshul_write(
-            trucks: u32,
-            rounds: u32,
-            openings: *const u8,
-            openings_len: usize,
-            words: *const u32,
-            words_len: usize,
-            bytes: *mut u8,
-            bytes_len: usize,
-            written: *mut usize,
-        ) -> u32;
-        pub fn rajvokshul_start(
-            trucks: u32,
-            openings: *const u8,
-            openings_len: usize,
-            record: *mut u8,
-            record_len: usize,
-        ) -> u32;
-        pub fn rajvokshul_step(
-            record: *mut u8,
-            record_len: usize,
-            words: *const u32,
-            words_len: usize,
-        ) -> u32;
-        pub fn rajvokshul_step_six(
-            record: *mut u8,
-            record_len: usize,
-            words: *const u32,
-            words_len: usize,
-        ) -> u32;
-        pub fn rajvokshul_recording_own_loss(bytes: *const u8, bytes_len: usize) -> u32;
-        pub fn rajvokshul_write_own_loss(
-            trucks: u32,
-            rounds: u32,
-            openings: *const u8,
-            openings_len: usize,
-            words: *const u32,
-            words_len: usize,
-        ) -> u32;
-        pub fn rajvokshul_round_own_loss(
-            trucks: u32,
-            round: u32,
-            words: *const u32,
-            words_len: usize,
-        ) -> u32;
-    }
-}
-
 pub fn opening(lengths: &[u16], metres: &[u16], seconds: &[u16], crusher: &mut u8) -> u32 {
+    // SAFETY: the lists are slices, valid for reads of their lengths, and the crusher is borrowed for writing, so that it
+    // overlaps none.
     unsafe {
-        raw::rajvokshul_opening(
+        sys::rajvokshul_opening(
             lengths.as_ptr(),
             lengths.len(),
             metres.as_ptr(),
@@ -121,8 +27,10 @@ pub fn opening(lengths: &[u16], metres: &[u16], seconds: &[u16], crusher: &mut u
 }
 
 pub fn list(bytes: &[u8], text: &mut [u8], written: &mut usize) -> u32 {
+    // SAFETY: the recording is borrowed for reading, the text and the number each for writing, so that no two overlap; each is
+    // valid for its length.
     unsafe {
-        raw::rajvokshul_list(bytes.as_ptr(), bytes.len(), text.as_mut_ptr(), text.len(), written)
+        sys::rajvokshul_list(bytes.as_ptr(), bytes.len(), text.as_mut_ptr(), text.len(), written)
     }
 }
 
@@ -135,9 +43,11 @@ pub fn run(bytes: &[u8], record: &mut [u8]) -> u32 {
 #[inline]
 pub fn run_in(cycle: Cycle, bytes: &[u8], record: &mut [u8]) -> u32 {
     let call = match cycle {
-        Cycle::TwoRound => raw::rajvokshul_run,
-        Cycle::SixRound => raw::rajvokshul_run_six,
+        Cycle::TwoRound => sys::rajvokshul_run,
+        Cycle::SixRound => sys::rajvokshul_run_six,
     };
+    // SAFETY: the recording is borrowed for reading and the record for writing, so that they do not overlap; each is valid for
+    // its length.
     unsafe { call(bytes.as_ptr(), bytes.len(), record.as_mut_ptr(), record.len()) }
 }
 
@@ -150,9 +60,11 @@ pub fn grade(bytes: &[u8], grades: &mut [u16]) -> u32 {
 #[inline]
 pub fn grade_in(cycle: Cycle, bytes: &[u8], grades: &mut [u16]) -> u32 {
     let call = match cycle {
-        Cycle::TwoRound => raw::rajvokshul_grade,
-        Cycle::SixRound => raw::rajvokshul_grade_six,
+        Cycle::TwoRound => sys::rajvokshul_grade,
+        Cycle::SixRound => sys::rajvokshul_grade_six,
     };
+    // SAFETY: the recording is borrowed for reading and the grades for writing, so that they do not overlap; each is valid for
+    // its length.
     unsafe { call(bytes.as_ptr(), bytes.len(), grades.as_mut_ptr(), grades.len()) }
 }
 
@@ -163,8 +75,10 @@ pub fn read(
     trucks: &mut u32,
     rounds: &mut u32,
 ) -> u32 {
+    // SAFETY: the recording is borrowed for reading, all else for writing, so that no two overlap; each is valid for its
+    // length.
     unsafe {
-        raw::rajvokshul_read(
+        sys::rajvokshul_read(
             bytes.as_ptr(),
             bytes.len(),
             openings.as_mut_ptr(),
@@ -185,8 +99,10 @@ pub fn write(
     bytes: &mut [u8],
     written: &mut usize,
 ) -> u32 {
+    // SAFETY: the openings and the words are borrowed for reading, the bytes and the number each for writing, so that what is
+    // written overlaps nothing; each is valid for its length.
     unsafe {
-        raw::rajvokshul_write(
+        sys::rajvokshul_write(
             trucks,
             rounds,
             openings.as_ptr(),
@@ -201,8 +117,10 @@ pub fn write(
 }
 
 pub fn start(trucks: u32, openings: &[u8], record: &mut [u8]) -> u32 {
+    // SAFETY: the openings are borrowed for reading and the record for writing, so that they do not overlap; each is valid for
+    // its length.
     unsafe {
-        raw::rajvokshul_start(
+        sys::rajvokshul_start(
             trucks,
             openings.as_ptr(),
             openings.len(),
@@ -221,19 +139,23 @@ pub fn step(record: &mut [u8], words: &[u32]) -> u32 {
 #[inline]
 pub fn step_in(cycle: Cycle, record: &mut [u8], words: &[u32]) -> u32 {
     let call = match cycle {
-        Cycle::TwoRound => raw::rajvokshul_step,
-        Cycle::SixRound => raw::rajvokshul_step_six,
+        Cycle::TwoRound => sys::rajvokshul_step,
+        Cycle::SixRound => sys::rajvokshul_step_six,
     };
+    // SAFETY: the record is borrowed for writing and the words for reading, so that they do not overlap; each is valid for its
+    // length.
     unsafe { call(record.as_mut_ptr(), record.len(), words.as_ptr(), words.len()) }
 }
 
 pub fn recording_own_loss(bytes: &[u8]) -> u32 {
-    unsafe { raw::rajvokshul_recording_own_loss(bytes.as_ptr(), bytes.len()) }
+    // SAFETY: the recording is a slice, valid for reads of its length, and nothing is written.
+    unsafe { sys::rajvokshul_recording_own_loss(bytes.as_ptr(), bytes.len()) }
 }
 
 pub fn write_own_loss(trucks: u32, rounds: u32, openings: &[u8], words: &[u32]) -> u32 {
+    // SAFETY: the openings and the words are slices, valid for reads of their lengths, and nothing is written.
     unsafe {
-        raw::rajvokshul_write_own_loss(
+        sys::rajvokshul_write_own_loss(
             trucks,
             rounds,
             openings.as_ptr(),
@@ -245,7 +167,8 @@ pub fn write_own_loss(trucks: u32, rounds: u32, openings: &[u8], words: &[u32]) 
 }
 
 pub fn round_own_loss(trucks: u32, round: u32, words: &[u32]) -> u32 {
-    unsafe { raw::rajvokshul_round_own_loss(trucks, round, words.as_ptr(), words.len()) }
+    // SAFETY: the words are a slice, valid for reads of its length, and nothing is written.
+    unsafe { sys::rajvokshul_round_own_loss(trucks, round, words.as_ptr(), words.len()) }
 }
 
 /// What these three answer of a place: 256 times the round, and the truck; 0 of none.

@@ -2,8 +2,10 @@
 
 use std::fmt;
 
+use rajvokshul_sys as sys;
+
 use crate::recording::own_loss;
-use crate::{ffi, Cycle, Refusal};
+use crate::{Cycle, Refusal};
 
 /// The most trucks of a fleet.
 pub const MAX_TRUCKS: usize = 32;
@@ -126,9 +128,9 @@ impl Fleet {
     /// ```
     pub fn start(trucks: u32, openings: &[u8]) -> Result<Fleet, Refusal> {
         let mut bytes = [0; RECORD_SIZE];
-        // SAFETY: the list and the buffer are valid for their lengths and do not overlap.
+        // SAFETY: the openings are a slice, valid for reads of its length, and the record is a local, which they do not overlap.
         let answer = unsafe {
-            ffi::rajvokshul_start(
+            sys::rajvokshul_start(
                 trucks,
                 openings.as_ptr(),
                 openings.len(),
@@ -175,17 +177,18 @@ impl Fleet {
     pub fn step_in(&mut self, cycle: Cycle, round: impl AsRef<[u32]>) -> Result<(), Refusal> {
         let words = round.as_ref();
         let step = match cycle {
-            Cycle::TwoRound => ffi::rajvokshul_step,
-            Cycle::SixRound => ffi::rajvokshul_step_six,
+            Cycle::TwoRound => sys::rajvokshul_step,
+            Cycle::SixRound => sys::rajvokshul_step_six,
         };
-        // SAFETY: as above.
+        // SAFETY: the record is borrowed for writing and the words for reading, so that they do not overlap, and each is valid
+        // for its length.
         let answer =
             unsafe { step(self.bytes.as_mut_ptr(), self.bytes.len(), words.as_ptr(), words.len()) };
         Refusal::check(answer, || {
             let round = u32::from(self.rounds_done()) + 1;
-            // SAFETY: as above.
+            // SAFETY: the words are a slice, valid for reads of its length, and nothing is written.
             unsafe {
-                ffi::rajvokshul_round_own_loss(
+                sys::rajvokshul_round_own_loss(
                     u32::from(self.trucks()),
                     round,
                     words.as_ptr(),
@@ -218,11 +221,11 @@ impl Fleet {
     /// ```
     pub fn run_in(cycle: Cycle, recording: &[u8]) -> Result<Fleet, Refusal> {
         let run = match cycle {
-            Cycle::TwoRound => ffi::rajvokshul_run,
-            Cycle::SixRound => ffi::rajvokshul_run_six,
+            Cycle::TwoRound => sys::rajvokshul_run,
+            Cycle::SixRound => sys::rajvokshul_run_six,
         };
         let mut bytes = [0; RECORD_SIZE];
-        // SAFETY: as above.
+        // SAFETY: the recording is a slice, valid for reads of its length, and the record is a local, which it does not overlap.
         let answer =
             unsafe { run(recording.as_ptr(), recording.len(), bytes.as_mut_ptr(), bytes.len()) };
         Refusal::check(answer, || own_loss(recording))?;

@@ -6,9 +6,10 @@
 //! refused answers a [`Refusal`] and changes nothing. Functions whose names end in `_in` take the [`Cycle`] of rounds; the
 //! others are for the two-round one.
 //!
-//! The archive of the library is looked for in the folder that the environment variable `RAJVOKSHUL_LIB_DIR` names when
-//! this crate is built, else where it stands beside this crate: in `target/staticlib` of the repository, where
-//! `rt staticlib ffi` writes it, or in `lib` of an installation.
+//! The crate `rajvokshul-sys`, which stands beside this one, declares those functions and links the archive of the library.
+//! The archive is looked for in the folder that the environment variable `RAJVOKSHUL_LIB_DIR` names when that crate is built,
+//! else where it stands beside it: in `target/staticlib` of the repository, where `rt staticlib ffi` writes it, or in `lib` of
+//! an installation.
 //!
 //! # Stack
 //!
@@ -77,9 +78,9 @@
 
 #![deny(missing_docs)]
 #![deny(unsafe_op_in_unsafe_fn)]
+#![deny(clippy::undocumented_unsafe_blocks)]
 
 mod cycle;
-mod ffi;
 mod fleet;
 mod recorder;
 mod recording;

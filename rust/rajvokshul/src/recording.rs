@@ -3,7 +3,9 @@
 use std::fmt;
 use std::slice::ChunksExact;
 
-use crate::{ffi, Cycle, Refusal, Round, MAX_TRUCKS};
+use rajvokshul_sys as sys;
+
+use crate::{Cycle, Refusal, Round, MAX_TRUCKS};
 
 /// The most rounds of a recording, and of a fleet.
 pub const MAX_ROUNDS: usize = 400;
@@ -208,9 +210,10 @@ pub fn list(recording: &[u8]) -> Result<String, Refusal> {
 /// ```
 pub fn list_into(recording: &[u8], text: &mut [u8]) -> Result<usize, Refusal> {
     let mut written = 0;
-    // SAFETY: the list and the buffers are valid for their lengths and do not overlap.
+    // SAFETY: the recording is borrowed for reading and the text for writing, so that they do not overlap, and each is valid for
+    // its length. What is written to besides is a local.
     let answer = unsafe {
-        ffi::rajvokshul_list(
+        sys::rajvokshul_list(
             recording.as_ptr(),
             recording.len(),
             text.as_mut_ptr(),
@@ -224,8 +227,8 @@ pub fn list_into(recording: &[u8], text: &mut [u8]) -> Result<usize, Refusal> {
 
 /// Where the own loss bit is for which a recording is refused.
 pub(crate) fn own_loss(recording: &[u8]) -> u32 {
-    // SAFETY: the list is valid for its length.
-    unsafe { ffi::rajvokshul_recording_own_loss(recording.as_ptr(), recording.len()) }
+    // SAFETY: the recording is a slice, valid for reads of its length, and nothing is written.
+    unsafe { sys::rajvokshul_recording_own_loss(recording.as_ptr(), recording.len()) }
 }
 
 /// Grades the marks of a recording in the two-round cycle. Refusals: 1 to 6.
@@ -254,11 +257,11 @@ pub fn grade(recording: &[u8]) -> Result<Grades, Refusal> {
 /// ```
 pub fn grade_in(cycle: Cycle, recording: &[u8]) -> Result<Grades, Refusal> {
     let grade = match cycle {
-        Cycle::TwoRound => ffi::rajvokshul_grade,
-        Cycle::SixRound => ffi::rajvokshul_grade_six,
+        Cycle::TwoRound => sys::rajvokshul_grade,
+        Cycle::SixRound => sys::rajvokshul_grade_six,
     };
     let mut grades = [0; 4];
-    // SAFETY: as above.
+    // SAFETY: the recording is a slice, valid for reads of its length, and the grades are a local, which it does not overlap.
     let answer =
         unsafe { grade(recording.as_ptr(), recording.len(), grades.as_mut_ptr(), grades.len()) };
     Refusal::check(answer, || own_loss(recording))?;
@@ -298,9 +301,10 @@ pub fn read_into(
     words: &mut [u32],
 ) -> Result<(u32, u32), Refusal> {
     let (mut trucks, mut rounds) = (0, 0);
-    // SAFETY: as above.
+    // SAFETY: the recording is borrowed for reading, the openings and the words each for writing, so that no two overlap, and
+    // each is valid for its length. The two numbers are locals.
     let answer = unsafe {
-        ffi::rajvokshul_read(
+        sys::rajvokshul_read(
             recording.as_ptr(),
             recording.len(),
             openings.as_mut_ptr(),
@@ -347,9 +351,10 @@ pub fn write_into(
     bytes: &mut [u8],
 ) -> Result<usize, Refusal> {
     let mut written = 0;
-    // SAFETY: as above.
+    // SAFETY: the openings and the words are borrowed for reading and the bytes for writing, so that these overlap neither, and
+    // each is valid for its length. What is written to besides is a local.
     let answer = unsafe {
-        ffi::rajvokshul_write(
+        sys::rajvokshul_write(
             trucks,
             rounds,
             openings.as_ptr(),
@@ -362,9 +367,9 @@ pub fn write_into(
         )
     };
     Refusal::check(answer, || {
-        // SAFETY: as above.
+        // SAFETY: the openings and the words are slices, valid for reads of their lengths, and nothing is written.
         unsafe {
-            ffi::rajvokshul_write_own_loss(
+            sys::rajvokshul_write_own_loss(
                 trucks,
                 rounds,
                 openings.as_ptr(),

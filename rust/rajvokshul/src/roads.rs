@@ -1,6 +1,8 @@
 //! The opening crusher.
 
-use crate::{ffi, Refusal};
+use rajvokshul_sys as sys;
+
+use crate::Refusal;
 
 /// The crusher that a truck opens with: that of the road with the least exact travel time, the lowest number on a tie.
 ///
@@ -21,9 +23,9 @@ use crate::{ffi, Refusal};
 /// ```
 pub fn opening(lengths: &[u16], metres: &[u16], seconds: &[u16]) -> Result<u8, Refusal> {
     let mut crusher = 0;
-    // SAFETY: the lists are valid for their lengths, and the crusher is a local.
+    // SAFETY: the three lists are slices, valid for reads of their lengths, and the crusher is a local, which they do not overlap.
     let answer = unsafe {
-        ffi::rajvokshul_opening(
+        sys::rajvokshul_opening(
             lengths.as_ptr(),
             lengths.len(),
             metres.as_ptr(),

@@ -1,5 +1,7 @@
 //! The calls on whole records as they are.
 
+#![deny(clippy::undocumented_unsafe_blocks)]
+
 use oracle::Cycle;
 
 mod raw {
@@ -34,7 +36,8 @@ mod raw {
 
 pub fn start(trucks: u32, openings: &[u8], record: &mut [u8]) -> u32 {
     let (from, to) = (openings.as_ptr(), record.as_mut_ptr());
-    // SAFETY: the list and the buffer are valid for their lengths and do not overlap.
+    // SAFETY: the openings are borrowed for reading and the record for writing, so that they do not overlap; each is valid for its
+    // length.
     unsafe { raw::recordcalls_start(trucks, from, openings.len(), to, record.len()) }
 }
 
@@ -44,13 +47,15 @@ pub fn step_in(cycle: Cycle, record: &mut [u8], words: &[u32]) -> u32 {
         Cycle::TwoRound => raw::recordcalls_step,
         Cycle::SixRound => raw::recordcalls_step_six,
     };
-    // SAFETY: as above.
+    // SAFETY: the record is borrowed for writing and the words for reading, so that they do not overlap; each is valid for its
+    // length.
     unsafe { call(record.as_mut_ptr(), record.len(), words.as_ptr(), words.len()) }
 }
 
 /// The record of some bytes put into another buffer.
 pub fn copy(record: &[u8], copy: &mut [u8]) -> u32 {
     let (from, to) = (record.as_ptr(), copy.as_mut_ptr());
-    // SAFETY: as above.
+    // SAFETY: the record is borrowed for reading and the copy for writing, so that they do not overlap; each is valid for its
+    // length.
     unsafe { raw::recordcalls_copy(from, record.len(), to, copy.len()) }
 }

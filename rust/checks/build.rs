@@ -1,8 +1,0 @@
-// Links the archive that `rt staticlib ffi` writes.
-fn main() {
-    let root = std::path::Path::new(env!("CARGO_MANIFEST_DIR")).join("../..");
-    let archive = root.join("target/staticlib");
-    println!("cargo:rustc-link-search=native={}", archive.display());
-    println!("cargo:rustc-link-lib=static=ffi");
-    println!("cargo:rerun-if-changed={}", archive.join("libffi.a").display());
-}

@@ -1,7 +1,7 @@
 //! The recordings and rounds that are measured, made from fixed seeds. The independent reading holds each to its name as it is made.
 
 use oracle::gen::{self, Habits, Rng};
-use oracle::steps::{air_in, follow_in};
+use oracle::steps::{follow, radio};
 use oracle::{Cycle, Fleet, Header, Plain, State};
 use Cycle::{SixRound, TwoRound};
 
@@ -53,8 +53,8 @@ fn course(cycle: Cycle, plain: &Plain) -> Vec<Came> {
     let (_, mut fleet) = oracle::start(plain.n as u64, &plain.openings);
     let mut came = Vec::new();
     for number in 1..=plain.rounds {
-        let sent = air_in(cycle, &fleet, plain.round(number)).messages();
-        fleet = follow_in(cycle, &fleet, plain.round(number));
+        let sent = radio(cycle, &fleet, plain.round(number)).messages();
+        fleet = follow(cycle, &fleet, plain.round(number));
         came.push(Came { sent, running: running(&fleet) });
     }
     came
@@ -96,7 +96,7 @@ fn any_openings(rng: &mut Rng, n: usize) -> Vec<u8> {
 
 /// The trucks that the next round lets decide.
 fn deciding(cycle: Cycle, fleet: &Fleet, words: &[u32]) -> u32 {
-    let next = follow_in(cycle, fleet, words);
+    let next = follow(cycle, fleet, words);
     let decides = |i: &usize| next.trucks[*i].state == State::Decided(next.done);
     (0..next.n as usize).filter(decides).fold(0, |set, i| set | 1 << i)
 }
@@ -106,8 +106,8 @@ fn busy(cycle: Cycle, seed: u64, n: usize, rounds: usize) -> Plain {
     let mut rng = Rng::new(seed);
     let habits = lossy(&mut rng);
     let openings = any_openings(&mut rng, n);
-    let plain = gen::build_in(cycle, &mut rng, Header { n, rounds }, openings, |rng, fleet| {
-        let mut words = gen::round_in(cycle, rng, n, fleet.done as usize + 1, &habits);
+    let plain = gen::build(cycle, &mut rng, Header { n, rounds }, openings, |rng, fleet| {
+        let mut words = gen::round(cycle, rng, n, fleet.done as usize + 1, &habits);
         words[2] |= deciding(cycle, fleet, &words);
         words
     });
@@ -123,12 +123,12 @@ fn few(cycle: Cycle, seed: u64, stop: u32, stay: u32) -> Plain {
     // all active, all heard, no marks: round 1 leaves one value, which all hear in round 3 or tell by its bits
     let calm = [vec![stop, u32::MAX, 0], vec![0; 32]].concat();
     let size = Header { n: 32, rounds: 400 };
-    let plain = gen::build_in(cycle, &mut rng, size, openings, |rng, fleet| {
+    let plain = gen::build(cycle, &mut rng, size, openings, |rng, fleet| {
         let number = fleet.done as usize + 1;
         let mut words = if number <= settling(cycle) {
             calm.clone()
         } else {
-            gen::round_in(cycle, rng, 32, number, &habits)
+            gen::round(cycle, rng, 32, number, &habits)
         };
         words[2] |= deciding(cycle, fleet, &words) & stay;
         words
@@ -140,7 +140,7 @@ fn few(cycle: Cycle, seed: u64, stop: u32, stay: u32) -> Plain {
 /// All trucks propose, and a quarter of the messages are lost, but none of truck 0. It alone has a mark, in proposal rounds only: its veto, which all hear, keeps all trucks running.
 fn vetoed(rng: &mut Rng, openings: Vec<u8>, rounds: usize) -> Plain {
     let n = openings.len();
-    let plain = gen::build(rng, Header { n, rounds }, openings, |rng, fleet| {
+    let plain = gen::build(TwoRound, rng, Header { n, rounds }, openings, |rng, fleet| {
         let proposals = fleet.done % 2 == 0;
         let mut words =
             vec![0, if proposals { u32::MAX >> (32 - n) } else { 0 }, u32::from(proposals)];
@@ -176,9 +176,10 @@ fn marked() -> Plain {
     let mut rng = Rng::new(9);
     let habits = Habits { mark: 256, veto_mark: 256, ..lossy(&mut rng) };
     let openings = any_openings(&mut rng, 32);
-    let plain = gen::build(&mut rng, Header { n: 32, rounds: 400 }, openings, |rng, fleet| {
-        gen::round(rng, 32, fleet.done as usize + 1, &habits)
-    });
+    let plain =
+        gen::build(TwoRound, &mut rng, Header { n: 32, rounds: 400 }, openings, |rng, fleet| {
+            gen::round(TwoRound, rng, 32, fleet.done as usize + 1, &habits)
+        });
     assert!((1..=400).all(|number| plain.round(number)[2] == u32::MAX));
     assert!(all_run(TwoRound, &plain) && vetoes(&plain, 32));
     assert!(all_run(SixRound, &plain));
@@ -198,7 +199,7 @@ fn silent() -> Plain {
 /// Recordings of 32 trucks and 400 rounds.
 pub fn largest() -> Vec<Input> {
     let half = few(TwoRound, 7, 0x1111_1111, 0xAAAA_AAAA);
-    let random = gen::plain_of_size(&mut Rng::new(2), Header { n: 32, rounds: 400 });
+    let random = gen::plain_of_size(TwoRound, &mut Rng::new(2), Header { n: 32, rounds: 400 });
     vec![
         named(&busy(TwoRound, 1, 32, 400), "all running"),
         named(&one_vetoes(), "one truck vetoes"),
@@ -245,10 +246,10 @@ fn two_steps(n: usize) -> [Step; 2] {
     let plain = vetoed(&mut rng, openings, 2);
     assert!(course(TwoRound, &plain).iter().all(|came| came.sent == n));
     let (_, begun) = oracle::start(n as u64, &plain.openings);
-    let (_, proposed) = oracle::step(&begun, plain.round(1));
+    let (_, proposed) = oracle::step(TwoRound, &begun, plain.round(1));
     let step = |fleet: Fleet, number, what: &str| {
         assert_eq!(
-            (fleet.done + 1, oracle::step(&fleet, plain.round(number)).0),
+            (fleet.done + 1, oracle::step(TwoRound, &fleet, plain.round(number)).0),
             (number as u16, 0)
         );
         Step {
@@ -272,11 +273,11 @@ fn six_steps(n: usize) -> [Step; 3] {
     [(1, "prepare"), (3, "a bit round"), (6, "accept")].map(|(number, what)| {
         let (_, mut fleet) = oracle::start(n as u64, &plain.openings);
         for before in 1..number {
-            fleet = follow_in(SixRound, &fleet, plain.round(before));
+            fleet = follow(SixRound, &fleet, plain.round(before));
         }
         let words = plain.round(number).to_vec();
-        let air = air_in(SixRound, &fleet, &words);
-        assert!(n == 1 || air.messages() > 0);
+        let radio = radio(SixRound, &fleet, &words);
+        assert!(n == 1 || radio.messages() > 0);
         Step { what: format!("{}, {what}", trucks(n)), cycle: SixRound, fleet, words }
     })
 }

@@ -34,14 +34,9 @@ pub fn list(bytes: &[u8], text: &mut [u8], written: &mut usize) -> u32 {
     }
 }
 
+/// By the call of the cycle.
 #[inline]
-pub fn run(bytes: &[u8], record: &mut [u8]) -> u32 {
-    run_in(Cycle::TwoRound, bytes, record)
-}
-
-/// The same by the call of either cycle.
-#[inline]
-pub fn run_in(cycle: Cycle, bytes: &[u8], record: &mut [u8]) -> u32 {
+pub fn run(cycle: Cycle, bytes: &[u8], record: &mut [u8]) -> u32 {
     let call = match cycle {
         Cycle::TwoRound => sys::rajvokshul_run,
         Cycle::SixRound => sys::rajvokshul_run_six,
@@ -51,14 +46,9 @@ pub fn run_in(cycle: Cycle, bytes: &[u8], record: &mut [u8]) -> u32 {
     unsafe { call(bytes.as_ptr(), bytes.len(), record.as_mut_ptr(), record.len()) }
 }
 
+/// By the call of the cycle.
 #[inline]
-pub fn grade(bytes: &[u8], grades: &mut [u16]) -> u32 {
-    grade_in(Cycle::TwoRound, bytes, grades)
-}
-
-/// The same by the call of either cycle.
-#[inline]
-pub fn grade_in(cycle: Cycle, bytes: &[u8], grades: &mut [u16]) -> u32 {
+pub fn grade(cycle: Cycle, bytes: &[u8], grades: &mut [u16]) -> u32 {
     let call = match cycle {
         Cycle::TwoRound => sys::rajvokshul_grade,
         Cycle::SixRound => sys::rajvokshul_grade_six,
@@ -130,14 +120,9 @@ pub fn start(trucks: u32, openings: &[u8], record: &mut [u8]) -> u32 {
     }
 }
 
+/// By the call of the cycle.
 #[inline]
-pub fn step(record: &mut [u8], words: &[u32]) -> u32 {
-    step_in(Cycle::TwoRound, record, words)
-}
-
-/// The same by the call of either cycle.
-#[inline]
-pub fn step_in(cycle: Cycle, record: &mut [u8], words: &[u32]) -> u32 {
+pub fn step(cycle: Cycle, record: &mut [u8], words: &[u32]) -> u32 {
     let call = match cycle {
         Cycle::TwoRound => sys::rajvokshul_step,
         Cycle::SixRound => sys::rajvokshul_step_six,

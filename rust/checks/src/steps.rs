@@ -4,8 +4,8 @@
 use std::collections::{BTreeMap, BTreeSet};
 
 use oracle::bytes::{self, place_of, record_bytes, record_of, RECORD};
-use oracle::fleet::record_refused_in;
-use oracle::gen::{self, Rng, FULL, SMALL, TINY, TINY_SIX};
+use oracle::fleet::record_refused;
+use oracle::gen::{self, Rng, FULL, SMALL};
 use oracle::lists::List;
 use oracle::{Cycle, Fleet};
 
@@ -20,14 +20,14 @@ pub struct Calls {
 }
 
 /// The exported ones.
-pub const EXPORTED: Calls = Calls { start: crate::start, step: crate::step_in };
+pub const EXPORTED: Calls = Calls { start: crate::start, step: crate::step };
 
 /// How often each number was answered by the steps of each cycle.
 type Met = BTreeMap<(Cycle, u32), usize>;
 
 /// Each of these numbers was answered so often by the steps of each cycle.
 fn often(met: &Met, numbers: &[u32], least: usize) {
-    for cycle in Cycle::BOTH {
+    for cycle in Cycle::ALL {
         for number in numbers {
             assert!(met.get(&(cycle, *number)) > Some(&least), "{met:?}");
         }
@@ -38,20 +38,16 @@ fn often(met: &Met, numbers: &[u32], least: usize) {
 pub fn a_round(cycle: Cycle, rng: &mut Rng, f: &Fleet) -> Vec<u32> {
     let habits = gen::habits(rng);
     let n = usize::from(f.n.clamp(1, 32));
-    gen::round_in(cycle, rng, n, usize::from(f.done) + 1, &habits)
+    gen::round(cycle, rng, n, usize::from(f.done) + 1, &habits)
 }
 
 /// A list of steps: mostly a tiny one, now and then one of any size or of more than 400 rounds.
 fn a_list(cycle: Cycle, rng: &mut Rng, k: usize) -> List {
-    let tiny = match cycle {
-        Cycle::TwoRound => TINY,
-        Cycle::SixRound => TINY_SIX,
-    };
     match k {
-        k if k % 1000 == 0 => gen::long_list_in(cycle, rng, 5),
-        k if k % 400 == 0 => gen::list_in(cycle, rng, FULL),
-        k if k % 20 == 0 => gen::list_in(cycle, rng, SMALL),
-        _ => gen::list_in(cycle, rng, tiny),
+        k if k % 1000 == 0 => gen::long_list(cycle, rng, 5),
+        k if k % 400 == 0 => gen::list(cycle, rng, FULL),
+        k if k % 20 == 0 => gen::list(cycle, rng, SMALL),
+        _ => gen::list(cycle, rng, gen::tiny(cycle)),
     }
 }
 
@@ -71,8 +67,8 @@ impl Calls {
     pub fn same_step(&self, cycle: Cycle, f: &Fleet, words: &[u32]) -> (u32, Fleet) {
         let mut d = record_bytes(f);
         let number = (self.step)(cycle, &mut d, words);
-        let (expected, next) = oracle::step_in(cycle, f, words);
-        let own_bit = oracle::step_own_bit_in(cycle, f, words);
+        let (expected, next) = oracle::step(cycle, f, words);
+        let own_bit = oracle::step_own_bit(cycle, f, words);
         assert_eq!(own_bit.is_some(), expected == 6);
         if own_bit.is_some() {
             let own_loss = crate::round_own_loss(u32::from(f.n), u32::from(f.done) + 1, words);
@@ -87,7 +83,7 @@ impl Calls {
     fn same_bytes(&self, cycle: Cycle, lent: &[u8], words: &[u32]) -> (u32, Vec<u8>) {
         let (mut found, mut expected) = (lent.to_vec(), lent.to_vec());
         let number = (self.step)(cycle, &mut found, words);
-        let step = |f: &Fleet, w: &[u32]| oracle::step_in(cycle, f, w);
+        let step = |f: &Fleet, w: &[u32]| oracle::step(cycle, f, w);
         assert_eq!(number, u32::from(bytes::step(&mut expected, words, step)));
         assert_eq!(found, expected);
         assert!(number == 0 || found == lent);
@@ -150,10 +146,10 @@ impl Calls {
             let list = a_list(Cycle::SixRound, &mut rng, k);
             let mut fleet = self.same_start(&list);
             let change = rng.pick(&[8, 64, 256]);
-            let mut cycle = rng.pick(&Cycle::BOTH);
+            let mut cycle = rng.pick(&Cycle::ALL);
             for words in &list.steps {
                 if rng.chance(change) {
-                    cycle = rng.pick(&Cycle::BOTH);
+                    cycle = rng.pick(&Cycle::ALL);
                 }
                 let number;
                 (number, fleet) = self.same_step(cycle, &fleet, words);
@@ -176,21 +172,21 @@ impl Calls {
         let mut met = Met::new();
         let mut conditions = BTreeSet::new();
         let mut hand_in = |rng: &mut Rng, f: &Fleet| {
-            for cycle in Cycle::BOTH {
+            for cycle in Cycle::ALL {
                 let (number, _) = self.same_step(cycle, f, &a_round(cycle, rng, f));
                 *met.entry((cycle, number)).or_insert(0) += 1;
             }
         };
         for _ in 0..times(few) {
-            for broken in gen::broken_records_in(made, &mut rng) {
+            for broken in gen::broken_records(made, &mut rng) {
                 let f = broken.fleet;
-                assert_eq!(record_refused_in(made, &f), broken.refused, "{}", broken.condition);
+                assert_eq!(record_refused(made, &f), broken.refused, "{}", broken.condition);
                 conditions.insert(broken.condition);
                 hand_in(&mut rng, &f);
             }
         }
         for _ in 0..times(many) {
-            let f = gen::record_in(made, &mut rng);
+            let f = gen::record(made, &mut rng);
             hand_in(&mut rng, &f);
             let (bad, _) = gen::bad_round(&mut rng, usize::from(f.n));
             self.same_step(made, &f, &bad);
@@ -203,7 +199,7 @@ impl Calls {
     pub fn damaged_record_bytes(&self, cycle: Cycle, seed: u64, count: usize) {
         let mut rng = Rng::new(seed);
         for _ in 0..times(count) {
-            let damaged = gen::damaged_record_in(cycle, &mut rng);
+            let damaged = gen::damaged_record(cycle, &mut rng);
             let words = a_round(cycle, &mut rng, &damaged.fleet);
             let (number, left) = self.same_bytes(cycle, &damaged.bytes, &words);
             assert_eq!(number, if damaged.refused { 7 } else { 0 }, "{}", damaged.how);
@@ -220,8 +216,8 @@ impl Calls {
         let mut rng = Rng::new(seed);
         let (mut whole, mut damaged) = (Met::new(), Met::new());
         for _ in 0..times(count) {
-            let [made, cycle] = [rng.pick(&Cycle::BOTH), rng.pick(&Cycle::BOTH)];
-            let f = gen::record_in(made, &mut rng);
+            let [made, cycle] = [rng.pick(&Cycle::ALL), rng.pick(&Cycle::ALL)];
+            let f = gen::record(made, &mut rng);
             let words = a_round(cycle, &mut rng, &f);
             let mut d = record_bytes(&f);
             for _ in 0..rng.within(1, 3) {
@@ -242,8 +238,8 @@ impl Calls {
         let mut rng = Rng::new(seed);
         let mut met = Met::new();
         for _ in 0..times(count) {
-            let cycle = rng.pick(&Cycle::BOTH);
-            let f = gen::record_in(cycle, &mut rng);
+            let cycle = rng.pick(&Cycle::ALL);
+            let f = gen::record(cycle, &mut rng);
             let words = a_round(cycle, &mut rng, &f);
             let above = place_of(usize::from(f.n));
             let mut d = record_bytes(&f).to_vec();

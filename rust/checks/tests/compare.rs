@@ -1,24 +1,44 @@
-//! The library compared with the independent reading, on inputs from fixed seeds.
+//! The library compared with the independent reading, on inputs from fixed seeds: calls that both cycles have, each cycle with
+//! a seed and a number of cases of its own, and calls that know no cycle or only that of two rounds. compare_six.rs has what
+//! is asked of six rounds alone.
 
 use checks::same::{self, FILL};
-use checks::steps::EXPORTED;
+use checks::steps::{a_round, EXPORTED};
 use checks::{own_loss_number, times};
 use oracle::bytes::{place_of, record_bytes, RECORD};
-use oracle::gen::{self, Limits, Rng, FULL, SMALL, TINY};
-use oracle::{lists, marks, Cycle, Header, State};
+use oracle::gen::{self, Asked, Limits, Rng, FULL, SMALL, TINY};
+use oracle::Cycle::{self, SixRound, TwoRound};
+use oracle::{lists, marks, Header, Plain, State};
 
 /// Mostly tiny recordings, some small ones, now and then one of any size.
-fn mixed(k: usize) -> Limits {
+fn mixed(cycle: Cycle, k: usize) -> Limits {
     match k {
         k if k % 400 == 0 => FULL,
         k if k % 8 == 0 => SMALL,
-        _ => TINY,
+        _ => gen::tiny(cycle),
     }
 }
 
-/// Running, listing, grading and reading of any bytes, accepted or not, with the buffers around what is written.
-fn whole(bytes: &[u8]) {
-    let number = same::run(Cycle::TwoRound, bytes);
+/// Mostly tiny recordings, and each tenth a small one.
+fn small(cycle: Cycle, k: usize) -> Limits {
+    match k % 10 {
+        0 => SMALL,
+        _ => gen::tiny(cycle),
+    }
+}
+
+/// Running and grading of any bytes in a cycle, accepted or not, and in two rounds all else that is done with a recording.
+fn whole(cycle: Cycle, bytes: &[u8]) -> u32 {
+    same::grade(cycle, bytes);
+    match cycle {
+        TwoRound => whole_of_two(bytes),
+        SixRound => same::run(cycle, bytes),
+    }
+}
+
+/// Running, listing and reading of any bytes, accepted or not, with the buffers around what is written.
+fn whole_of_two(bytes: &[u8]) -> u32 {
+    let number = same::run(TwoRound, bytes);
 
     let text = oracle::listing(bytes);
     let mut buf = [FILL; 1761];
@@ -35,9 +55,8 @@ fn whole(bytes: &[u8]) {
     assert_eq!(own_bit.is_some(), number == 6);
     assert_eq!(checks::recording_own_loss(bytes), own_loss_number(own_bit));
 
-    same::grade(Cycle::TwoRound, bytes);
-
     read_into(bytes, 40, 420 * 35);
+    number
 }
 
 /// Reading with buffers of these lengths.
@@ -53,35 +72,43 @@ fn read_into(bytes: &[u8], openings: usize, words: usize) {
     assert_eq!(found, expected);
 }
 
+/// Writing the plain form of a recording gives it back.
+fn written_back(plain: &Plain, bytes: &[u8]) {
+    let mut back = vec![FILL; bytes.len() + 2];
+    let mut written = 0;
+    let (n, rounds) = (plain.n as u32, plain.rounds as u32);
+    let number = checks::write(n, rounds, &plain.openings, &plain.words, &mut back, &mut written);
+    assert_eq!((number, written), (0, bytes.len()));
+    assert_eq!(back[..written], bytes[..]);
+    assert_eq!(back[written..], [FILL; 2]);
+}
+
 #[test]
 fn accepted_recordings() {
-    let mut rng = Rng::new(1);
-    for k in 0..times(120_000) {
-        let limits = mixed(k);
-        let bytes = gen::recording(&mut rng, limits);
-        whole(&bytes);
-        let plain = oracle::read(&bytes).unwrap();
-        let mut back = vec![FILL; bytes.len() + 2];
-        let mut written = 0;
-        let number = checks::write(
-            plain.n as u32,
-            plain.rounds as u32,
-            &plain.openings,
-            &plain.words,
-            &mut back,
-            &mut written,
-        );
-        assert_eq!((number, written), (0, bytes.len()));
-        assert_eq!(back[..written], bytes[..]);
-        assert_eq!(back[written..], [FILL; 2]);
+    for (cycle, seed, count) in [(TwoRound, 1, 120_000), (SixRound, 101, 40_000)] {
+        let mut rng = Rng::new(seed);
+        for k in 0..times(count) {
+            let plain = gen::plain(cycle, &mut rng, mixed(cycle, k));
+            let bytes = gen::bytes_of(&plain);
+            assert_eq!(whole(cycle, &bytes), 0);
+            written_back(&plain, &bytes);
+            // the calls of the other cycle on the same recording
+            if k % 8 == 0 {
+                let other = if cycle == TwoRound { SixRound } else { TwoRound };
+                assert_eq!(same::run(other, &bytes), 0);
+                same::grade(other, &bytes);
+            }
+        }
     }
 }
 
 #[test]
 fn largest_recordings() {
-    let mut rng = Rng::new(2);
-    for _ in 0..times(20) {
-        whole(&gen::largest(&mut rng));
+    for (cycle, seed) in [(TwoRound, 2), (SixRound, 102)] {
+        let mut rng = Rng::new(seed);
+        for _ in 0..times(20) {
+            assert_eq!(whole(cycle, &gen::largest(cycle, &mut rng)), 0);
+        }
     }
 }
 
@@ -94,15 +121,15 @@ fn recordings_of_0_to_24_bytes() {
         for header in (0..).map(|rounds| Header { n, rounds }).take_while(|h| h.total_bytes() <= 24)
         {
             for _ in 0..times(10) {
-                whole(&gen::bytes_of(&gen::plain_of_size(&mut rng, header)));
+                whole(TwoRound, &gen::bytes_of(&gen::plain_of_size(TwoRound, &mut rng, header)));
             }
-            let bytes = gen::bytes_of(&gen::plain_of_size(&mut rng, header));
+            let bytes = gen::bytes_of(&gen::plain_of_size(TwoRound, &mut rng, header));
             lengths[bytes.len()] += 1;
             changed(&bytes, 0..8 * bytes.len());
             for length in 0..=24 {
                 let mut other = bytes.clone();
                 other.resize(length, 0);
-                whole(&other);
+                whole(TwoRound, &other);
             }
         }
     }
@@ -115,7 +142,7 @@ fn changed(bytes: &[u8], places: std::ops::Range<usize>) {
     for place in places {
         let mut other = bytes.to_vec();
         other[place / 8] ^= 0x80 >> (place % 8);
-        whole(&other);
+        whole(TwoRound, &other);
     }
 }
 
@@ -124,20 +151,22 @@ fn changed(bytes: &[u8], places: std::ops::Range<usize>) {
 fn last_bytes_of_largest_recordings() {
     let mut rng = Rng::new(16);
     for n in [32, 31] {
-        let bytes = gen::bytes_of(&gen::plain_of_size(&mut rng, Header { n, rounds: 400 }));
+        let bytes =
+            gen::bytes_of(&gen::plain_of_size(TwoRound, &mut rng, Header { n, rounds: 400 }));
         changed(&bytes, 8 * (bytes.len() - 8)..8 * bytes.len());
     }
 }
 
 #[test]
 fn damaged_recordings() {
-    let mut rng = Rng::new(3);
-    for k in 0..times(60_000) {
-        let refusal = 1 + (k % 6) as u8;
-        let limits = mixed(k / 6);
-        let damaged = gen::damaged(&mut rng, limits, refusal);
-        assert_eq!(oracle::run(&damaged.bytes).0, damaged.refusal, "{}", damaged.how);
-        whole(&damaged.bytes);
+    for (cycle, seed, count) in [(TwoRound, 3, 60_000), (SixRound, 104, 20_000)] {
+        let mut rng = Rng::new(seed);
+        for k in 0..times(count) {
+            let refusal = 1 + (k % 6) as u8;
+            let damaged = gen::damaged(&mut rng, mixed(cycle, k / 6), refusal);
+            assert_eq!(damaged.refusal, refusal);
+            assert_eq!(whole(cycle, &damaged.bytes), u32::from(refusal), "{}", damaged.how);
+        }
     }
 }
 
@@ -148,7 +177,7 @@ fn own_bits_of_largest_sizes() {
     for (n, rounds) in [(1, 400), (31, 400), (32, 1), (32, 400)] {
         let header = Header { n, rounds };
         for k in 0..times(30) {
-            let mut plain = gen::plain_of_size(&mut rng, header);
+            let mut plain = gen::plain_of_size(TwoRound, &mut rng, header);
             let (last, any) = (rounds - 1, rng.below(rounds));
             let index = rng.pick(&[0, any, last]);
             for _ in 0..=k % 4 {
@@ -160,11 +189,11 @@ fn own_bits_of_largest_sizes() {
                 oracle::write_own_bit(n as u64, rounds as u64, &plain.openings, &plain.words);
             let bytes = oracle::recording::pack(header, &plain.openings, &plain.words);
             assert_eq!(oracle::own_bit(&bytes), named);
-            whole(&bytes);
+            whole(TwoRound, &bytes);
             let found =
                 checks::write_own_loss(n as u32, rounds as u32, &plain.openings, &plain.words);
             assert_eq!(found, own_loss_number(named));
-            let mut fleet = gen::good_record(&mut rng, n, 0);
+            let mut fleet = gen::good_record(TwoRound, &mut rng, n, 0);
             for done in [0, 1, 399, 400] {
                 fleet.done = done;
                 step_both(&fleet, plain.round(usize::from(named.unwrap().round)));
@@ -181,7 +210,7 @@ fn own_bits_of_one_round() {
     for k in 0..times(30_000) {
         let n = rng.within(1, 32);
         let words =
-            if k % 3 == 0 { a_round(&mut rng, n, 1) } else { gen::bad_round(&mut rng, n).0 };
+            if k % 3 == 0 { first_round(&mut rng, n) } else { gen::bad_round(&mut rng, n).0 };
         let (any, other) = (rng.within(1, 400) as u32, rng.next_u64() as u32);
         let round = rng.pick(&[1, any, any, 399, 400, 0, 401, 65_536 + any, other]);
         let n = n as u32;
@@ -195,14 +224,16 @@ fn own_bits_of_one_round() {
 
 #[test]
 fn any_short_bytes() {
-    let mut rng = Rng::new(4);
-    for header in 0..=0xFFFFu16 {
-        whole(&header.to_be_bytes());
-    }
-    for _ in 0..times(20_000) {
-        let length = rng.within(0, 12);
-        let bytes: Vec<u8> = (0..length).map(|_| rng.next_u64() as u8).collect();
-        whole(&bytes);
+    for (cycle, seed, count) in [(TwoRound, 4, 20_000), (SixRound, 105, 7_000)] {
+        let mut rng = Rng::new(seed);
+        for header in 0..=0xFFFFu16 {
+            whole(cycle, &header.to_be_bytes());
+        }
+        for _ in 0..times(count) {
+            let length = rng.within(0, 12);
+            let bytes: Vec<u8> = (0..length).map(|_| rng.next_u64() as u8).collect();
+            whole(cycle, &bytes);
+        }
     }
 }
 
@@ -210,7 +241,7 @@ fn any_short_bytes() {
 fn buffers_for_reading() {
     let mut rng = Rng::new(5);
     for _ in 0..times(20_000) {
-        let bytes = gen::recording(&mut rng, TINY);
+        let bytes = gen::recording(TwoRound, &mut rng, TINY);
         let header = oracle::check(&bytes).unwrap();
         let (openings, words) = gen::reading_buffers(&mut rng, header);
         read_into(&bytes, openings, words);
@@ -243,25 +274,28 @@ fn writing() {
     }
 }
 
-fn a_round(rng: &mut Rng, n: usize, number: usize) -> Vec<u32> {
+/// Round 1 of so many trucks.
+fn first_round(rng: &mut Rng, n: usize) -> Vec<u32> {
     let habits = gen::habits(rng);
-    gen::round(rng, n, number, &habits)
+    gen::round(TwoRound, rng, n, 1, &habits)
 }
 
 /// One step on both sides, from the same record.
 fn step_both(f: &oracle::Fleet, words: &[u32]) -> oracle::Fleet {
-    same::step(Cycle::TwoRound, f, words).1
+    same::step(TwoRound, f, words).1
 }
 
 #[test]
 fn lists_of_steps() {
-    EXPORTED.lists_of_steps(Cycle::TwoRound, 7, 20_000, |list, fleet| {
-        // stepped or run, the same record
-        let bytes = gen::bytes_of(&lists::recording_of(list));
-        let mut d = [FILL; RECORD];
-        assert_eq!(checks::run(&bytes, &mut d), 0);
-        assert_eq!(d, record_bytes(fleet));
-    });
+    for (cycle, seed, count) in [(TwoRound, 7, 20_000), (SixRound, 107, 7_000)] {
+        EXPORTED.lists_of_steps(cycle, seed, count, |list, fleet| {
+            // stepped or run, the same record
+            let bytes = gen::bytes_of(&lists::recording_of(list));
+            let mut d = [FILL; RECORD];
+            assert_eq!(checks::run(cycle, &bytes, &mut d), 0);
+            assert_eq!(d, record_bytes(fleet));
+        });
+    }
 }
 
 #[test]
@@ -271,7 +305,11 @@ fn starts() {
 
 #[test]
 fn records_handed_in() {
-    EXPORTED.records_handed_in(Cycle::TwoRound, 9, 200, 20_000);
+    for (cycle, seed, few, many, conditions) in
+        [(TwoRound, 9, 200, 20_000, 33), (SixRound, 109, 70, 7_000, 19)]
+    {
+        assert_eq!(EXPORTED.records_handed_in(cycle, seed, few, many).len(), conditions);
+    }
 }
 
 /// The counts of what the library runs are the rounds in which the rules made a truck send, and its listing's totals are their sums.
@@ -279,10 +317,10 @@ fn records_handed_in() {
 fn counts_of_messages_sent() {
     let mut rng = Rng::new(19);
     for k in 0..times(4_000) {
-        let plain = gen::plain(&mut rng, mixed(k));
+        let plain = gen::plain(TwoRound, &mut rng, mixed(TwoRound, k));
         let bytes = gen::bytes_of(&plain);
         let mut d = [FILL; RECORD];
-        assert_eq!(checks::run(&bytes, &mut d), 0);
+        assert_eq!(checks::run(TwoRound, &bytes, &mut d), 0);
         let (mut proposals, mut vetoes) = (0, 0);
         for (i, sent) in lists::sent_by_the_rules(&plain).into_iter().enumerate() {
             let place = &d[place_of(i)..];
@@ -321,21 +359,42 @@ fn counts_at_their_limits() {
 
 #[test]
 fn damaged_record_bytes() {
-    EXPORTED.damaged_record_bytes(Cycle::TwoRound, 10, 20_000);
+    for (cycle, seed, count) in [(TwoRound, 10, 20_000), (SixRound, 111, 7_000)] {
+        EXPORTED.damaged_record_bytes(cycle, seed, count);
+    }
 }
 
-/// The crushers of a record's decided trucks.
-fn decided(d: &[u8; RECORD]) -> Vec<u8> {
-    let trucks = usize::from(d[0]);
-    let places = (0..trucks).map(|i| &d[place_of(i)..]);
-    places.filter(|place| place[4] == 2).map(|place| place[1]).collect()
-}
-
-/// No two decided trucks of a record hold different crushers, and each holds an opening. Whether several have decided.
-fn agrees(d: &[u8; RECORD], openings: &[u8]) -> bool {
-    let decided = decided(d);
-    assert!(decided.iter().all(|v| *v == decided[0] && openings.contains(v)));
-    decided.len() > 1
+/// Runs of recordings with the marks asked for agree, and lists of steps made from one of `every` so many, with refused steps
+/// among them, come to the same record. `kept` says whether a recording has such marks. Answers how often several trucks
+/// decided, in how many of these the marks were not majority complete, and how many steps were refused.
+fn agreement(
+    cycle: Cycle,
+    (seed, count, every): (u64, usize, usize),
+    asked: Asked,
+    kept: fn(&Plain) -> bool,
+) -> [usize; 3] {
+    let mut rng = Rng::new(seed);
+    let [mut several, mut weaker, mut refused] = [0; 3];
+    for k in 0..times(count) {
+        let plain = gen::with_marks(cycle, &mut rng, small(cycle, k), asked);
+        assert!(kept(&plain));
+        let mut ran = [0; RECORD];
+        assert_eq!(checks::run(cycle, &gen::bytes_of(&plain), &mut ran), 0);
+        if same::agrees(&ran, &plain.openings) {
+            several += 1;
+            weaker += usize::from(!marks::majority_complete(cycle, &plain));
+        }
+        if k % every == 0 {
+            let list = gen::list_around(&mut rng, &plain, 40);
+            let mut stepped = [0; RECORD];
+            assert_eq!(checks::start(plain.n as u32, &plain.openings, &mut stepped), 0);
+            for words in &list.steps {
+                refused += usize::from(checks::step(cycle, &mut stepped, words) != 0);
+            }
+            assert_eq!(stepped, ran);
+        }
+    }
+    [several, weaker, refused]
 }
 
 #[test]
@@ -343,57 +402,63 @@ fn agreement_of_the_library() {
     let mut rng = Rng::new(11);
     let mut several = 0;
     for k in 0..times(20_000) {
-        let limits = if k % 10 == 0 { SMALL } else { TINY };
-        let plain = gen::with_marks(&mut rng, limits, gen::MAJORITY);
-        assert!(marks::majority_complete(&plain));
+        let plain = gen::with_marks(TwoRound, &mut rng, small(TwoRound, k), gen::MAJORITY);
+        assert!(marks::majority_complete(TwoRound, &plain));
         let mut d = [0; RECORD];
-        assert_eq!(checks::run(&gen::bytes_of(&plain), &mut d), 0);
-        several += usize::from(agrees(&d, &plain.openings));
+        assert_eq!(checks::run(TwoRound, &gen::bytes_of(&plain), &mut d), 0);
+        several += usize::from(same::agrees(&d, &plain.openings));
     }
     assert!(several > 1000);
 }
 
-/// Majority complete in odd rounds and zero complete in even ones: of runs and of lists of steps, refused ones included.
+/// In two rounds: majority complete in odd rounds and zero complete in even ones.
 #[test]
 fn agreement_with_mixed_marks() {
-    let mut rng = Rng::new(14);
-    let (mut several, mut weaker, mut refused) = (0, 0, 0);
-    for k in 0..times(20_000) {
-        let limits = if k % 10 == 0 { SMALL } else { TINY };
-        let plain = gen::with_marks(&mut rng, limits, gen::MIXED);
-        assert!(marks::mixed(&plain));
-        let mut ran = [0; RECORD];
-        assert_eq!(checks::run(&gen::bytes_of(&plain), &mut ran), 0);
-        if agrees(&ran, &plain.openings) {
-            several += 1;
-            weaker += usize::from(!marks::majority_complete(&plain));
+    let met = agreement(TwoRound, (14, 20_000, 1), gen::MIXED, marks::mixed);
+    assert!(met[0] > 1000 && met[1] > 200 && met[2] > 1000, "{met:?}");
+}
+
+/// In six rounds: zero complete in each.
+#[test]
+fn agreement_with_zero_complete_marks() {
+    let zero = |plain: &Plain| marks::zero_complete(SixRound, plain);
+    let met = agreement(SixRound, (113, 14_000, 2), gen::ZERO, zero);
+    assert!(met[0] > 1000 && met[1] > 200 && met[2] > 1000, "{met:?}");
+}
+
+/// Every truck has decided or stopped by the last of the calm rounds. Answers in how many recordings one did only then.
+fn deciding(cycle: Cycle, seed: u64, count: usize, asked: Asked) -> usize {
+    let mut rng = Rng::new(seed);
+    let mut late = 0;
+    for k in 0..times(count) {
+        let asked = if k % 2 == 0 { asked } else { gen::NONE };
+        let calm = gen::calm(cycle, &mut rng, small(cycle, k), asked);
+        assert!(oracle::calm(cycle, &calm.plain, calm.s, calm.b));
+        let mut d = [0; RECORD];
+        assert_eq!(checks::run(cycle, &gen::bytes_of(&calm.plain), &mut d), 0);
+        let end = calm.s + cycle.calm_span();
+        let mut last = 0;
+        for i in 0..calm.plain.n {
+            let t = &d[place_of(i)..];
+            let round = u64::from(u16::from_le_bytes([t[5], t[6]]));
+            assert!(t[4] != 0 && round <= end);
+            last = last.max(round);
         }
-        let list = gen::list_around(&mut rng, &plain, 40);
-        let mut stepped = [0; RECORD];
-        assert_eq!(checks::start(plain.n as u32, &plain.openings, &mut stepped), 0);
-        for words in &list.steps {
-            refused += usize::from(checks::step(&mut stepped, words) != 0);
-        }
-        agrees(&stepped, &plain.openings);
-        assert_eq!(stepped, ran);
+        late += usize::from(last == end);
     }
-    assert!(several > 1000 && weaker > 200 && refused > 1000, "{several} {weaker} {refused}");
+    late
 }
 
 #[test]
 fn deciding_in_calm_rounds() {
-    let mut rng = Rng::new(12);
-    for k in 0..times(10_000) {
-        let calm = gen::calm(&mut rng, if k % 10 == 0 { SMALL } else { TINY }, k % 2 == 0);
-        assert!(oracle::calm(&calm.plain, calm.s, calm.b));
-        let mut d = [0; RECORD];
-        assert_eq!(checks::run(&gen::bytes_of(&calm.plain), &mut d), 0);
-        for i in 0..calm.plain.n {
-            let t = &d[place_of(i)..];
-            let round = u64::from(u16::from_le_bytes([t[5], t[6]]));
-            assert!(t[4] != 0 && round <= calm.s + 4);
-        }
-    }
+    let late = deciding(TwoRound, 12, 10_000, gen::MAJORITY);
+    assert!(late > 50, "{late}");
+}
+
+#[test]
+fn deciding_in_eleven_calm_rounds() {
+    let late = deciding(SixRound, 114, 5_000, gen::ZERO);
+    assert!(late > 50, "{late}");
 }
 
 /// The library answers road lists as the independent reading does; the crusher, where they are accepted.
@@ -456,22 +521,29 @@ fn case_13() {
     let mut written = 0;
     assert_eq!(checks::write(3, 1, &[1, 1, 1], &words, &mut bytes, &mut written), 0);
     let mut grades = [9; 4];
-    assert_eq!(checks::grade(&bytes[..written], &mut grades), 0);
+    assert_eq!(checks::grade(TwoRound, &bytes[..written], &mut grades), 0);
     assert_eq!(grades, [1, 0, 0, 0]);
 }
 
 /// A few inputs of each kind, for a run under a memory checker.
 #[test]
 fn small_set() {
-    let mut rng = Rng::new(14);
-    for k in 0..120 {
-        whole(&gen::recording(&mut rng, if k % 40 == 0 { SMALL } else { TINY }));
-        whole(&gen::damaged(&mut rng, TINY, 1 + (k % 6) as u8).bytes);
-        let f = gen::record(&mut rng);
-        let words = a_round(&mut rng, usize::from(f.n), usize::from(f.done) + 1);
-        step_both(&f, &words);
+    for (cycle, seed) in [(TwoRound, 14), (SixRound, 115)] {
+        let mut rng = Rng::new(seed);
+        for k in 0..120 {
+            let limits = if k % 40 == 0 { SMALL } else { gen::tiny(cycle) };
+            whole(cycle, &gen::recording(cycle, &mut rng, limits));
+            whole(cycle, &gen::damaged(&mut rng, gen::tiny(cycle), 1 + (k % 6) as u8).bytes);
+            let f = gen::record(cycle, &mut rng);
+            let words = a_round(cycle, &mut rng, &f);
+            for cycle in Cycle::ALL {
+                same::step(cycle, &f, &words);
+            }
+        }
     }
     for header in [[0x81, 0x90], [0x82, 0x10], [0x00, 0x00], [0xFF, 0xFF]] {
-        whole(&header);
+        for cycle in Cycle::ALL {
+            whole(cycle, &header);
+        }
     }
 }

@@ -7,16 +7,16 @@ use std::collections::BTreeSet;
 
 /// Running, grading, reading and writing of an accepted recording.
 fn same(bytes: &[u8]) {
-    let (number, fleet) = oracle::run(bytes);
+    let (number, fleet) = oracle::run(Cycle::TwoRound, bytes);
     assert_eq!((number, fleet), fast::run(bytes));
     let mut record = [0; RECORD];
-    assert_eq!((number, checks::run(bytes, &mut record)), (0, 0));
+    assert_eq!((number, checks::run(Cycle::TwoRound, bytes, &mut record)), (0, 0));
     assert_eq!(record, record_bytes(&fleet));
 
-    let expected = oracle::grade(bytes).unwrap();
+    let expected = oracle::grade(Cycle::TwoRound, bytes).unwrap();
     assert_eq!(Ok(expected), fast::grade(bytes));
     let mut grades = [0; 4];
-    assert_eq!((checks::grade(bytes, &mut grades), grades), (0, expected));
+    assert_eq!((checks::grade(Cycle::TwoRound, bytes, &mut grades), grades), (0, expected));
 
     let plain = oracle::read(bytes).unwrap();
     assert_eq!(Ok(&plain), fast::read(bytes).as_ref());
@@ -44,10 +44,10 @@ fn measured_steps() {
     let all = inputs::steps();
     assert_eq!(all.len(), 6);
     for input in &all {
-        let (number, next) = oracle::step(&input.fleet, &input.words);
+        let (number, next) = oracle::step(Cycle::TwoRound, &input.fleet, &input.words);
         assert_eq!((number, next), fast::step(&input.fleet, &input.words));
         let mut record = record_bytes(&input.fleet);
-        assert_eq!(u32::from(number), checks::step(&mut record, &input.words));
+        assert_eq!(u32::from(number), checks::step(Cycle::TwoRound, &mut record, &input.words));
         assert_eq!(record, record_bytes(&next));
         let mut plain = record_bytes(&input.fleet);
         assert_eq!((fast::step_bytes(&mut plain, &input.words), plain), (number, record));
@@ -62,8 +62,8 @@ fn measured_in_six_rounds() {
         let bytes = &input.bytes;
         assert_eq!(same::run(Cycle::SixRound, bytes), 0);
         same::grade(Cycle::SixRound, bytes);
-        assert_eq!(fast::run_six(bytes), oracle::run_in(Cycle::SixRound, bytes));
-        assert_eq!(fast::grade_six(bytes), oracle::grade_in(Cycle::SixRound, bytes));
+        assert_eq!(fast::run_six(bytes), oracle::run(Cycle::SixRound, bytes));
+        assert_eq!(fast::grade_six(bytes), oracle::grade(Cycle::SixRound, bytes));
     }
     let steps = inputs::steps_of_six();
     assert_eq!(steps.len(), 9);

@@ -6,9 +6,9 @@ use std::collections::BTreeMap;
 use desk::picture::picture;
 use desk::story::{tell, tell_in};
 use oracle::gen::{self, Rng, FULL, SMALL, TINY, TINY_SIX};
-use oracle::marks::{airs_in, classes_of_in, mixed, round_is_calm};
-use oracle::steps::follow_in;
-use oracle::{Air, Cycle, Header, Kind, Plain, State, Truck};
+use oracle::marks::{classes_of, mixed, radios, round_is_calm};
+use oracle::steps::follow;
+use oracle::{Cycle, Header, Plain, Radio, RoundKind, State, Truck};
 
 const C1: [u8; 8] = [0x08, 0x04, 0x35, 0x30, 0x00, 0x03, 0x00, 0x00];
 const C2: [u8; 6] = [0x08, 0x02, 0x35, 0x31, 0x80, 0x00];
@@ -198,18 +198,18 @@ struct Counted {
 }
 
 /// What happens to truck i in a round, in the order of the events.
-fn happened(air: &Air, before: &Truck, after: &Truck, i: usize) -> [bool; 10] {
-    let marked = air.running[i] && air.mark_bit[i];
+fn happened(radio: &Radio, before: &Truck, after: &Truck, i: usize) -> [bool; 10] {
+    let marked = radio.running[i] && radio.mark_bit[i];
     [
-        air.running[i],
-        air.sends[i] && air.is_proposal(),
-        air.sends[i] && matches!(air.kind, Kind::Veto | Kind::Accept),
-        air.running[i] && air.missed(i) > 0,
+        radio.running[i],
+        radio.sends[i] && radio.is_proposal(),
+        radio.sends[i] && matches!(radio.kind, RoundKind::Vetoes | RoundKind::Accept),
+        radio.running[i] && radio.missed(i) > 0,
         marked,
-        marked && air.missed(i) == 0,
-        after.state == State::Stopped(air.round),
-        after.state == State::Decided(air.round),
-        air.sends[i] && matches!(air.kind, Kind::Bit(_)),
+        marked && radio.missed(i) == 0,
+        after.state == State::Stopped(radio.round),
+        after.state == State::Decided(radio.round),
+        radio.sends[i] && matches!(radio.kind, RoundKind::Bit(_)),
         !before.unwilling && after.unwilling,
     ]
 }
@@ -218,16 +218,16 @@ fn counted(cycle: Cycle, plain: &Plain) -> Counted {
     let mut counted = Counted::default();
     let (_, mut before) = oracle::start(plain.n as u64, &plain.openings);
     let mut last = vec![None; plain.n];
-    let airs = airs_in(cycle, plain);
-    for air in &airs {
-        let after = follow_in(cycle, &before, plain.round(air.round as usize));
+    let radios = radios(cycle, plain);
+    for radio in &radios {
+        let after = follow(cycle, &before, plain.round(radio.round as usize));
         for (i, last) in last.iter_mut().enumerate() {
             let (was, is) = (&before.trucks[i], &after.trucks[i]);
-            for (total, happened) in counted.events.iter_mut().zip(happened(air, was, is, i)) {
+            for (total, happened) in counted.events.iter_mut().zip(happened(radio, was, is, i)) {
                 *total += usize::from(happened);
             }
             counted.changes += usize::from(was.estimate != is.estimate);
-            if air.running[i] {
+            if radio.running[i] {
                 counted.crushers[usize::from(is.estimate)] += 1;
                 counted.bars += usize::from(*last != Some(is.estimate));
                 *last = Some(is.estimate);
@@ -242,11 +242,11 @@ fn counted(cycle: Cycle, plain: &Plain) -> Counted {
     counted.rests = before.trucks_below_n().iter().filter(rests).count();
     counted.broken = usize::from(match cycle {
         Cycle::TwoRound => !mixed(plain),
-        Cycle::SixRound => !classes_of_in(cycle, plain).iter().all(|kept| kept.zero),
+        Cycle::SixRound => !classes_of(cycle, plain).iter().all(|kept| kept.zero),
     });
     let calm_rounds = cycle.calm_span() as usize + 1;
-    let all_calm = |rounds: &[Air], b: u64| rounds.iter().all(|air| round_is_calm(air, b));
-    let calm = |b: u64| airs.windows(calm_rounds).any(|rounds| all_calm(rounds, b));
+    let all_calm = |rounds: &[Radio], b: u64| rounds.iter().all(|radio| round_is_calm(radio, b));
+    let calm = |b: u64| radios.windows(calm_rounds).any(|rounds| all_calm(rounds, b));
     counted.calm = usize::from((0..=32).any(calm));
     counted
 }
@@ -336,14 +336,14 @@ fn an_element_for_each_event() {
     for k in 0..400 {
         let limits = if k % 4 == 0 { SMALL } else { TINY };
         let plain = match k % 3 {
-            0 => gen::plain(&mut rng, limits),
-            1 => gen::with_marks(&mut rng, limits, gen::MIXED),
-            _ => gen::calm(&mut rng, limits, true).plain,
+            0 => gen::plain(Cycle::TwoRound, &mut rng, limits),
+            1 => gen::with_marks(Cycle::TwoRound, &mut rng, limits, gen::MIXED),
+            _ => gen::calm(Cycle::TwoRound, &mut rng, limits, gen::MAJORITY).plain,
         };
         hold(Cycle::TwoRound, &plain);
     }
     for _ in 0..6 {
-        hold(Cycle::TwoRound, &gen::plain(&mut rng, FULL));
+        hold(Cycle::TwoRound, &gen::plain(Cycle::TwoRound, &mut rng, FULL));
     }
 }
 
@@ -354,14 +354,14 @@ fn an_element_for_each_event_of_six_rounds() {
     for k in 0..400 {
         let limits = if k % 4 == 0 { SMALL } else { TINY_SIX };
         let plain = match k % 3 {
-            0 => gen::plain_in(six, &mut rng, limits),
-            1 => gen::with_marks_in(six, &mut rng, limits, gen::ZERO),
-            _ => gen::calm_in(six, &mut rng, limits, gen::ZERO).plain,
+            0 => gen::plain(six, &mut rng, limits),
+            1 => gen::with_marks(six, &mut rng, limits, gen::ZERO),
+            _ => gen::calm(six, &mut rng, limits, gen::ZERO).plain,
         };
         hold(six, &plain);
     }
     for _ in 0..6 {
-        hold(six, &gen::plain_in(six, &mut rng, FULL));
+        hold(six, &gen::plain(six, &mut rng, FULL));
     }
 }
 
@@ -382,8 +382,8 @@ fn sizes_at_which_the_picture_changes_its_scale() {
         (32, 1),
         (1, 1),
     ] {
-        for cycle in Cycle::BOTH {
-            hold(cycle, &gen::plain_of_size_in(cycle, &mut rng, Header { n, rounds }));
+        for cycle in Cycle::ALL {
+            hold(cycle, &gen::plain_of_size(cycle, &mut rng, Header { n, rounds }));
         }
     }
 }

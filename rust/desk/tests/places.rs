@@ -3,6 +3,7 @@
 use desk::explain::{explained, Field, Finding, Header, Place};
 use oracle::gen::{self, Rng, FULL, SMALL, TINY};
 use oracle::recording::bit;
+use oracle::Cycle::TwoRound;
 
 const C2: [u8; 6] = [0x08, 0x02, 0x35, 0x31, 0x80, 0x00];
 
@@ -158,7 +159,7 @@ fn any_bytes_are_explained() {
     let mut rng = Rng::new(0xB17E);
     let mut met = [0; 7];
     for _ in 0..20_000 {
-        let mut bytes = gen::recording(&mut rng, TINY);
+        let mut bytes = gen::recording(TwoRound, &mut rng, TINY);
         match rng.below(4) {
             0 => bytes = (0..rng.below(60)).map(|_| rng.next_u64() as u8).collect(),
             1 => bytes.truncate(rng.below(bytes.len() + 1)),

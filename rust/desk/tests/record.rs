@@ -6,6 +6,7 @@ use std::process::{Command, Output, Stdio};
 
 use desk::record::{recorded, recorded_in, MOST_TEXT};
 use oracle::gen::{self, Rng, FULL, SMALL, TINY};
+use oracle::Cycle::TwoRound;
 use rajvokshul::Cycle;
 
 const C1: [u8; 8] = [0x08, 0x04, 0x35, 0x30, 0x00, 0x03, 0x00, 0x00];
@@ -122,7 +123,7 @@ fn random_rounds_as_text_are_recorded_bit_by_bit() {
             1..=10 => SMALL,
             _ => TINY,
         };
-        let plain = gen::plain(&mut rng, limits);
+        let plain = gen::plain(TwoRound, &mut rng, limits);
         assert_eq!(recorded(text_of(&plain).as_bytes()), Ok(gen::bytes_of(&plain)));
         // A recording does not say its cycle.
         let six = recorded_in(Cycle::SixRound, text_of(&plain).as_bytes());

@@ -8,6 +8,7 @@ use std::process::{Command, Output, Stdio};
 use desk::command::{answer, Answer, View};
 use desk::story::Failure;
 use oracle::gen::{self, Rng, FULL, TINY};
+use oracle::Cycle::TwoRound;
 use rajvokshul::Cycle;
 
 const C1: [u8; 8] = [0x08, 0x04, 0x35, 0x30, 0x00, 0x03, 0x00, 0x00];
@@ -221,7 +222,7 @@ fn a_contradiction_has_status_4() {
 fn any_bytes_have_an_answer_in_every_view() {
     let mut rng = Rng::new(0xA175);
     for k in 0..3_000 {
-        let mut bytes = gen::recording(&mut rng, if k % 300 == 0 { FULL } else { TINY });
+        let mut bytes = gen::recording(TwoRound, &mut rng, if k % 300 == 0 { FULL } else { TINY });
         if k % 3 == 0 {
             bytes = (0..rng.below(80)).map(|_| rng.next_u64() as u8).collect();
         } else if k % 3 == 1 {

@@ -4,8 +4,8 @@ use desk::story::tell_in;
 use desk::timeline::timeline;
 use desk::verdict::sentences;
 use oracle::gen::{self, Rng, SMALL, TINY_SIX};
-use oracle::marks::{airs_in, six_zero_complete};
-use oracle::steps::follow_in;
+use oracle::marks::{radios, zero_complete};
+use oracle::steps::follow;
 use oracle::Cycle::SixRound;
 use rajvokshul::Cycle;
 
@@ -338,11 +338,11 @@ verdict
 fn noticed(plain: &oracle::Plain) -> [usize; 3] {
     let (_, mut before) = oracle::start(plain.n as u64, &plain.openings);
     let mut found = [0; 3];
-    for air in airs_in(SixRound, plain) {
-        let after = follow_in(SixRound, &before, plain.round(air.round.into()));
+    for radio in radios(SixRound, plain) {
+        let after = follow(SixRound, &before, plain.round(radio.round.into()));
         for i in 0..plain.n {
             if !before.trucks[i].unwilling && after.trucks[i].unwilling {
-                found[match (air.heard(i) > 0, air.mark_bit[i]) {
+                found[match (radio.heard(i) > 0, radio.mark_bit[i]) {
                     (true, false) => 0,
                     (false, _) => 1,
                     (true, true) => 2,
@@ -359,14 +359,14 @@ fn lines_of_six_rounds_as_the_independent_reading_counts_them() {
     let mut rng = Rng::new(0x6E51);
     let mut all = [0; 3];
     for k in 0..600 {
-        let plain = gen::plain_in(SixRound, &mut rng, if k % 10 == 0 { SMALL } else { TINY_SIX });
+        let plain = gen::plain(SixRound, &mut rng, if k % 10 == 0 { SMALL } else { TINY_SIX });
         let said = timeline(&tell_in(Cycle::SixRound, &gen::bytes_of(&plain)).unwrap());
-        assert_eq!(said.contains("  Agreement was guaranteed: "), six_zero_complete(&plain));
+        assert_eq!(said.contains("  Agreement was guaranteed: "), zero_complete(SixRound, &plain));
         assert!(!said.contains("\nsent\n") && !said.contains("fine detector"), "{said}");
-        let airs = airs_in(SixRound, &plain);
+        let radios = radios(SixRound, &plain);
         let lines = |of: &dyn Fn(&str) -> bool| said.lines().filter(|line| of(line)).count();
         let turns = |part: &str| lines(&|line| line.starts_with("  truck ") && line.contains(part));
-        let sent: usize = airs.iter().map(|air| air.messages()).sum();
+        let sent: usize = radios.iter().map(|radio| radio.messages()).sum();
         assert_eq!(turns("  sent ") + turns("  vetoed "), sent);
         let expected = noticed(&plain);
         let on = |what: &str| lines(&|line| line.ends_with(&format!("became unwilling on {what}")));
@@ -381,10 +381,10 @@ fn lines_of_six_rounds_as_the_independent_reading_counts_them() {
                 lines(&|line| line.starts_with(&format!("round {number} ({name}): "))),
                 named
             );
-            let runs = airs[number - 1].running.iter().any(|runs| *runs);
+            let runs = radios[number - 1].running.iter().any(|runs| *runs);
             assert!(named == 1 || !runs, "round {number}");
         }
-        let (_, end) = oracle::run_in(SixRound, &gen::bytes_of(&plain));
+        let (_, end) = oracle::run(SixRound, &gen::bytes_of(&plain));
         let ended = |is: fn(oracle::State) -> bool| {
             end.trucks_below_n().iter().filter(|truck| is(truck.state)).count()
         };

@@ -9,9 +9,8 @@ use desk::verdict::{
 };
 use oracle::gen::{self, Asked, Limits, Rng, FULL, SMALL, TINY_SIX};
 use oracle::lists::sent_by_the_rules;
-use oracle::marks::{airs_in, classes_of_in, first_not_mixed, round_is_calm};
-use oracle::steps::follow_in;
-use oracle::Kind;
+use oracle::marks::{classes_of, first_not_mixed, radios, round_is_calm};
+use oracle::steps::follow;
 use rajvokshul::{Class, Cycle, Fleet, Grades, Refusal, RoundKind, State, Truck};
 
 const C1: [u8; 8] = [0x08, 0x04, 0x35, 0x30, 0x00, 0x03, 0x00, 0x00];
@@ -158,47 +157,49 @@ fn mixed(k: usize) -> Limits {
 }
 
 /// Whether a kind of round of the independent reading is that of the safe crate.
-fn same_kind(theirs: Kind, ours: RoundKind) -> bool {
+fn same_kind(theirs: oracle::RoundKind, ours: RoundKind) -> bool {
     match theirs {
-        Kind::Proposal => ours == RoundKind::Proposals,
-        Kind::Veto => ours == RoundKind::Vetoes,
-        Kind::Prepare => ours == RoundKind::Prepare,
-        Kind::Bit(worth) => ours == RoundKind::Bit(worth),
-        Kind::Accept => ours == RoundKind::Accept,
+        oracle::RoundKind::Proposals => ours == RoundKind::Proposals,
+        oracle::RoundKind::Vetoes => ours == RoundKind::Vetoes,
+        oracle::RoundKind::Prepare => ours == RoundKind::Prepare,
+        oracle::RoundKind::Bit(worth) => ours == RoundKind::Bit(worth),
+        oracle::RoundKind::Accept => ours == RoundKind::Accept,
     }
 }
 
 /// Every turn of a story against the independent reading.
 fn hold_turns(cycle: oracle::Cycle, plain: &oracle::Plain, story: &Story) {
     let (_, mut before) = oracle::start(plain.n as u64, &plain.openings);
-    for (index, air) in airs_in(cycle, plain).iter().enumerate() {
-        let after = follow_in(cycle, &before, plain.round(index + 1));
+    for (index, radio) in radios(cycle, plain).iter().enumerate() {
+        let after = follow(cycle, &before, plain.round(index + 1));
         let round = &story.rounds[index];
         assert_eq!(usize::from(round.number), index + 1);
-        assert!(same_kind(air.kind, round.kind), "round {}", air.round);
+        assert!(same_kind(radio.kind, round.kind), "round {}", radio.round);
         for i in 0..plain.n {
             let (was, is) = (&before.trucks[i], &after.trucks[i]);
-            let sent = air.sends[i].then_some(match air.kind {
-                Kind::Proposal | Kind::Prepare => Message::Value(was.estimate),
-                Kind::Bit(_) => Message::Bit,
-                Kind::Veto | Kind::Accept => Message::Veto,
+            let sent = radio.sends[i].then_some(match radio.kind {
+                oracle::RoundKind::Proposals | oracle::RoundKind::Prepare => {
+                    Message::Value(was.estimate)
+                }
+                oracle::RoundKind::Bit(_) => Message::Bit,
+                oracle::RoundKind::Vetoes | oracle::RoundKind::Accept => Message::Veto,
             });
-            let missed = |j: usize| air.running[i] && air.sends[j] && !air.hears[i][j];
-            let marked = air.running[i] && air.mark_bit[i];
+            let missed = |j: usize| radio.running[i] && radio.sends[j] && !radio.hears[i][j];
+            let marked = radio.running[i] && radio.mark_bit[i];
             let expected = Turn {
-                runs: air.running[i],
-                stops: was.is_running() && is.state == oracle::State::Stopped(air.round),
+                runs: radio.running[i],
+                stops: was.is_running() && is.state == oracle::State::Stopped(radio.round),
                 sent,
-                heard: TruckSet::of(plain.n, |j| air.hears[i][j]),
+                heard: TruckSet::of(plain.n, |j| radio.hears[i][j]),
                 missed: TruckSet::of(plain.n, missed),
                 marked,
-                false_mark: marked && air.missed(i) == 0,
+                false_mark: marked && radio.missed(i) == 0,
                 before: was.estimate,
                 after: is.estimate,
                 becomes_unwilling: !was.unwilling && is.unwilling,
-                decides: was.is_running() && is.state == oracle::State::Decided(air.round),
+                decides: was.is_running() && is.state == oracle::State::Decided(radio.round),
             };
-            assert_eq!(round.turns[i], expected, "round {}, truck {i}", air.round);
+            assert_eq!(round.turns[i], expected, "round {}, truck {i}", radio.round);
         }
         before = after;
     }
@@ -207,18 +208,18 @@ fn hold_turns(cycle: oracle::Cycle, plain: &oracle::Plain, story: &Story) {
 /// The counts by the independent reading.
 fn counts_of(cycle: oracle::Cycle, plain: &oracle::Plain) -> Counts {
     let mut counts = Counts::default();
-    for air in airs_in(cycle, plain) {
+    for radio in radios(cycle, plain) {
         for i in 0..plain.n {
-            counts.proposals += usize::from(air.sent(i).proposals);
-            counts.vetoes += usize::from(air.sent(i).vetoes);
+            counts.proposals += usize::from(radio.sent(i).proposals);
+            counts.vetoes += usize::from(radio.sent(i).vetoes);
         }
-        for i in air.running_trucks() {
-            counts.missed += air.missed(i);
-            counts.marks += usize::from(air.mark_bit[i]);
-            counts.false_marks += usize::from(air.mark_bit[i] && air.missed(i) == 0);
+        for i in radio.running_trucks() {
+            counts.missed += radio.missed(i);
+            counts.marks += usize::from(radio.mark_bit[i]);
+            counts.false_marks += usize::from(radio.mark_bit[i] && radio.missed(i) == 0);
         }
     }
-    let (_, end) = oracle::run_in(cycle, &gen::bytes_of(plain));
+    let (_, end) = oracle::run(cycle, &gen::bytes_of(plain));
     for truck in end.trucks_below_n() {
         match truck.state {
             oracle::State::Running => {}
@@ -231,10 +232,10 @@ fn counts_of(cycle: oracle::Cycle, plain: &oracle::Plain) -> Counts {
 
 /// The first calm stretch by trying every S and every b.
 fn calm_by_trying(cycle: oracle::Cycle, plain: &oracle::Plain) -> Option<Calm> {
-    let (airs, span) = (airs_in(cycle, plain), cycle.calm_span() as u16);
-    for (from, calm) in (1..).zip(airs.windows(usize::from(span) + 1)) {
+    let (radios, span) = (radios(cycle, plain), cycle.calm_span() as u16);
+    for (from, calm) in (1..).zip(radios.windows(usize::from(span) + 1)) {
         for b in 0..=33 {
-            if calm.iter().all(|air| round_is_calm(air, b)) {
+            if calm.iter().all(|radio| round_is_calm(radio, b)) {
                 return Some(Calm { from, last: from + span, senders: b as usize });
             }
         }
@@ -247,7 +248,7 @@ fn weak_by_classes(cycle: oracle::Cycle, plain: &oracle::Plain) -> Option<usize>
     match cycle {
         oracle::Cycle::TwoRound => first_not_mixed(plain),
         oracle::Cycle::SixRound => {
-            classes_of_in(cycle, plain).iter().position(|kept| !kept.zero).map(|index| index + 1)
+            classes_of(cycle, plain).iter().position(|kept| !kept.zero).map(|index| index + 1)
         }
     }
 }
@@ -255,11 +256,11 @@ fn weak_by_classes(cycle: oracle::Cycle, plain: &oracle::Plain) -> Option<usize>
 /// The veto rounds of two with a truck running, and those of them with zero complete marks that are not majority complete.
 fn resting_by_classes(cycle: oracle::Cycle, plain: &oracle::Plain) -> Resting {
     let mut found = Resting::default();
-    for (air, kept) in airs_in(cycle, plain).iter().zip(classes_of_in(cycle, plain)) {
-        if air.kind == Kind::Veto && !air.running_trucks().is_empty() {
-            found.rounds.push(air.round);
+    for (radio, kept) in radios(cycle, plain).iter().zip(classes_of(cycle, plain)) {
+        if radio.kind == oracle::RoundKind::Vetoes && !radio.running_trucks().is_empty() {
+            found.rounds.push(radio.round);
             if kept.zero && !kept.majority {
-                found.only_zero.push(air.round);
+                found.only_zero.push(radio.round);
             }
         }
     }
@@ -282,17 +283,17 @@ fn tell_many(cycle: Cycle, theirs: oracle::Cycle, asked: Asked) -> Met {
     let mut met = Met::default();
     for k in 0..4_000 {
         let plain = match k % 4 {
-            0 => gen::plain_in(theirs, &mut rng, mixed(k)),
-            1 => gen::with_marks_in(theirs, &mut rng, mixed(k), asked),
-            2 => gen::calm_in(theirs, &mut rng, mixed(k), gen::MAJORITY).plain,
-            _ => gen::calm_in(theirs, &mut rng, mixed(k), gen::NONE).plain,
+            0 => gen::plain(theirs, &mut rng, mixed(k)),
+            1 => gen::with_marks(theirs, &mut rng, mixed(k), asked),
+            2 => gen::calm(theirs, &mut rng, mixed(k), gen::MAJORITY).plain,
+            _ => gen::calm(theirs, &mut rng, mixed(k), gen::NONE).plain,
         };
         let story = tell_in(cycle, &gen::bytes_of(&plain)).unwrap();
         assert_eq!(story.openings, plain.openings);
         assert_eq!(story.rounds.len(), plain.rounds);
         hold_turns(theirs, &plain, &story);
         assert_eq!(counts(&story), counts_of(theirs, &plain));
-        let expected = oracle::grade_in(theirs, &gen::bytes_of(&plain)).unwrap();
+        let expected = oracle::grade(theirs, &gen::bytes_of(&plain)).unwrap();
         let derived = grades_of(&story.rounds);
         assert_eq!(Class::ALL.map(|class| derived.first_break(class).unwrap_or(0)), expected);
         assert_eq!(first_calm(&story), calm_by_trying(theirs, &plain));

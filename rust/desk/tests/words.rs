@@ -6,6 +6,7 @@ use desk::trucks::{counted, messages, TruckSet};
 use desk::verdict::sentences;
 use oracle::gen::{self, Rng, SMALL, TINY};
 use oracle::lists::sent_by_the_rules;
+use oracle::Cycle::TwoRound;
 
 fn text(openings: &[u8], rounds: &[&[u32]]) -> String {
     let (n, r) = (openings.len() as u32, rounds.len() as u32);
@@ -234,20 +235,20 @@ fn sent_lines_of(plain: &oracle::Plain) -> Vec<String> {
 fn lines_as_the_independent_reading_counts_them() {
     let mut rng = Rng::new(0x71E5);
     for k in 0..600 {
-        let plain = gen::plain(&mut rng, if k % 10 == 0 { SMALL } else { TINY });
+        let plain = gen::plain(TwoRound, &mut rng, if k % 10 == 0 { SMALL } else { TINY });
         let said = timeline(&tell(&gen::bytes_of(&plain)).unwrap());
         let (complete, mixed) =
-            (oracle::marks::majority_complete(&plain), oracle::marks::mixed(&plain));
+            (oracle::marks::majority_complete(TwoRound, &plain), oracle::marks::mixed(&plain));
         assert_eq!(said.contains("  Agreement was guaranteed: "), mixed);
         assert_eq!(said.contains("  Agreement was not guaranteed: "), !mixed);
         assert_eq!(said.contains("marks were majority complete in every round."), complete);
-        let airs = oracle::marks::airs(&plain);
-        let sent: usize = airs.iter().map(|air| air.messages()).sum();
+        let radios = oracle::marks::radios(TwoRound, &plain);
+        let sent: usize = radios.iter().map(|radio| radio.messages()).sum();
         let turns = said.lines().filter(|line| line.starts_with("  truck ")).collect::<Vec<_>>();
         let senders =
             turns.iter().filter(|line| line.contains("  sent ") || line.contains("  vetoed "));
         assert_eq!(senders.count(), sent);
-        let (_, end) = oracle::run(&gen::bytes_of(&plain));
+        let (_, end) = oracle::run(TwoRound, &gen::bytes_of(&plain));
         assert_eq!(sent_lines(&said), sent_lines_of(&plain));
         let ended = |is: fn(oracle::State) -> bool| {
             end.trucks_below_n().iter().filter(|truck| is(truck.state)).count()

@@ -11,9 +11,9 @@ pub enum Cycle {
 
 /// What a round is for.
 #[derive(Clone, Copy, Debug, PartialEq, Eq, PartialOrd, Ord)]
-pub enum Kind {
-    Proposal,
-    Veto,
+pub enum RoundKind {
+    Proposals,
+    Vetoes,
     Prepare,
     /// The bit of the estimate with this worth: 8, 4, 2 or 1.
     Bit(u8),
@@ -21,7 +21,7 @@ pub enum Kind {
 }
 
 impl Cycle {
-    pub const BOTH: [Cycle; 2] = [Cycle::TwoRound, Cycle::SixRound];
+    pub const ALL: [Cycle; 2] = [Cycle::TwoRound, Cycle::SixRound];
 
     /// How many rounds it has.
     pub fn rounds(self) -> u16 {
@@ -32,17 +32,17 @@ impl Cycle {
     }
 
     /// What a round is for; rounds count from 1.
-    pub fn kind(self, round: u16) -> Kind {
+    pub fn round_kind(self, round: u16) -> RoundKind {
         let place = (round - 1) % self.rounds();
         match self {
-            Cycle::TwoRound => [Kind::Proposal, Kind::Veto][place as usize],
+            Cycle::TwoRound => [RoundKind::Proposals, RoundKind::Vetoes][place as usize],
             Cycle::SixRound => [
-                Kind::Prepare,
-                Kind::Bit(8),
-                Kind::Bit(4),
-                Kind::Bit(2),
-                Kind::Bit(1),
-                Kind::Accept,
+                RoundKind::Prepare,
+                RoundKind::Bit(8),
+                RoundKind::Bit(4),
+                RoundKind::Bit(2),
+                RoundKind::Bit(1),
+                RoundKind::Accept,
             ][place as usize],
         }
     }

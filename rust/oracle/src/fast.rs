@@ -5,8 +5,8 @@
 //! truck j at the bit worth 2 to the j; one is the other reversed.
 
 use crate::bytes;
-use crate::cycle::{Cycle, Kind};
-use crate::fleet::{record_refused_in, Fleet, Heard, Sent, State, Truck, PLACES};
+use crate::cycle::{Cycle, RoundKind};
+use crate::fleet::{record_refused, Fleet, Heard, Sent, State, Truck, PLACES};
 use crate::recording::{Header, OwnBit, Plain};
 
 const FIRST: u32 = 1 << 31;
@@ -471,9 +471,9 @@ impl Course for SixPlay {
         stop(&mut self.fleet, self.running & round.stop, number);
         self.running &= !round.stop;
         self.unwilling &= self.running;
-        match Cycle::SixRound.kind(number) {
-            Kind::Bit(worth) => self.bit(number, worth, round, judge),
-            Kind::Accept => self.accept(number, round, judge),
+        match Cycle::SixRound.round_kind(number) {
+            RoundKind::Bit(worth) => self.bit(number, worth, round, judge),
+            RoundKind::Accept => self.accept(number, round, judge),
             _ => self.prepare(number, round, judge),
         }
     }
@@ -603,7 +603,7 @@ pub fn step_six(fleet: &Fleet, words: &[u32]) -> (u8, Fleet) {
 }
 
 fn step_by<C: Course>(fleet: &Fleet, words: &[u32]) -> (u8, Fleet) {
-    if record_refused_in(C::CYCLE, fleet) {
+    if record_refused(C::CYCLE, fleet) {
         return (7, *fleet);
     }
     if fleet.done == 400 {

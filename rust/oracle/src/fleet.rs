@@ -113,13 +113,8 @@ impl Fleet {
     }
 }
 
-/// Refusal 7 of a record, by the two-round cycle. Places n and above are not read.
-pub fn record_refused(fleet: &Fleet) -> bool {
-    record_refused_in(Cycle::TwoRound, fleet)
-}
-
-/// The same by either cycle.
-pub fn record_refused_in(cycle: Cycle, fleet: &Fleet) -> bool {
+/// Refusal 7 of a record, by a cycle. Places n and above are not read.
+pub fn record_refused(cycle: Cycle, fleet: &Fleet) -> bool {
     if fleet.n == 0 || fleet.n as usize > MAX_TRUCKS || fleet.done as usize > MAX_ROUNDS {
         return true;
     }

@@ -1,6 +1,6 @@
 //! A second reading of the scope paper "Crusher agreement by radio rounds",
-//! in plain Rust, made to test the library from outside. Functions whose names
-//! end in `_in` take the cycle of rounds; the others are for the two-round one.
+//! in plain Rust, made to test the library from outside. Where the two cycles of
+//! rounds differ, a function takes the cycle.
 //!
 //! Everything outside [`fast`] is written for reading: bits one at a time,
 //! trucks one at a time, no masks. [`fast`] follows the same rules with masks
@@ -26,14 +26,14 @@ pub mod recording;
 pub mod roads;
 pub mod steps;
 
-pub use cycle::{Cycle, Kind};
+pub use cycle::{Cycle, RoundKind};
 pub use fleet::{Fleet, Heard, Sent, State, Truck};
 pub use listing::{listing, listing_into, program};
 pub use lists::List;
-pub use marks::{calm, calm_in, grade, grade_in, Classes};
+pub use marks::{calm, grade, Classes};
 pub use recording::{
     check, own_bit, read, read_into, round_own_bit, write, write_into, write_own_bit, Header,
     OwnBit, Plain,
 };
 pub use roads::opening;
-pub use steps::{run, run_in, start, step, step_in, step_own_bit, step_own_bit_in, Air};
+pub use steps::{run, start, step, step_own_bit, Radio};

@@ -1,5 +1,6 @@
-//! The printed text.
+//! The printed text, which is that of a run in the two-round cycle.
 
+use crate::cycle::Cycle;
 use crate::fleet::State;
 use crate::recording::{own_bit, OwnBit, LARGEST};
 use crate::steps::run;
@@ -35,7 +36,7 @@ pub fn listing_into(bytes: &[u8], buffer: &mut [u8]) -> Result<usize, u8> {
 }
 
 fn accepted_listing(bytes: &[u8]) -> Result<String, u8> {
-    let (number, fleet) = run(bytes);
+    let (number, fleet) = run(Cycle::TwoRound, bytes);
     if number != 0 {
         return Err(number);
     }

@@ -2,9 +2,9 @@
 
 use crate::cycle::Cycle;
 use crate::fleet::{Fleet, Sent, State};
-use crate::marks::airs;
+use crate::marks::radios;
 use crate::recording::{round_has_own_bit, round_misshapen, Plain, MAX_ROUNDS};
-use crate::steps::{start, step_in};
+use crate::steps::{start, step};
 
 /// A start that should be accepted, then any number of steps, each with a
 /// round of its own in plain form.
@@ -43,33 +43,30 @@ pub fn recording_of(list: &List) -> Plain {
     Plain { n: list.n as usize, rounds, openings: list.openings.clone(), words }
 }
 
-/// Plays a list: the number each step answered, and the record returned last.
-/// A start that is refused answers its number.
-pub fn play(list: &List) -> Result<(Vec<u8>, Fleet), u8> {
-    play_in(list, |_| Cycle::TwoRound)
-}
-
-/// The same with each step in a cycle of its own, by its place in the list.
-pub fn play_in(list: &List, cycle: impl Fn(usize) -> Cycle) -> Result<(Vec<u8>, Fleet), u8> {
+/// Plays a list, each step in the cycle that `cycle` names by its place in the
+/// list: the number each step answered, and the record returned last. A start
+/// that is refused answers its number.
+pub fn play(list: &List, cycle: impl Fn(usize) -> Cycle) -> Result<(Vec<u8>, Fleet), u8> {
     let (number, mut fleet) = start(list.n, &list.openings);
     if number != 0 {
         return Err(number);
     }
     let mut numbers = Vec::new();
     for (place, words) in list.steps.iter().enumerate() {
-        let (number, next) = step_in(cycle(place), &fleet, words);
+        let (number, next) = step(cycle(place), &fleet, words);
         numbers.push(number);
         fleet = next;
     }
     Ok((numbers, fleet))
 }
 
-/// How many messages of each kind the rules made each truck send: by what is on
-/// the air in each round, from the openings on, and not by the record's counts.
+/// How many messages of each kind the rules of the two-round cycle, which alone
+/// counts them, made each truck send: by the radio in each round, from the
+/// openings on, and not by the record's counts.
 pub fn sent_by_the_rules(plain: &Plain) -> Vec<Sent> {
-    let airs = airs(plain);
+    let radios = radios(Cycle::TwoRound, plain);
     let sends_in = |truck: usize, odd: bool| {
-        airs.iter().filter(|air| air.is_proposal() == odd && air.sends[truck]).count() as u8
+        radios.iter().filter(|radio| radio.is_proposal() == odd && radio.sends[truck]).count() as u8
     };
     (0..plain.n)
         .map(|truck| Sent { proposals: sends_in(truck, true), vetoes: sends_in(truck, false) })

@@ -1,8 +1,9 @@
 //! The paper's worked cases, and one that fixes the order of single bits.
 
 use oracle::gen::Roads;
-use oracle::marks::{airs, classes_of};
-use oracle::steps::{air, follow};
+use oracle::marks::{classes_of, radios};
+use oracle::steps::{follow, radio};
+use oracle::Cycle::TwoRound;
 use oracle::*;
 
 const C1: [u8; 8] = [0x08, 0x04, 0x35, 0x30, 0x00, 0x03, 0x00, 0x00];
@@ -19,7 +20,7 @@ fn sent(proposals: u8, vetoes: u8, truck: Truck) -> Truck {
 
 /// The record of an accepted run.
 fn accepted(bytes: &[u8]) -> Fleet {
-    let (number, fleet) = run(bytes);
+    let (number, fleet) = run(TwoRound, bytes);
     assert_eq!(number, 0);
     assert_eq!(fast::run(bytes), (0, fleet));
     fleet
@@ -29,8 +30,8 @@ fn accepted(bytes: &[u8]) -> Fleet {
 fn refused(bytes: &[u8], refusal: u8) {
     assert_eq!(check(bytes), Err(refusal));
     assert_eq!(read(bytes), Err(refusal));
-    assert_eq!(grade(bytes), Err(refusal));
-    assert_eq!(run(bytes), (refusal, Fleet::blank()));
+    assert_eq!(grade(TwoRound, bytes), Err(refusal));
+    assert_eq!(run(TwoRound, bytes), (refusal, Fleet::blank()));
     assert_eq!(fast::run(bytes), (refusal, Fleet::blank()));
     assert_eq!(fast::grade(bytes), Err(refusal));
     if refusal != 6 {
@@ -71,13 +72,13 @@ fn c1_two_values_then_one() {
     assert_eq!(plain.words, [active, silent, active, silent].concat());
 
     let (_, fleet) = start(2, &[3, 5]);
-    let fleet = follow(&fleet, plain.round(1));
+    let fleet = follow(TwoRound, &fleet, plain.round(1));
     for truck in fleet.trucks_below_n() {
         assert_eq!((truck.estimate, truck.heard, truck.mark), (3, Heard::Several, false));
     }
-    assert_eq!(air(&fleet, plain.round(2)).sends, [true, true]);
-    assert_eq!(airs(&plain)[3].messages(), 0);
-    assert_eq!(grade(&C1), Ok([0, 0, 0, 0]));
+    assert_eq!(radio(TwoRound, &fleet, plain.round(2)).sends, [true, true]);
+    assert_eq!(radios(TwoRound, &plain)[3].messages(), 0);
+    assert_eq!(grade(TwoRound, &C1), Ok([0, 0, 0, 0]));
 }
 
 #[test]
@@ -95,9 +96,9 @@ fn c2_half_is_no_majority() {
          1 opened 5 decided 5 round 2 sent 1 vetoes 0\n\
          sent 2 vetoes 0\n"
     );
-    assert_eq!(grade(&C2), Ok([1, 1, 0, 0]));
+    assert_eq!(grade(TwoRound, &C2), Ok([1, 1, 0, 0]));
     assert_eq!(fast::grade(&C2), Ok([1, 1, 0, 0]));
-    let first = &airs(&read(&C2).unwrap())[0];
+    let first = &radios(TwoRound, &read(&C2).unwrap())[0];
     assert_eq!((first.messages(), first.heard(0), first.heard(1)), (2, 1, 1));
 }
 
@@ -111,8 +112,8 @@ fn c3_marks_hold_both_back() {
         fleet.trucks_below_n(),
         [sent(1, 1, Truck::opened(3)), sent(1, 1, Truck::opened(5))]
     );
-    assert_eq!(airs(&read(&bytes).unwrap())[1].sends, [true, true]);
-    assert_eq!(grade(&bytes), Ok([0, 0, 0, 0]));
+    assert_eq!(radios(TwoRound, &read(&bytes).unwrap())[1].sends, [true, true]);
+    assert_eq!(grade(TwoRound, &bytes), Ok([0, 0, 0, 0]));
     assert_eq!(
         listing(&bytes),
         "trucks 2 rounds 2\n\
@@ -151,7 +152,7 @@ fn c5_no_rounds() {
          1 opened 5 running 5 sent 0 vetoes 0\n\
          sent 0 vetoes 0\n"
     );
-    assert_eq!(grade(&bytes), Ok([0, 0, 0, 0]));
+    assert_eq!(grade(TwoRound, &bytes), Ok([0, 0, 0, 0]));
     for n in 1..=32 {
         let openings: Vec<u8> = (0..n as u8).map(|i| i % 16).collect();
         let bytes = write(n, 0, &openings, &[]).unwrap();
@@ -217,9 +218,9 @@ fn c13_two_of_three_is_a_majority() {
     let words = [0, 0b111, 0, 0b100, 0, 0];
     let bytes = write(3, 1, &[1, 1, 1], &words).unwrap();
     assert_eq!(bytes, [0x0C, 0x01, 0x11, 0x11, 0xC1, 0x00]);
-    assert_eq!(grade(&bytes), Ok([1, 0, 0, 0]));
+    assert_eq!(grade(TwoRound, &bytes), Ok([1, 0, 0, 0]));
     assert_eq!(fast::grade(&bytes), Ok([1, 0, 0, 0]));
-    let kept = classes_of(&read(&bytes).unwrap())[0];
+    let kept = classes_of(TwoRound, &read(&bytes).unwrap())[0];
     assert!(kept.majority && !kept.complete);
 }
 
@@ -255,7 +256,7 @@ fn single_bits_come_truck_0_first() {
          1 opened 5 running 5 sent 1 vetoes 0\n\
          sent 2 vetoes 0\n"
     );
-    assert_eq!(grade(&bytes), Ok([0, 0, 0, 1]));
+    assert_eq!(grade(TwoRound, &bytes), Ok([0, 0, 0, 1]));
     // Row 0 with bit 1: truck 0 misses truck 1, and not the other way round.
     let bytes = [0x08, 0x01, 0x53, 0x31, 0x00];
     assert_eq!(read(&bytes).unwrap().words, [0, 0b11, 0, 0b10, 0]);

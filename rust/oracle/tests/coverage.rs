@@ -6,8 +6,9 @@ use std::collections::{BTreeMap, BTreeSet};
 use oracle::fleet::record_refused;
 use oracle::gen::{self, Rng, FULL, SMALL};
 use oracle::lists::play;
-use oracle::marks::airs;
+use oracle::marks::radios;
 use oracle::steps::follow;
+use oracle::Cycle::TwoRound;
 use oracle::*;
 
 #[test]
@@ -16,43 +17,43 @@ fn every_refusal_number_is_produced() {
     let mut met = BTreeSet::new();
     for k in 0..240u8 {
         let damaged = gen::damaged(&mut rng, SMALL, k % 6 + 1);
-        met.insert(run(&damaged.bytes).0);
+        met.insert(run(TwoRound, &damaged.bytes).0);
         let w = gen::writing(&mut rng, SMALL, [2, 3, 7, 8, 6, 9][k as usize % 6]);
         let mut buffer = vec![0; w.buffer];
         met.extend(write_into(w.n, w.rounds, &w.openings, &w.words, &mut buffer).err());
         let lists = gen::refused_roads(&mut rng, 10 + k % 4);
         met.extend(opening(&lists.lengths, &lists.metres, &lists.seconds).err());
     }
-    met.extend(play(&gen::long_list(&mut rng, 4)).unwrap().0);
+    met.extend(play(&gen::long_list(TwoRound, &mut rng, 4), |_| TwoRound).unwrap().0);
     met.remove(&0);
     assert_eq!(met, (1..=14).collect());
 }
 
 /// Names of what happens to a running truck in a round.
-fn events(before: &Truck, after: &Truck, air: &Air, i: usize) -> Vec<&'static str> {
-    let (mark, heard, missed) = (air.mark_bit[i], air.heard(i), air.missed(i));
+fn events(before: &Truck, after: &Truck, radio: &Radio, i: usize) -> Vec<&'static str> {
+    let (mark, heard, missed) = (radio.mark_bit[i], radio.heard(i), radio.missed(i));
     let mut list = vec![];
     let mut note = |holds: bool, name| {
         if holds {
             list.push(name);
         }
     };
-    let others = air.messages() > air.sends[i] as usize;
-    if !air.running[i] {
-        note(air.is_proposal(), "stops in a proposal round");
-        note(!air.is_proposal(), "stops in a veto round");
+    let others = radio.messages() > radio.sends[i] as usize;
+    if !radio.running[i] {
+        note(radio.is_proposal(), "stops in a proposal round");
+        note(!radio.is_proposal(), "stops in a veto round");
         note(before.sent != Sent::default(), "stops after messages sent");
         note(!before.memory_is_empty(), "stops with a memory");
         return list;
     }
     note(mark && missed == 0, "false mark");
     note(mark && missed > 0, "true mark");
-    note(!mark && missed > 0 && 2 * heard > air.messages(), "misses a minority unmarked");
-    note(!mark && missed > 0 && 2 * heard == air.messages(), "hears just half unmarked");
+    note(!mark && missed > 0 && 2 * heard > radio.messages(), "misses a minority unmarked");
+    note(!mark && missed > 0 && 2 * heard == radio.messages(), "hears just half unmarked");
     note(!mark && others && heard == 0, "hears none of some unmarked");
-    if air.is_proposal() {
-        note(air.sends[i], "proposes");
-        note(air.sends[i] && mark, "proposes with a mark");
+    if radio.is_proposal() {
+        note(radio.sends[i], "proposes");
+        note(radio.sends[i] && mark, "proposes with a mark");
         note(after.estimate < before.estimate, "takes a lower value");
         note(after.estimate > before.estimate, "takes a higher value");
         note(mark && after.heard == Heard::Nothing, "marked with no value");
@@ -84,17 +85,17 @@ fn every_branch_of_the_rules_is_taken() {
     let mut endings = BTreeMap::new();
     for k in 0..2_000 {
         let limits = if k % 40 == 0 { FULL } else { SMALL };
-        let plain = gen::plain(&mut rng, limits);
+        let plain = gen::plain(TwoRound, &mut rng, limits);
         let (_, mut fleet) = start(plain.n as u64, &plain.openings);
-        for (index, air) in airs(&plain).iter().enumerate() {
-            let next = follow(&fleet, plain.round(index + 1));
-            if air.running_trucks().is_empty() {
+        for (index, radio) in radios(TwoRound, &plain).iter().enumerate() {
+            let next = follow(TwoRound, &fleet, plain.round(index + 1));
+            if radio.running_trucks().is_empty() {
                 *counts.entry("nobody runs").or_insert(0) += 1;
             }
             for i in 0..plain.n {
                 let (before, after) = (&fleet.trucks[i], &next.trucks[i]);
                 if before.is_running() {
-                    for name in events(before, after, air, i) {
+                    for name in events(before, after, radio, i) {
                         *counts.entry(name).or_insert(0) += 1;
                     }
                 } else {
@@ -140,8 +141,8 @@ fn counts_reach_their_limits() {
     let mut met = BTreeMap::new();
     let mut wild = [0; 2];
     for _ in 0..4_000 {
-        let fleet = gen::record(&mut rng);
-        assert!(!record_refused(&fleet));
+        let fleet = gen::record(TwoRound, &mut rng);
+        assert!(!record_refused(TwoRound, &fleet));
         for truck in fleet.trucks_below_n() {
             let state = match truck.state {
                 State::Running => "running",
@@ -171,7 +172,7 @@ fn bytes_of_records_are_damaged_in_every_way() {
     let mut rng = Rng::new(67);
     let mut met = BTreeMap::new();
     for _ in 0..2_000 {
-        let damaged = gen::damaged_record(&mut rng);
+        let damaged = gen::damaged_record(TwoRound, &mut rng);
         *met.entry((damaged.how, damaged.refused)).or_insert(0) += 1;
     }
     assert_eq!(met.len(), 2 * 5, "{met:?}");
@@ -193,8 +194,8 @@ fn sizes_reach_their_edges() {
 fn the_same_seed_makes_the_same_inputs() {
     let make = || {
         let mut rng = Rng::new(64);
-        let recording = gen::recording(&mut rng, FULL);
-        let list = gen::list(&mut rng, SMALL);
+        let recording = gen::recording(TwoRound, &mut rng, FULL);
+        let list = gen::list(TwoRound, &mut rng, SMALL);
         let roads = gen::roads(&mut rng);
         (recording, list, roads, rng.next_u64())
     };
@@ -208,7 +209,7 @@ fn listings_have_the_three_kinds_of_lines() {
     let mut rng = Rng::new(65);
     let mut kinds = BTreeSet::new();
     for _ in 0..200 {
-        let bytes = gen::recording(&mut rng, SMALL);
+        let bytes = gen::recording(TwoRound, &mut rng, SMALL);
         let text = listing(&bytes);
         let header = check(&bytes).unwrap();
         let lines: Vec<_> = text.lines().collect();

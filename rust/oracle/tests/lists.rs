@@ -3,16 +3,17 @@
 use oracle::gen::{self, Limits, Rng, FULL, SMALL, TINY};
 use oracle::lists::{agreed, finished_by, play, recording_of, taken, valid};
 use oracle::marks::{classes_of, majority_complete, mixed};
+use oracle::Cycle::TwoRound;
 use oracle::*;
 
 /// Plays a list and compares it with the run of its recording. Answers the
 /// record returned last.
 fn played_as_run(list: &List) -> Fleet {
-    let (numbers, fleet) = play(list).unwrap();
+    let (numbers, fleet) = play(list, |_| TwoRound).unwrap();
     let plain = recording_of(list);
     let bytes = write(list.n, plain.rounds as u64, &plain.openings, &plain.words).unwrap();
     assert_eq!(check(&bytes), Ok(Header { n: plain.n, rounds: plain.rounds }));
-    let (number, run_fleet) = run(&bytes);
+    let (number, run_fleet) = run(TwoRound, &bytes);
     assert_eq!(number, 0);
     assert_eq!(fleet.done as usize, plain.rounds);
     assert!(fleet.same_below_n(&run_fleet));
@@ -40,7 +41,7 @@ fn a_list_is_its_recording() {
     let mut rng = Rng::new(31);
     for k in 0..2_000 {
         let limits = if k % 100 == 0 { FULL } else { SMALL };
-        let list = gen::list(&mut rng, limits);
+        let list = gen::list(TwoRound, &mut rng, limits);
         let fleet = played_as_run(&list);
         // Every estimate of every truck is an opening, whatever the marks.
         assert!(fleet.trucks_below_n().iter().all(|t| list.openings.contains(&t.estimate)));
@@ -52,11 +53,11 @@ fn a_list_is_its_recording() {
 fn more_than_400_steps() {
     let mut rng = Rng::new(32);
     for _ in 0..30 {
-        let list = gen::long_list(&mut rng, 12);
+        let list = gen::long_list(TwoRound, &mut rng, 12);
         assert!(list.steps.len() > 400);
         let fleet = played_as_run(&list);
         assert_eq!(fleet.done, 400);
-        let (numbers, _) = play(&list).unwrap();
+        let (numbers, _) = play(&list, |_| TwoRound).unwrap();
         let full = numbers.iter().position(|number| *number == 14).unwrap();
         assert!(numbers[full..].iter().all(|number| *number == 14));
         assert_eq!(numbers.iter().filter(|number| **number == 0).count(), 400);
@@ -81,9 +82,9 @@ fn agreement_and_validity_under_majority_complete_marks() {
             1..=60 => SMALL,
             _ => TINY,
         };
-        let plain = gen::with_marks(&mut rng, limits, gen::MAJORITY);
+        let plain = gen::with_marks(TwoRound, &mut rng, limits, gen::MAJORITY);
         let bytes = gen::bytes_of(&plain);
-        let (_, fleet) = run(&bytes);
+        let (_, fleet) = run(TwoRound, &bytes);
         assert!(agreed(&fleet), "{bytes:02x?}");
         assert!(valid(&fleet, &plain.openings), "{bytes:02x?}");
         let rounds: Vec<_> = fleet
@@ -93,7 +94,7 @@ fn agreement_and_validity_under_majority_complete_marks() {
             .collect();
         several_decide += (rounds.len() > 1) as usize;
         in_different_rounds += rounds.iter().any(|r| *r != rounds[0]) as usize;
-        with_losses += (rounds.len() > 1 && grade(&bytes).unwrap()[0] > 0) as usize;
+        with_losses += (rounds.len() > 1 && grade(TwoRound, &bytes).unwrap()[0] > 0) as usize;
     }
     assert!(several_decide > 4_000, "{several_decide}");
     assert!(in_different_rounds > 1_000, "{in_different_rounds}");
@@ -113,20 +114,20 @@ fn agreement_and_validity_under_mixed_marks() {
             1..=60 => SMALL,
             _ => TINY,
         };
-        let plain = gen::with_marks(&mut rng, limits, gen::MIXED);
+        let plain = gen::with_marks(TwoRound, &mut rng, limits, gen::MIXED);
         let fleet = if k % 8 == 0 {
             let bad = rng.pick(&[0, 40, 120]);
             let list = gen::list_around(&mut rng, &plain, bad);
             with_refused_steps += (list.steps.len() > plain.rounds) as usize;
             played_as_run(&list)
         } else {
-            run(&gen::bytes_of(&plain)).1
+            run(TwoRound, &gen::bytes_of(&plain)).1
         };
         assert!(agreed(&fleet) && valid(&fleet, &plain.openings), "{plain:?}");
         if lists::decisions(&fleet).len() > 1 {
             several_decide += 1;
-            not_majority += !majority_complete(&plain) as usize;
-            with_false_marks += classes_of(&plain).iter().any(|c| !c.accurate) as usize;
+            not_majority += !majority_complete(TwoRound, &plain) as usize;
+            with_false_marks += classes_of(TwoRound, &plain).iter().any(|c| !c.accurate) as usize;
         }
     }
     assert!(several_decide > 4_000, "{several_decide}");
@@ -143,8 +144,8 @@ fn each_half_of_mixed_marks_is_needed() {
     for asked in [gen::ZERO, gen::ODD_MAJORITY] {
         let mut disagreements = 0;
         for _ in 0..20_000 {
-            let plain = gen::with_marks(&mut rng, TINY, asked);
-            let (_, fleet) = run(&gen::bytes_of(&plain));
+            let plain = gen::with_marks(TwoRound, &mut rng, TINY, asked);
+            let (_, fleet) = run(TwoRound, &gen::bytes_of(&plain));
             if !agreed(&fleet) {
                 assert!(!mixed(&plain));
                 disagreements += 1;
@@ -159,10 +160,10 @@ fn without_majority_complete_marks_there_is_disagreement() {
     let mut rng = Rng::new(34);
     let mut disagreements = 0;
     for _ in 0..10_000 {
-        let plain = gen::plain(&mut rng, TINY);
-        let (_, fleet) = run(&gen::bytes_of(&plain));
+        let plain = gen::plain(TwoRound, &mut rng, TINY);
+        let (_, fleet) = run(TwoRound, &gen::bytes_of(&plain));
         if !agreed(&fleet) {
-            assert!(!majority_complete(&plain));
+            assert!(!majority_complete(TwoRound, &plain));
             disagreements += 1;
         }
     }
@@ -180,9 +181,10 @@ fn all_finish_by_s_plus_4() {
             _ => TINY,
         };
         let majority = k % 2 == 0;
-        let made = gen::calm(&mut rng, limits, majority);
+        let asked = if majority { gen::MAJORITY } else { gen::NONE };
+        let made = gen::calm(TwoRound, &mut rng, limits, asked);
         let bytes = gen::bytes_of(&made.plain);
-        let (_, fleet) = run(&bytes);
+        let (_, fleet) = run(TwoRound, &bytes);
         assert!(finished_by(&fleet, made.s + 4), "{bytes:02x?} {} {}", made.s, made.b);
         if majority {
             assert!(agreed(&fleet) && valid(&fleet, &made.plain.openings));
@@ -197,7 +199,7 @@ fn all_finish_by_s_plus_4() {
 fn lists_of_calm_and_majority_complete_recordings() {
     let mut rng = Rng::new(36);
     for k in 0..2_000 {
-        let made = gen::calm(&mut rng, SMALL, true);
+        let made = gen::calm(TwoRound, &mut rng, SMALL, gen::MAJORITY);
         let bad = rng.pick(&[0, 40, 120]);
         let list = gen::list_around(&mut rng, &made.plain, bad);
         assert_eq!(recording_of(&list), made.plain);
@@ -221,10 +223,10 @@ fn every_pair_of_rounds_of_two_trucks() {
         };
         let words = [round(0), round(8)].concat();
         let bytes = write(2, 2, &[3, 5], &words).unwrap();
-        let (_, fleet) = run(&bytes);
+        let (_, fleet) = run(TwoRound, &bytes);
         assert_eq!(fast::run(&bytes), (0, fleet));
         assert!(valid(&fleet, &[3, 5]));
-        let grades = grade(&bytes).unwrap();
+        let grades = grade(TwoRound, &bytes).unwrap();
         assert_eq!(fast::grade(&bytes), Ok(grades));
         if mixed(&read(&bytes).unwrap()) {
             assert!(agreed(&fleet));

@@ -1,7 +1,8 @@
 //! The four classes, grading, and calm.
 
 use oracle::gen::{self, Rng, FULL, SMALL, TINY};
-use oracle::marks::{airs, classes_of, first_not_mixed, majority_complete, mixed};
+use oracle::marks::{classes_of, first_not_mixed, majority_complete, mixed, radios};
+use oracle::Cycle::TwoRound;
 use oracle::*;
 
 fn plain(openings: &[u8], rounds: &[&[u32]]) -> Plain {
@@ -11,7 +12,7 @@ fn plain(openings: &[u8], rounds: &[&[u32]]) -> Plain {
 
 fn grades(openings: &[u8], rounds: &[&[u32]]) -> [u16; 4] {
     let bytes = gen::bytes_of(&plain(openings, rounds));
-    let simple = grade(&bytes).unwrap();
+    let simple = grade(TwoRound, &bytes).unwrap();
     assert_eq!(fast::grade(&bytes), Ok(simple));
     simple
 }
@@ -90,9 +91,9 @@ fn first_rounds_of_random_recordings() {
     let mut broken = [0; 4];
     for k in 0..3_000 {
         let limits = if k % 60 == 0 { FULL } else { SMALL };
-        let bytes = gen::recording(&mut rng, limits);
-        let [complete, majority, zero, accurate] = grade(&bytes).unwrap();
-        let kept = classes_of(&read(&bytes).unwrap());
+        let bytes = gen::recording(TwoRound, &mut rng, limits);
+        let [complete, majority, zero, accurate] = grade(TwoRound, &bytes).unwrap();
+        let kept = classes_of(TwoRound, &read(&bytes).unwrap());
         for (index, class) in kept.iter().enumerate() {
             let round = index as u16 + 1;
             // Each grade is the first round that breaks, and none before it does.
@@ -122,9 +123,9 @@ fn made_majority_complete() {
     let mut false_marks = 0;
     for k in 0..2_000 {
         let limits = if k % 100 == 0 { FULL } else { SMALL };
-        let plain = gen::with_marks(&mut rng, limits, gen::MAJORITY);
-        assert!(majority_complete(&plain));
-        let [_, majority, zero, accurate] = grade(&gen::bytes_of(&plain)).unwrap();
+        let plain = gen::with_marks(TwoRound, &mut rng, limits, gen::MAJORITY);
+        assert!(majority_complete(TwoRound, &plain));
+        let [_, majority, zero, accurate] = grade(TwoRound, &gen::bytes_of(&plain)).unwrap();
         assert_eq!((majority, zero), (0, 0));
         false_marks += (accurate > 0) as usize;
     }
@@ -137,12 +138,12 @@ fn made_mixed() {
     let (mut weaker, mut false_marks) = (0, 0);
     for k in 0..2_000 {
         let limits = if k % 100 == 0 { FULL } else { SMALL };
-        let plain = gen::with_marks(&mut rng, limits, gen::MIXED);
+        let plain = gen::with_marks(TwoRound, &mut rng, limits, gen::MIXED);
         assert!(mixed(&plain));
-        let kept = classes_of(&plain);
+        let kept = classes_of(TwoRound, &plain);
         assert!(kept.iter().all(|classes| classes.zero));
         assert!(kept.iter().step_by(2).all(|classes| classes.majority));
-        weaker += !majority_complete(&plain) as usize;
+        weaker += !majority_complete(TwoRound, &plain) as usize;
         false_marks += kept.iter().any(|classes| !classes.accurate) as usize;
     }
     assert!(weaker > 200 && false_marks > 200, "{weaker} {false_marks}");
@@ -154,9 +155,9 @@ fn made_mixed() {
 fn mixed_marks_met_and_broken() {
     let met = |bytes: &[u8]| {
         let plain = read(bytes).unwrap();
-        let (_, fleet) = run(bytes);
+        let (_, fleet) = run(TwoRound, bytes);
         let end: Vec<_> = fleet.trucks_below_n().iter().map(|t| (t.state, t.estimate)).collect();
-        (first_not_mixed(&plain), grade(bytes).unwrap(), end)
+        (first_not_mixed(&plain), grade(TwoRound, bytes).unwrap(), end)
     };
     let decided = |round, crusher| (State::Decided(round), crusher);
     // Two trucks hear each other in rounds 1 and 3, truck 0 with a false mark in round 1. In round 2 both veto and hear
@@ -178,7 +179,7 @@ fn mixed_marks_met_and_broken() {
     let bytes = gen::bytes_of(&marked);
     let (broken, grades, _) = met(&bytes);
     assert_eq!((broken, grades), (None, [1, 0, 0, 0]));
-    assert!(lists::decisions(&run(&bytes).1).iter().all(|crusher| *crusher == 3));
+    assert!(lists::decisions(&run(TwoRound, &bytes).1).iter().all(|crusher| *crusher == 3));
 }
 
 /// Two trucks, both active with nothing lost, six rounds: 3 and 5 agree in
@@ -191,30 +192,30 @@ fn quiet() -> Plain {
 #[test]
 fn calm_wants_five_rounds() {
     let quiet = quiet();
-    assert!(calm(&quiet, 1, 2));
-    assert!(calm(&quiet, 2, 2));
-    assert!(!calm(&quiet, 3, 2));
-    assert!(!calm(&quiet, 0, 2));
-    assert!(!calm(&quiet, u64::MAX, 2));
-    assert!(calm(&quiet, 1, u64::MAX));
+    assert!(calm(TwoRound, &quiet, 1, 2));
+    assert!(calm(TwoRound, &quiet, 2, 2));
+    assert!(!calm(TwoRound, &quiet, 3, 2));
+    assert!(!calm(TwoRound, &quiet, 0, 2));
+    assert!(!calm(TwoRound, &quiet, u64::MAX, 2));
+    assert!(calm(TwoRound, &quiet, 1, u64::MAX));
     // Two senders are more than b.
-    assert!(!calm(&quiet, 1, 1));
-    assert!(!calm(&quiet, 1, 0));
+    assert!(!calm(TwoRound, &quiet, 1, 1));
+    assert!(!calm(TwoRound, &quiet, 1, 0));
 }
 
 #[test]
 fn calm_wants_a_sender_where_a_truck_runs() {
     let mut silent = quiet();
     silent.words[1] = 0;
-    assert!(!calm(&silent, 1, 2));
-    assert!(calm(&silent, 2, 2));
+    assert!(!calm(TwoRound, &silent, 1, 2));
+    assert!(calm(TwoRound, &silent, 2, 2));
     // Where all trucks stop no sender is asked for, whatever b is.
     silent.words[0] = 0b11;
-    assert!(calm(&silent, 1, 2));
-    assert!(calm(&silent, 1, 0));
+    assert!(calm(TwoRound, &silent, 1, 2));
+    assert!(calm(TwoRound, &silent, 1, 0));
     // One truck running is enough to ask for one.
     silent.words[0] = 0b01;
-    assert!(!calm(&silent, 1, 2));
+    assert!(!calm(TwoRound, &silent, 1, 2));
 }
 
 #[test]
@@ -223,23 +224,23 @@ fn calm_wants_no_false_mark_in_any_of_its_rounds() {
     let both: &[u32] = &[0, 0b11, 0, 0, 0];
     let one: &[u32] = &[0, 0b01, 0, 0, 0];
     let base = plain(&[3, 5], &[both, &SILENT, one, &SILENT, one, &SILENT]);
-    assert!(calm(&base, 1, 2));
+    assert!(calm(TwoRound, &base, 1, 2));
     for round in 1..=4 {
         let mut marked = base.clone();
         marked.words[(round - 1) * 5 + 2] = 0b10;
-        assert!(!calm(&marked, 1, 2), "round {round}");
-        assert_eq!(calm(&marked, 2, 2), round == 1);
+        assert!(!calm(TwoRound, &marked, 1, 2), "round {round}");
+        assert_eq!(calm(TwoRound, &marked, 2, 2), round == 1);
     }
     // In round 5 nobody runs any more, so nothing is asked.
     let mut marked = base.clone();
     marked.words[4 * 5 + 2] = 0b10;
-    assert!(calm(&marked, 1, 2));
+    assert!(calm(TwoRound, &marked, 1, 2));
     // A false mark in the last of the five rounds, of a truck that still runs.
     let last = plain(&[3, 5], &[&SILENT, &SILENT, both, &SILENT, one, &SILENT, one]);
-    assert!(calm(&last, 2, 2));
+    assert!(calm(TwoRound, &last, 2, 2));
     let mut marked = last.clone();
     marked.words[5 * 5 + 2] = 0b10;
-    assert!(!calm(&marked, 2, 2));
+    assert!(!calm(TwoRound, &marked, 2, 2));
 }
 
 #[test]
@@ -250,23 +251,23 @@ fn calm_wants_few_senders_heard_in_full() {
     let quiet = quiet();
     let mut lost = quiet.clone();
     lost.words[..5].copy_from_slice(lossy);
-    assert!(!calm(&lost, 1, 2));
-    assert!(!calm(&lost, 1, 1));
-    assert!(calm(&lost, 2, 2));
+    assert!(!calm(TwoRound, &lost, 1, 2));
+    assert!(!calm(TwoRound, &lost, 1, 1));
+    assert!(calm(TwoRound, &lost, 2, 2));
     // A loss of a truck that doesn't send is none.
     let one: &[u32] = &[0, 0b10, 0, 0, 0b01];
     let mut none = quiet.clone();
     none.words[..5].copy_from_slice(one);
-    assert!(calm(&none, 1, 2));
+    assert!(calm(TwoRound, &none, 1, 2));
     // Two vetoes in round 2, one missed with a mark: within b of 2, above b of 1.
     let one: &[u32] = &[0, 0b01, 0, 0, 0];
     let veto: &[u32] = &[0, 0, 0b01, 0b10, 0];
     let both: &[u32] = &[0, 0b11, 0, 0, 0];
     let base = plain(&[3, 5], &[both, veto, one, &SILENT, one, &SILENT]);
-    assert_eq!(airs(&base)[1].messages(), 2);
-    assert!(!calm(&base, 2, 2));
-    assert!(calm(&base, 2, 1));
-    assert!(!calm(&base, 1, 1));
+    assert_eq!(radios(TwoRound, &base)[1].messages(), 2);
+    assert!(!calm(TwoRound, &base, 2, 2));
+    assert!(calm(TwoRound, &base, 2, 1));
+    assert!(!calm(TwoRound, &base, 1, 1));
 }
 
 #[test]
@@ -276,14 +277,15 @@ fn made_calm() {
     let mut lossy_vetoes = 0;
     for k in 0..3_000 {
         let limits = if k % 2 == 0 { TINY } else { SMALL };
-        let made = gen::calm(&mut rng, limits, k % 4 < 2);
-        assert!(calm(&made.plain, made.s, made.b));
-        assert!(k % 4 >= 2 || majority_complete(&made.plain));
+        let asked = if k % 4 < 2 { gen::MAJORITY } else { gen::NONE };
+        let made = gen::calm(TwoRound, &mut rng, limits, asked);
+        assert!(calm(TwoRound, &made.plain, made.s, made.b));
+        assert!(k % 4 >= 2 || majority_complete(TwoRound, &made.plain));
         let first = made.s as usize - 1;
-        let window = &airs(&made.plain)[first..first + 5];
+        let window = &radios(TwoRound, &made.plain)[first..first + 5];
         running_at_s += !window[0].running_trucks().is_empty() as usize;
-        lossy_vetoes += window.iter().any(|air| {
-            !air.is_proposal() && air.running_trucks().iter().any(|i| air.missed(*i) > 0)
+        lossy_vetoes += window.iter().any(|radio| {
+            !radio.is_proposal() && radio.running_trucks().iter().any(|i| radio.missed(*i) > 0)
         }) as usize;
     }
     assert!(running_at_s > 1_000 && lossy_vetoes > 50, "{running_at_s} {lossy_vetoes}");

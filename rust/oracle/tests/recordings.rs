@@ -4,6 +4,7 @@ use std::collections::BTreeMap;
 
 use oracle::gen::{self, Rng, FULL, SMALL, TINY};
 use oracle::recording::{bit, set_bit};
+use oracle::Cycle::TwoRound;
 use oracle::*;
 
 /// A recording read from its bits as text, field after field.
@@ -34,7 +35,7 @@ fn reading_and_writing_are_inverse() {
     let mut rng = Rng::new(1);
     for k in 0..3_000 {
         let limits = if k % 30 == 0 { FULL } else { SMALL };
-        let plain = gen::plain(&mut rng, limits);
+        let plain = gen::plain(TwoRound, &mut rng, limits);
         let (n, rounds) = (plain.n as u64, plain.rounds as u64);
         let bytes = write(n, rounds, &plain.openings, &plain.words).unwrap();
         assert_eq!(read(&bytes), Ok(plain.clone()));
@@ -48,7 +49,7 @@ fn reading_and_writing_are_inverse() {
 
 #[test]
 fn the_largest_recording() {
-    let bytes = gen::largest(&mut Rng::new(2));
+    let bytes = gen::largest(TwoRound, &mut Rng::new(2));
     assert_eq!(bytes.len(), recording::LARGEST);
     assert_eq!(bytes.len(), 56_018);
     assert_eq!(read_as_text(&bytes), read(&bytes).unwrap());
@@ -99,7 +100,7 @@ fn every_header_is_judged() {
 fn each_single_bit_has_one_meaning() {
     let mut rng = Rng::new(3);
     for _ in 0..60 {
-        let plain = gen::plain(&mut rng, TINY);
+        let plain = gen::plain(TwoRound, &mut rng, TINY);
         let bytes = gen::bytes_of(&plain);
         let header = check(&bytes).unwrap();
         for place in 16..8 * bytes.len() {
@@ -161,9 +162,9 @@ fn the_own_bit_named_is_the_first() {
         fleet.done = rng.pick(&[0, 1, 398, 399]);
         let words = &plain.words[index * (3 + plain.n)..(index + 1) * (3 + plain.n)];
         let named = OwnBit { round: fleet.done + 1, truck: first.truck };
-        assert_eq!(step_own_bit(&fleet, words), Some(named));
+        assert_eq!(step_own_bit(TwoRound, &fleet, words), Some(named));
         fleet.done = 400;
-        assert_eq!(step_own_bit(&fleet, words), None);
+        assert_eq!(step_own_bit(TwoRound, &fleet, words), None);
     }
     assert!(lower > 100 && later > 300 && beside > 100, "{lower} {later} {beside}");
 }
@@ -179,8 +180,8 @@ fn damaged_recordings_meet_their_refusal() {
         let (bytes, how) = (&damaged.bytes, damaged.how);
         assert_eq!(check(bytes), Err(refusal), "{how}");
         assert_eq!(read(bytes), Err(refusal), "{how}");
-        assert_eq!(run(bytes), (refusal, Fleet::blank()), "{how}");
-        assert_eq!(grade(bytes), Err(refusal), "{how}");
+        assert_eq!(run(TwoRound, bytes), (refusal, Fleet::blank()), "{how}");
+        assert_eq!(grade(TwoRound, bytes), Err(refusal), "{how}");
         let named = match own_bit(bytes) {
             Some(own) => format!(" round {} truck {}", own.round, own.truck),
             None => String::new(),
@@ -202,7 +203,7 @@ fn reading_fills_lent_buffers() {
     let mut rng = Rng::new(5);
     let mut counts = [0; 2];
     for _ in 0..2_000 {
-        let plain = gen::plain(&mut rng, SMALL);
+        let plain = gen::plain(TwoRound, &mut rng, SMALL);
         let bytes = gen::bytes_of(&plain);
         let header = check(&bytes).unwrap();
         let (room, words_room) = gen::reading_buffers(&mut rng, header);

@@ -4,6 +4,7 @@ use std::collections::BTreeSet;
 
 use oracle::fleet::record_refused;
 use oracle::gen::{self, Rng};
+use oracle::Cycle::TwoRound;
 use oracle::*;
 
 /// Steps that must all be accepted, from a start.
@@ -11,7 +12,7 @@ fn after(openings: &[u8], rounds: &[&[u32]]) -> Fleet {
     let (number, mut fleet) = start(openings.len() as u64, openings);
     assert_eq!(number, 0);
     for words in rounds {
-        let (number, next) = step(&fleet, words);
+        let (number, next) = step(TwoRound, &fleet, words);
         assert_eq!(number, 0);
         assert_eq!(fast::step(&fleet, words), (0, next));
         fleet = next;
@@ -109,7 +110,7 @@ fn stopping_in_a_veto_round_empties_the_memory_and_sends_no_veto() {
     let fleet = after(&[1, 5], &[&proposal, &[0b01, 0, 0, 0, 0]]);
     assert_eq!(fleet.trucks[0], truck(1, 1, false, Nothing, Stopped(2)));
     assert_eq!(fleet.trucks[1].state, Decided(2));
-    assert!(!record_refused(&fleet));
+    assert!(!record_refused(TwoRound, &fleet));
 }
 
 #[test]
@@ -160,7 +161,7 @@ fn odd_rounds_done_take_any_memory_handed_in() {
     fleet.done = 7;
     fleet.trucks[0] = truck(3, 9, false, One, Running);
     fleet.trucks[1] = truck(5, 2, false, Nothing, Decided(4));
-    let (number, next) = step(&fleet, &SILENT);
+    let (number, next) = step(TwoRound, &fleet, &SILENT);
     assert_eq!((number, next.done), (0, 8));
     assert_eq!(next.trucks[0], truck(3, 9, false, Nothing, Decided(8)));
     assert_eq!(next.trucks[1], fleet.trucks[1]);
@@ -174,7 +175,7 @@ fn a_step_checks_7_14_8_6() {
         rounds
             .iter()
             .map(|words| {
-                let (number, next) = step(fleet, words);
+                let (number, next) = step(TwoRound, fleet, words);
                 assert_eq!(fast::step(fleet, words), (number, next));
                 assert!(number == 0 || next == *fleet);
                 number
@@ -197,13 +198,13 @@ fn a_step_checks_7_14_8_6() {
 fn bad_rounds_meet_their_refusal() {
     let mut rng = Rng::new(11);
     for _ in 0..4_000 {
-        let mut fleet = gen::record(&mut rng);
+        let mut fleet = gen::record(TwoRound, &mut rng);
         fleet.done = fleet.done.min(399);
-        if record_refused(&fleet) {
+        if record_refused(TwoRound, &fleet) {
             continue;
         }
         let (words, refusal) = gen::bad_round(&mut rng, fleet.n as usize);
-        assert_eq!(step(&fleet, &words), (refusal, fleet));
+        assert_eq!(step(TwoRound, &fleet, &words), (refusal, fleet));
         assert_eq!(fast::step(&fleet, &words), (refusal, fleet));
     }
 }
@@ -213,12 +214,12 @@ fn places_from_n_on_are_neither_read_nor_changed() {
     let mut rng = Rng::new(12);
     let mut accepted = 0;
     for _ in 0..4_000 {
-        let fleet = gen::record(&mut rng);
+        let fleet = gen::record(TwoRound, &mut rng);
         let n = fleet.n as usize;
-        assert!(!record_refused(&fleet));
+        assert!(!record_refused(TwoRound, &fleet));
         let habits = gen::habits(&mut rng);
-        let words = gen::round(&mut rng, n, fleet.done as usize + 1, &habits);
-        let (number, next) = step(&fleet, &words);
+        let words = gen::round(TwoRound, &mut rng, n, fleet.done as usize + 1, &habits);
+        let (number, next) = step(TwoRound, &fleet, &words);
         assert_eq!(number, if fleet.done == 400 { 14 } else { 0 });
         assert_eq!(fast::step(&fleet, &words), (number, next));
         assert_eq!(next.trucks[n..], fleet.trucks[n..]);
@@ -227,10 +228,10 @@ fn places_from_n_on_are_neither_read_nor_changed() {
         for truck in &mut cleared.trucks[n..] {
             *truck = Truck::opened(0);
         }
-        assert!(step(&cleared, &words).1.same_below_n(&next));
+        assert!(step(TwoRound, &cleared, &words).1.same_below_n(&next));
         if number == 0 {
             assert_eq!(next.done, fleet.done + 1);
-            assert!(!record_refused(&next));
+            assert!(!record_refused(TwoRound, &next));
             accepted += 1;
         } else {
             assert_eq!(next, fleet);
@@ -244,12 +245,12 @@ fn each_condition_of_7_is_met_alone() {
     let mut rng = Rng::new(13);
     let mut conditions = BTreeSet::new();
     for _ in 0..60 {
-        for broken in gen::broken_records(&mut rng) {
+        for broken in gen::broken_records(TwoRound, &mut rng) {
             let fleet = broken.fleet;
             let n = fleet.n.clamp(1, 32) as usize;
             let habits = gen::habits(&mut rng);
-            let words = gen::round(&mut rng, n, fleet.done as usize + 1, &habits);
-            let (number, next) = step(&fleet, &words);
+            let words = gen::round(TwoRound, &mut rng, n, fleet.done as usize + 1, &habits);
+            let (number, next) = step(TwoRound, &fleet, &words);
             assert_eq!(fast::step(&fleet, &words), (number, next));
             let label = format!("{} at {:?}", broken.condition, broken.place);
             assert_eq!(number, if broken.refused { 7 } else { 0 }, "{label}");
@@ -259,7 +260,7 @@ fn each_condition_of_7_is_met_alone() {
                 if let Some(place) = broken.place {
                     let mut mended = fleet;
                     mended.trucks[place] = Truck::opened(0);
-                    assert_eq!(step(&mended, &words).0, 0, "{label}");
+                    assert_eq!(step(TwoRound, &mended, &words).0, 0, "{label}");
                 }
             }
             conditions.insert(broken.condition);

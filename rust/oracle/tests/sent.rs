@@ -5,6 +5,7 @@ use oracle::bytes::{self, place_of, record_bytes, record_of, PLACE, RECORD};
 use oracle::fleet::record_refused;
 use oracle::gen::{self, Rng, FULL, SMALL, TINY};
 use oracle::lists::{play, recording_of, sent_by_the_rules};
+use oracle::Cycle::TwoRound;
 use oracle::*;
 
 fn counts(fleet: &Fleet) -> Vec<Sent> {
@@ -22,7 +23,7 @@ fn counts_after_each(openings: &[u8], rounds: &[&[u32]]) -> Vec<Vec<Sent>> {
     assert!(fleet.trucks.iter().all(|truck| truck.sent == Sent::default()));
     let mut list = Vec::new();
     for words in rounds {
-        let (number, next) = step(&fleet, words);
+        let (number, next) = step(TwoRound, &fleet, words);
         assert_eq!(number, 0);
         assert_eq!(fast::step(&fleet, words), (0, next));
         list.push(counts(&next));
@@ -91,7 +92,7 @@ fn stopped_and_decided_trucks_keep_their_counts() {
 fn sending_in_every_one_of_400_rounds() {
     let words = [0, 0b01, 0b01, 0, 0].repeat(400);
     let bytes = write(2, 400, &[9, 9], &words).unwrap();
-    let (number, fleet) = run(&bytes);
+    let (number, fleet) = run(TwoRound, &bytes);
     assert_eq!(number, 0);
     assert_eq!(fast::run(&bytes), (0, fleet));
     assert_eq!(counts(&fleet), sent(&[(200, 200), (0, 0)]));
@@ -101,12 +102,12 @@ fn sending_in_every_one_of_400_rounds() {
     // Stepped, the counts are those of the rounds done.
     let (_, mut fleet) = start(2, &[9, 9]);
     for done in 1..=400u16 {
-        let (number, next) = step(&fleet, &words[..5]);
+        let (number, next) = step(TwoRound, &fleet, &words[..5]);
         assert_eq!((number, next.done), (0, done));
         assert_eq!(next.trucks[0].sent, gen::most_sent(done));
         fleet = next;
     }
-    assert_eq!(step(&fleet, &words[..5]), (14, fleet));
+    assert_eq!(step(TwoRound, &fleet, &words[..5]), (14, fleet));
 }
 
 /// The totals of 32 trucks do not fit in a byte.
@@ -114,7 +115,7 @@ fn sending_in_every_one_of_400_rounds() {
 fn totals_of_the_largest_fleet() {
     let words = [[0, u32::MAX, u32::MAX].as_slice(), &[0; 32]].concat().repeat(400);
     let bytes = write(32, 400, &[15; 32], &words).unwrap();
-    let (_, fleet) = run(&bytes);
+    let (_, fleet) = run(TwoRound, &bytes);
     assert_eq!(fleet.totals(), (6_400, 6_400));
     assert!(listing(&bytes).ends_with("\nsent 6400 vetoes 6400\n"));
 }
@@ -132,7 +133,7 @@ fn refusal_7_of_the_counts() {
                 let mut fleet = Fleet { n: 3, done, ..Fleet::blank() };
                 let sent = Sent { proposals: proposals as u8, vetoes: vetoes as u8 };
                 fleet.trucks[2] = Truck { state, sent, ..Truck::opened(5) };
-                let (number, next) = step(&fleet, &[0; 6]);
+                let (number, next) = step(TwoRound, &fleet, &[0; 6]);
                 assert_eq!(fast::step(&fleet, &[0; 6]), (number, next));
                 if number == 7 {
                     assert_eq!(next, fleet);
@@ -159,12 +160,12 @@ fn counts_are_the_rounds_in_which_the_rules_make_a_truck_send() {
             1..=20 => SMALL,
             _ => TINY,
         };
-        let plain = gen::plain(&mut rng, limits);
+        let plain = gen::plain(TwoRound, &mut rng, limits);
         let expected = sent_by_the_rules(&plain);
         let bytes = gen::bytes_of(&plain);
-        let (_, fleet) = run(&bytes);
+        let (_, fleet) = run(TwoRound, &bytes);
         assert_eq!(counts(&fleet), expected, "{bytes:02x?}");
-        assert!(!record_refused(&fleet));
+        assert!(!record_refused(TwoRound, &fleet));
         let sums = expected.iter().fold((0, 0), |(p, v), sent| {
             (p + u32::from(sent.proposals), v + u32::from(sent.vetoes))
         });
@@ -173,35 +174,36 @@ fn counts_are_the_rounds_in_which_the_rules_make_a_truck_send() {
         most = [most[0].max(sums.0), most[1].max(sums.1)];
         // Whole lists of steps, refused ones among them.
         let list = gen::list_around(&mut rng, &plain, 40);
-        let (_, fleet) = play(&list).unwrap();
+        let (_, fleet) = play(&list, |_| TwoRound).unwrap();
         assert_eq!(counts(&fleet), sent_by_the_rules(&recording_of(&list)));
     }
     // Some totals do not fit in a byte.
     assert!(most.iter().all(|sum| *sum > 255), "{most:?}");
 }
 
-/// From any record that is accepted, a step adds what the air has.
+/// From any record that is accepted, a step adds what the radio has.
 #[test]
 fn a_step_adds_what_is_on_the_air() {
     let mut rng = Rng::new(72);
     let mut added = [0, 0];
     for _ in 0..4_000 {
-        let fleet = gen::record(&mut rng);
+        let fleet = gen::record(TwoRound, &mut rng);
         let habits = gen::habits(&mut rng);
-        let words = gen::round(&mut rng, fleet.n as usize, fleet.done as usize + 1, &habits);
-        let (number, next) = step(&fleet, &words);
+        let words =
+            gen::round(TwoRound, &mut rng, fleet.n as usize, fleet.done as usize + 1, &habits);
+        let (number, next) = step(TwoRound, &fleet, &words);
         if number != 0 {
             assert_eq!(counts(&next), counts(&fleet));
             continue;
         }
-        let air = steps::air(&fleet, &words);
+        let radio = steps::radio(TwoRound, &fleet, &words);
         for (i, (before, after)) in counts(&fleet).into_iter().zip(counts(&next)).enumerate() {
-            let one = air.sends[i] as u8;
+            let one = radio.sends[i] as u8;
             let more = (after.proposals - before.proposals, after.vetoes - before.vetoes);
             assert_eq!(more, if next.done % 2 == 1 { (one, 0) } else { (0, one) });
             added[next.done as usize % 2] += one as usize;
         }
-        assert!(!record_refused(&next));
+        assert!(!record_refused(TwoRound, &next));
     }
     assert!(added.iter().all(|count| *count > 2_000), "{added:?}");
 }
@@ -241,21 +243,22 @@ fn a_record_as_bytes() {
 fn records_stepped_as_bytes() {
     let mut rng = Rng::new(73);
     for _ in 0..4_000 {
-        let fleet = gen::record(&mut rng);
+        let fleet = gen::record(TwoRound, &mut rng);
         let habits = gen::habits(&mut rng);
-        let words = gen::round(&mut rng, fleet.n as usize, fleet.done as usize + 1, &habits);
-        let (expected, next) = step(&fleet, &words);
+        let words =
+            gen::round(TwoRound, &mut rng, fleet.n as usize, fleet.done as usize + 1, &habits);
+        let (expected, next) = step(TwoRound, &fleet, &words);
         let mut lent = record_bytes(&fleet).to_vec();
         lent.extend([0xEE; 3]);
         let mut fast_lent = lent.clone();
-        assert_eq!(bytes::step(&mut lent, &words, step), expected);
+        assert_eq!(bytes::step(&mut lent, &words, |f, w| step(TwoRound, f, w)), expected);
         assert_eq!(lent, [&record_bytes(&next)[..], &[0xEE; 3]].concat());
         assert_eq!(fast::step_bytes(&mut fast_lent, &words), expected);
         assert_eq!(fast_lent, lent);
     }
     for length in 0..RECORD {
         let mut short = vec![1; length];
-        assert_eq!(bytes::step(&mut short, &[0; 4], step), 7);
+        assert_eq!(bytes::step(&mut short, &[0; 4], |f, w| step(TwoRound, f, w)), 7);
         assert_eq!(short, vec![1; length]);
     }
 }
@@ -264,14 +267,14 @@ fn records_stepped_as_bytes() {
 fn damaged_bytes_below_n_are_refused() {
     let mut rng = Rng::new(74);
     for _ in 0..4_000 {
-        let damaged = gen::damaged_record(&mut rng);
+        let damaged = gen::damaged_record(TwoRound, &mut rng);
         let habits = gen::habits(&mut rng);
         let n = damaged.fleet.n as usize;
-        let words = gen::round(&mut rng, n, damaged.fleet.done as usize + 1, &habits);
-        let (number, next) = step(&damaged.fleet, &words);
+        let words = gen::round(TwoRound, &mut rng, n, damaged.fleet.done as usize + 1, &habits);
+        let (number, next) = step(TwoRound, &damaged.fleet, &words);
         assert_eq!(number, 0, "{}", damaged.how);
         let mut lent = damaged.bytes;
-        let answer = bytes::step(&mut lent, &words, step);
+        let answer = bytes::step(&mut lent, &words, |f, w| step(TwoRound, f, w));
         if damaged.refused {
             assert_eq!((answer, lent), (7, damaged.bytes), "{}", damaged.how);
         } else {

@@ -4,11 +4,11 @@
 use std::collections::{BTreeMap, BTreeSet};
 
 use oracle::bytes::{self, record_bytes};
-use oracle::fleet::{record_refused, record_refused_in};
+use oracle::fleet::record_refused;
 use oracle::gen::{self, Limits, Rng, FULL, SMALL, TINY_SIX};
-use oracle::lists::{agreed, decisions, finished_by, play_in, recording_of, taken, valid};
-use oracle::marks::{airs_in, classes_of_in, six_zero_complete};
-use oracle::steps::{air_in, follow_in};
+use oracle::lists::{agreed, decisions, finished_by, play, recording_of, taken, valid};
+use oracle::marks::{classes_of, radios, zero_complete};
+use oracle::steps::{follow, radio};
 use oracle::*;
 use Cycle::{SixRound, TwoRound};
 use State::{Decided, Running, Stopped};
@@ -20,7 +20,7 @@ fn after(openings: &[u8], rounds: &[&[u32]]) -> Fleet {
     let (number, mut fleet) = start(openings.len() as u64, openings);
     assert_eq!(number, 0);
     for words in rounds {
-        let (number, next) = step_in(SixRound, &fleet, words);
+        let (number, next) = step(SixRound, &fleet, words);
         assert_eq!(number, 0);
         fleet = next;
     }
@@ -39,15 +39,21 @@ const APART: [u32; 5] = [0, 0b11, 0, 0b10, 0b01];
 
 #[test]
 fn each_round_is_for_its_kind() {
-    let kinds = [Kind::Prepare, Kind::Bit(8), Kind::Bit(4), Kind::Bit(2), Kind::Bit(1)];
+    let kinds = [
+        RoundKind::Prepare,
+        RoundKind::Bit(8),
+        RoundKind::Bit(4),
+        RoundKind::Bit(2),
+        RoundKind::Bit(1),
+    ];
     for cycle in 0..66 {
         for (place, kind) in (1..).zip(kinds) {
-            assert_eq!(SixRound.kind(6 * cycle + place), kind);
+            assert_eq!(SixRound.round_kind(6 * cycle + place), kind);
         }
-        assert_eq!(SixRound.kind(6 * cycle + 6), Kind::Accept);
+        assert_eq!(SixRound.round_kind(6 * cycle + 6), RoundKind::Accept);
     }
-    assert_eq!([1, 2, 399, 400].map(|round| TwoRound.kind(round)), {
-        [Kind::Proposal, Kind::Veto, Kind::Proposal, Kind::Veto]
+    assert_eq!([1, 2, 399, 400].map(|round| TwoRound.round_kind(round)), {
+        [RoundKind::Proposals, RoundKind::Vetoes, RoundKind::Proposals, RoundKind::Vetoes]
     });
 }
 
@@ -60,7 +66,7 @@ fn one_value_is_decided_after_six_rounds() {
     // Nothing of the two-round cycle changes.
     assert!(fleet.trucks_below_n().iter().all(|t| t.sent == Sent::default()));
     assert!(fleet.trucks_below_n().iter().all(Truck::memory_is_empty));
-    let sends = |done: usize| air_in(SixRound, &after(&[3, 5], &rounds[..done]), &SILENT).sends;
+    let sends = |done: usize| radio(SixRound, &after(&[3, 5], &rounds[..done]), &SILENT).sends;
     assert_eq!(sends(1), [false, false]);
     assert_eq!(sends(2), [false, false]);
     assert_eq!(sends(3), [true, true]);
@@ -72,7 +78,7 @@ fn one_value_is_decided_after_six_rounds() {
 fn bits_come_most_significant_first() {
     // Nobody is active, so that both keep their openings: 8 is 1000, and 7 is 0111.
     let silent = &SILENT[..];
-    let sends = |done: usize| air_in(SixRound, &after(&[8, 7], &vec![silent; done]), &SILENT).sends;
+    let sends = |done: usize| radio(SixRound, &after(&[8, 7], &vec![silent; done]), &SILENT).sends;
     assert_eq!(sends(1), [true, false]);
     assert_eq!(sends(2), [false, true]);
     assert_eq!(sends(3), [false, true]);
@@ -90,11 +96,11 @@ fn an_unwilling_truck_sends_its_bits_all_the_same() {
     let silent = &SILENT[..];
     let third = after(&[3, 5], &[silent; 3]);
     assert_eq!(ends(&third), [(3, Running, true), (5, Running, false)]);
-    assert_eq!(air_in(SixRound, &third, &SILENT).sends, [true, false]);
+    assert_eq!(radio(SixRound, &third, &SILENT).sends, [true, false]);
     let fourth = after(&[3, 5], &[silent; 4]);
     assert_eq!(ends(&fourth), [(3, Running, true), (5, Running, true)]);
     // In round 5 the bit of both is 1.
-    assert_eq!(air_in(SixRound, &fourth, &SILENT).sends, [true, true]);
+    assert_eq!(radio(SixRound, &fourth, &SILENT).sends, [true, true]);
 }
 
 #[test]
@@ -102,9 +108,9 @@ fn active_bits_count_in_prepare_only() {
     // Estimate 0 has no bit that is 1; active bits make nobody send after prepare.
     let both = &BOTH[..];
     for done in 1..6 {
-        assert_eq!(air_in(SixRound, &after(&[0, 0], &vec![both; done]), &BOTH).sends, [false; 2]);
+        assert_eq!(radio(SixRound, &after(&[0, 0], &vec![both; done]), &BOTH).sends, [false; 2]);
     }
-    assert_eq!(air_in(SixRound, &after(&[0, 0], &[]), &BOTH).sends, [true; 2]);
+    assert_eq!(radio(SixRound, &after(&[0, 0], &[]), &BOTH).sends, [true; 2]);
     assert_eq!(ends(&after(&[0, 0], &[both; 6])), [(0, Decided(6), false); 2]);
 }
 
@@ -154,13 +160,13 @@ fn messages_missed_make_nobody_unwilling() {
     let fleet = after(&[3, 5], &[&APART[..]; 6]);
     assert_eq!(ends(&fleet), [(3, Decided(6), false), (5, Decided(6), false)]);
     let bytes = write(2, 6, &[3, 5], &APART.repeat(6)).unwrap();
-    assert_eq!(grade_in(SixRound, &bytes), Ok([1, 1, 3, 0]));
-    assert_eq!(run_in(SixRound, &bytes), (0, fleet));
+    assert_eq!(grade(SixRound, &bytes), Ok([1, 1, 3, 0]));
+    assert_eq!(run(SixRound, &bytes), (0, fleet));
     // With the mark that is then due, truck 0 is unwilling, and its veto makes due a mark of truck 1.
     let marked = [0, 0b11, 0b01, 0b10, 0b01];
     let fleet = after(&[3, 5], &[&APART, &APART, &marked, &APART, &APART]);
     assert_eq!(ends(&fleet), [(3, Running, true), (5, Running, false)]);
-    assert_eq!(air_in(SixRound, &fleet, &APART).sends, [true, false]);
+    assert_eq!(radio(SixRound, &fleet, &APART).sends, [true, false]);
 }
 
 #[test]
@@ -190,7 +196,7 @@ fn stops_in_each_of_the_six_rounds() {
         rounds[round - 1] = &[0b10, 0b11, 0b11, 0, 0];
         let stopped = after(&[15, 15], &rounds[..round]);
         assert_eq!(stopped.trucks[1].state, Stopped(round as u16));
-        let air = airs_in(
+        let radio = radios(
             SixRound,
             &recording_of(&List {
                 n: 2,
@@ -198,7 +204,7 @@ fn stops_in_each_of_the_six_rounds() {
                 steps: rounds[..round].iter().map(|words| words.to_vec()).collect(),
             }),
         );
-        let last = &air[round - 1];
+        let last = &radio[round - 1];
         assert_eq!(last.running, [true, false]);
         assert_eq!(last.sends, [round != 6, false]);
         // Its mark bit does nothing; truck 0's does in accept alone, since it sends in all others.
@@ -221,12 +227,12 @@ fn a_truck_that_stops_is_willing_and_keeps_its_memory() {
     for done in [2, 3, 4, 5, 398, 399] {
         fleet.done = done;
         fleet.trucks[1] = handed;
-        let (number, next) = step_in(SixRound, &fleet, &[0b10, 0, 0, 0, 0]);
+        let (number, next) = step(SixRound, &fleet, &[0b10, 0, 0, 0, 0]);
         assert_eq!(number, 0);
         let stopped = Truck { unwilling: false, state: Stopped(done + 1), ..handed };
         assert_eq!(next.trucks[1], stopped);
         // It sends neither its bit nor, in accept, its veto.
-        assert!(!air_in(SixRound, &fleet, &[0b10, 0, 0, 0, 0]).sends[1]);
+        assert!(!radio(SixRound, &fleet, &[0b10, 0, 0, 0, 0]).sends[1]);
     }
 }
 
@@ -248,7 +254,7 @@ fn bits_are_messages_that_are_graded() {
     let grades = |openings: &[u8]| {
         let mut words = SILENT.repeat(2);
         words[5 + 3] = 0b10;
-        grade_in(SixRound, &write(2, 2, openings, &words).unwrap()).unwrap()
+        grade(SixRound, &write(2, 2, openings, &words).unwrap()).unwrap()
     };
     assert_eq!(grades(&[8, 8]), [2, 2, 0, 0]);
     assert_eq!(grades(&[7, 8]), [2, 2, 2, 0]);
@@ -258,7 +264,7 @@ fn bits_are_messages_that_are_graded() {
         let mut words = SILENT.repeat(6);
         words[5 * (round - 1) + 2] = 0b01;
         let bytes = write(2, 6, &[0, 0], &words).unwrap();
-        assert_eq!(grade_in(SixRound, &bytes), Ok([0, 0, 0, round as u16]));
+        assert_eq!(grade(SixRound, &bytes), Ok([0, 0, 0, round as u16]));
     }
 }
 
@@ -281,7 +287,7 @@ fn refusal_7_of_willingness_and_rounds() {
                 let between = [2, 3, 4, 5].contains(&(done % 6));
                 let good_will = !unwilling || (state == Running && between);
                 let expected = done == 401 || !good_round || !good_will;
-                assert_eq!(record_refused_in(SixRound, &fleet), expected, "{fleet:?}");
+                assert_eq!(record_refused(SixRound, &fleet), expected, "{fleet:?}");
             }
         }
     }
@@ -292,12 +298,12 @@ fn each_condition_of_7_is_met_alone() {
     let mut rng = Rng::new(81);
     let mut conditions = BTreeSet::new();
     for _ in 0..60 {
-        for broken in gen::broken_records_in(SixRound, &mut rng) {
+        for broken in gen::broken_records(SixRound, &mut rng) {
             let fleet = broken.fleet;
             let n = fleet.n.clamp(1, 32) as usize;
             let habits = gen::habits(&mut rng);
-            let words = gen::round_in(SixRound, &mut rng, n, fleet.done as usize + 1, &habits);
-            let (number, next) = step_in(SixRound, &fleet, &words);
+            let words = gen::round(SixRound, &mut rng, n, fleet.done as usize + 1, &habits);
+            let (number, next) = step(SixRound, &fleet, &words);
             let label = format!("{} at {:?}", broken.condition, broken.place);
             assert_eq!(number, if broken.refused { 7 } else { 0 }, "{label}");
             if broken.refused {
@@ -305,7 +311,7 @@ fn each_condition_of_7_is_met_alone() {
                 if let Some(place) = broken.place {
                     let mut mended = fleet;
                     mended.trucks[place] = Truck::opened(0);
-                    assert_eq!(step_in(SixRound, &mended, &words).0, 0, "{label}");
+                    assert_eq!(step(SixRound, &mended, &words).0, 0, "{label}");
                 }
             }
             conditions.insert(broken.condition);
@@ -320,7 +326,7 @@ fn a_step_checks_7_14_8_6() {
     let answers = |fleet: &Fleet| {
         let rounds: [&[u32]; 4] = [&SILENT, &[0, 0, 0, 1, 0], &[4, 0, 0, 1, 0], &[0; 4]];
         rounds.map(|words| {
-            let (number, next) = step_in(SixRound, fleet, words);
+            let (number, next) = step(SixRound, fleet, words);
             assert!(number == 0 || next == *fleet);
             number
         })
@@ -347,11 +353,11 @@ fn memory_and_counts_are_handed_on_unread() {
     let mut rng = Rng::new(82);
     let mut refused_by_two = 0;
     for _ in 0..6_000 {
-        let fleet = gen::record_in(SixRound, &mut rng);
+        let fleet = gen::record(SixRound, &mut rng);
         let n = fleet.n as usize;
         let habits = gen::habits(&mut rng);
-        let words = gen::round_in(SixRound, &mut rng, n, fleet.done as usize + 1, &habits);
-        let (number, next) = step_in(SixRound, &fleet, &words);
+        let words = gen::round(SixRound, &mut rng, n, fleet.done as usize + 1, &habits);
+        let (number, next) = step(SixRound, &fleet, &words);
         assert_eq!(number, if fleet.done == 400 { 14 } else { 0 });
         assert_eq!(next.trucks[n..], fleet.trucks[n..]);
         for (before, after) in fleet.trucks.iter().zip(&next.trucks) {
@@ -364,12 +370,12 @@ fn memory_and_counts_are_handed_on_unread() {
         for truck in &mut other.trucks {
             *truck = Truck { sent: Sent::default(), ..truck.with_empty_memory() };
         }
-        let (other_number, other_next) = step_in(SixRound, &other, &words);
+        let (other_number, other_next) = step(SixRound, &other, &words);
         assert_eq!((number, ends(&next)), (other_number, ends(&other_next)));
         if number == 0 {
-            assert!(!record_refused_in(SixRound, &next));
+            assert!(!record_refused(SixRound, &next));
         }
-        refused_by_two += record_refused(&fleet) as usize;
+        refused_by_two += record_refused(TwoRound, &fleet) as usize;
     }
     assert!((1_000..6_000).contains(&refused_by_two), "{refused_by_two}");
 }
@@ -380,18 +386,19 @@ fn willingness_is_handed_on_unread() {
     let mut rng = Rng::new(83);
     let mut refused_by_six = 0;
     for _ in 0..6_000 {
-        let fleet = gen::record(&mut rng);
+        let fleet = gen::record(TwoRound, &mut rng);
         let habits = gen::habits(&mut rng);
-        let words = gen::round(&mut rng, fleet.n as usize, fleet.done as usize + 1, &habits);
-        let (number, next) = step(&fleet, &words);
+        let words =
+            gen::round(TwoRound, &mut rng, fleet.n as usize, fleet.done as usize + 1, &habits);
+        let (number, next) = step(TwoRound, &fleet, &words);
         let mut flipped = fleet;
         flipped.trucks.iter_mut().for_each(|truck| truck.unwilling = !truck.unwilling);
-        let (flipped_number, mut flipped_next) = step(&flipped, &words);
+        let (flipped_number, mut flipped_next) = step(TwoRound, &flipped, &words);
         flipped_next.trucks.iter_mut().for_each(|truck| truck.unwilling = !truck.unwilling);
         assert_eq!((number, next), (flipped_number, flipped_next));
         let unwilling = |fleet: &Fleet| fleet.trucks.map(|truck| truck.unwilling);
         assert_eq!(unwilling(&next), unwilling(&fleet));
-        refused_by_six += record_refused_in(SixRound, &fleet) as usize;
+        refused_by_six += record_refused(SixRound, &fleet) as usize;
     }
     assert!((1_000..6_000).contains(&refused_by_six), "{refused_by_six}");
 }
@@ -400,28 +407,28 @@ fn willingness_is_handed_on_unread() {
 #[test]
 fn a_record_that_changes_its_cycle() {
     // Two-round: both hear 3 and 5 in round 1, and remember it.
-    let (_, fleet) = step(&start(2, &[3, 5]).1, &BOTH);
+    let (_, fleet) = step(TwoRound, &start(2, &[3, 5]).1, &BOTH);
     // The six-round cycle does not read that. Round 2 is for the bit worth 8: nobody sends, and a mark makes truck 1 unwilling.
-    let (number, fleet) = step_in(SixRound, &fleet, &[0, 0, 0b10, 0, 0]);
+    let (number, fleet) = step(SixRound, &fleet, &[0, 0, 0b10, 0, 0]);
     assert_eq!(number, 0);
     let memory = |t: &Truck| (t.mark, t.heard, t.sent.proposals, t.unwilling);
     assert_eq!(memory(&fleet.trucks[0]), (false, Heard::Several, 1, false));
     assert_eq!(memory(&fleet.trucks[1]), (false, Heard::Several, 1, true));
     // Two rounds are done, so that the two-round cycle refuses the memory.
-    assert_eq!(step(&fleet, &SILENT).0, 7);
+    assert_eq!(step(TwoRound, &fleet, &SILENT).0, 7);
     // After one more six-round step it takes it: both veto in round 4. Willingness stays.
-    let (_, fleet) = step_in(SixRound, &fleet, &SILENT);
-    let (number, fleet) = step(&fleet, &SILENT);
+    let (_, fleet) = step(SixRound, &fleet, &SILENT);
+    let (number, fleet) = step(TwoRound, &fleet, &SILENT);
     assert_eq!(number, 0);
     assert_eq!(memory(&fleet.trucks[1]), (false, Heard::Nothing, 1, true));
     assert_eq!(fleet.trucks[1].sent.vetoes, 1);
     // Two more two-round rounds, in which truck 0 sends: both decide 3 in round 6, and truck 1 still unwilling.
-    let (_, fleet) = step(&fleet, &[0, 0b01, 0, 0, 0]);
-    let (number, fleet) = step(&fleet, &SILENT);
+    let (_, fleet) = step(TwoRound, &fleet, &[0, 0b01, 0, 0, 0]);
+    let (number, fleet) = step(TwoRound, &fleet, &SILENT);
     assert_eq!(number, 0);
     assert_eq!(ends(&fleet), [(3, Decided(6), false), (3, Decided(6), true)]);
     // That is no record of the six-round cycle.
-    assert_eq!(step_in(SixRound, &fleet, &SILENT).0, 7);
+    assert_eq!(step(SixRound, &fleet, &SILENT).0, 7);
 }
 
 /// Lists that change the cycle: 7 meets some of them, and a refused step leaves
@@ -431,22 +438,22 @@ fn lists_that_change_the_cycle() {
     let mut rng = Rng::new(84);
     let mut met = BTreeMap::new();
     for _ in 0..4_000 {
-        let list = gen::list_in(SixRound, &mut rng, TINY_SIX);
+        let list = gen::list(SixRound, &mut rng, TINY_SIX);
         let changes = rng.pick(&[8, 64, 128]);
         let mut cycles = Vec::new();
-        let mut now = rng.pick(&Cycle::BOTH);
+        let mut now = rng.pick(&Cycle::ALL);
         for _ in &list.steps {
             if rng.chance(changes) {
-                now = rng.pick(&Cycle::BOTH);
+                now = rng.pick(&Cycle::ALL);
             }
             cycles.push(now);
         }
-        let (numbers, _) = play_in(&list, |place| cycles[place]).unwrap();
+        let (numbers, _) = play(&list, |place| cycles[place]).unwrap();
         for (cycle, number) in cycles.iter().zip(numbers) {
             *met.entry((*cycle, number)).or_insert(0) += 1;
         }
     }
-    let expected: BTreeSet<_> = Cycle::BOTH
+    let expected: BTreeSet<_> = Cycle::ALL
         .into_iter()
         .flat_map(|cycle| [0, 6, 7, 8].map(|number| (cycle, number)))
         .collect();
@@ -457,48 +464,51 @@ fn lists_that_change_the_cycle() {
 // What the generators reach
 
 /// Names of what happens to a running truck in a round of six.
-fn events(before: &Truck, after: &Truck, air: &Air, i: usize) -> Vec<String> {
-    let (mark, heard, missed) = (air.mark_bit[i], air.heard(i), air.missed(i));
+fn events(before: &Truck, after: &Truck, radio: &Radio, i: usize) -> Vec<String> {
+    let (mark, heard, missed) = (radio.mark_bit[i], radio.heard(i), radio.missed(i));
     let mut list = vec![];
     let mut note = |holds: bool, name: &str| {
         if holds {
             list.push(name.to_string());
         }
     };
-    if !air.running[i] {
-        note(true, &format!("stops in {:?}", air.kind));
+    if !radio.running[i] {
+        note(true, &format!("stops in {:?}", radio.kind));
         note(before.unwilling, "stops unwilling");
         return list;
     }
     note(mark && missed == 0, "false mark");
     note(mark && missed > 0, "true mark");
     note(!mark && missed > 0 && heard == 0, "hears none of some unmarked");
-    match air.kind {
-        Kind::Prepare => {
-            note(air.sends[i], "proposes");
-            note(air.messages() == 0, "silent prepare");
+    match radio.kind {
+        RoundKind::Prepare => {
+            note(radio.sends[i], "proposes");
+            note(radio.messages() == 0, "silent prepare");
             note(after.estimate < before.estimate, "takes a lower value");
             note(after.estimate > before.estimate, "takes a higher value");
             note(mark && heard > 0, "keeps its estimate for a mark");
             note(!mark && heard == 0, "keeps its estimate in silence");
         }
-        Kind::Bit(worth) => {
+        RoundKind::Bit(worth) => {
             let becomes = !before.unwilling && after.unwilling;
-            note(air.sends[i], &format!("sends {worth}"));
-            note(air.sends[i] && before.unwilling, "sends unwilling");
+            note(radio.sends[i], &format!("sends {worth}"));
+            note(radio.sends[i] && before.unwilling, "sends unwilling");
             note(
-                air.sends[i] && mark && !before.unwilling,
+                radio.sends[i] && mark && !before.unwilling,
                 "stays willing with a mark of its 1-bit",
             );
-            note(air.sends[i] && heard > 1 && !before.unwilling, "stays willing with others heard");
+            note(
+                radio.sends[i] && heard > 1 && !before.unwilling,
+                "stays willing with others heard",
+            );
             note(becomes && !mark, &format!("unwilling by a message of {worth}"));
             note(becomes && heard == 0, &format!("unwilling by a mark of {worth}"));
             note(becomes && heard > 0 && mark, "unwilling by both");
-            note(before.unwilling && !air.sends[i] && heard > 0, "unwilling again");
+            note(before.unwilling && !radio.sends[i] && heard > 0, "unwilling again");
             note(before.unwilling && heard == 0 && !mark, "unwilling still");
-            note(!air.sends[i] && heard == 0 && !mark && missed > 0, "misses and stays willing");
+            note(!radio.sends[i] && heard == 0 && !mark && missed > 0, "misses and stays willing");
         }
-        Kind::Accept => {
+        RoundKind::Accept => {
             let decides = after.state != State::Running;
             note(before.unwilling, "vetoes");
             note(before.unwilling && heard == 1, "hears its own veto alone");
@@ -508,7 +518,7 @@ fn events(before: &Truck, after: &Truck, air: &Air, i: usize) -> Vec<String> {
             note(!before.unwilling && heard > 0, "held back by a veto");
             note(!before.unwilling && heard == 0 && mark, "held back by a mark");
         }
-        Kind::Proposal | Kind::Veto => unreachable!(),
+        RoundKind::Proposals | RoundKind::Vetoes => unreachable!(),
     }
     list
 }
@@ -520,14 +530,14 @@ fn every_branch_of_the_rules_is_taken() {
     let mut endings = BTreeMap::new();
     for k in 0..3_000 {
         let limits = if k % 40 == 0 { FULL } else { SMALL };
-        let plain = gen::plain_in(SixRound, &mut rng, limits);
+        let plain = gen::plain(SixRound, &mut rng, limits);
         let (_, mut fleet) = start(plain.n as u64, &plain.openings);
-        for (index, air) in airs_in(SixRound, &plain).iter().enumerate() {
-            let next = follow_in(SixRound, &fleet, plain.round(index + 1));
+        for (index, radio) in radios(SixRound, &plain).iter().enumerate() {
+            let next = follow(SixRound, &fleet, plain.round(index + 1));
             for i in 0..plain.n {
                 let (before, after) = (&fleet.trucks[i], &next.trucks[i]);
                 if before.is_running() {
-                    for name in events(before, after, air, i) {
+                    for name in events(before, after, radio, i) {
                         *counts.entry(name).or_insert(0) += 1;
                     }
                 } else {
@@ -560,8 +570,8 @@ fn records_reach_their_limits() {
     let mut rng = Rng::new(86);
     let mut met: BTreeMap<(&str, u16), usize> = BTreeMap::new();
     for _ in 0..4_000 {
-        let fleet = gen::record_in(SixRound, &mut rng);
-        assert!(!record_refused_in(SixRound, &fleet));
+        let fleet = gen::record(SixRound, &mut rng);
+        assert!(!record_refused(SixRound, &fleet));
         for truck in fleet.trucks_below_n() {
             let mut note = |holds: bool, name, of: u16| {
                 if holds {
@@ -587,15 +597,15 @@ fn damaged_bytes_below_n_are_refused() {
     let mut rng = Rng::new(87);
     let mut met = BTreeMap::new();
     for _ in 0..4_000 {
-        let damaged = gen::damaged_record_in(SixRound, &mut rng);
+        let damaged = gen::damaged_record(SixRound, &mut rng);
         let n = damaged.fleet.n as usize;
         let habits = gen::habits(&mut rng);
         let number = damaged.fleet.done as usize + 1;
-        let words = gen::round_in(SixRound, &mut rng, n, number, &habits);
-        let (number, next) = step_in(SixRound, &damaged.fleet, &words);
+        let words = gen::round(SixRound, &mut rng, n, number, &habits);
+        let (number, next) = step(SixRound, &damaged.fleet, &words);
         assert_eq!(number, 0, "{}", damaged.how);
         let mut lent = damaged.bytes;
-        let answer = bytes::step(&mut lent, &words, |f, w| step_in(SixRound, f, w));
+        let answer = bytes::step(&mut lent, &words, |f, w| step(SixRound, f, w));
         if damaged.refused {
             assert_eq!((answer, lent), (7, damaged.bytes), "{}", damaged.how);
         } else {
@@ -613,15 +623,15 @@ fn damaged_bytes_below_n_are_refused() {
 
 /// Plays a list in this cycle and compares it with the run of its recording.
 fn played_as_run(list: &List) -> Fleet {
-    let (numbers, fleet) = play_in(list, |_| SixRound).unwrap();
+    let (numbers, fleet) = play(list, |_| SixRound).unwrap();
     let plain = recording_of(list);
     let bytes = write(list.n, plain.rounds as u64, &plain.openings, &plain.words).unwrap();
-    assert_eq!(run_in(SixRound, &bytes), (0, fleet));
+    assert_eq!(run(SixRound, &bytes), (0, fleet));
     for (number, is_taken) in numbers.iter().zip(taken(list)) {
         assert_eq!(*number == 0, is_taken);
         assert!([0, 14, 8, 6].contains(number));
     }
-    assert!(!record_refused_in(SixRound, &fleet));
+    assert!(!record_refused(SixRound, &fleet));
     fleet
 }
 
@@ -630,8 +640,8 @@ fn a_list_is_its_recording() {
     let mut rng = Rng::new(88);
     for k in 0..2_000 {
         let list = match k {
-            k if k % 100 == 0 => gen::long_list_in(SixRound, &mut rng, 6),
-            _ => gen::list_in(SixRound, &mut rng, SMALL),
+            k if k % 100 == 0 => gen::long_list(SixRound, &mut rng, 6),
+            _ => gen::list(SixRound, &mut rng, SMALL),
         };
         let fleet = played_as_run(&list);
         assert_eq!(fleet.done == 400, k % 100 == 0);
@@ -651,17 +661,17 @@ fn agreement_and_validity_under_zero_complete_marks() {
             1..=60 => SMALL,
             _ => TINY_SIX,
         };
-        let plain = gen::with_marks_in(SixRound, &mut rng, limits, gen::ZERO);
-        assert!(six_zero_complete(&plain));
+        let plain = gen::with_marks(SixRound, &mut rng, limits, gen::ZERO);
+        assert!(zero_complete(SixRound, &plain));
         let fleet = if k % 8 == 0 {
             let bad = rng.pick(&[0, 40, 120]);
             played_as_run(&gen::list_around(&mut rng, &plain, bad))
         } else {
-            run_in(SixRound, &gen::bytes_of(&plain)).1
+            run(SixRound, &gen::bytes_of(&plain)).1
         };
         assert!(agreed(&fleet) && valid(&fleet, &plain.openings), "{plain:?}");
         if decisions(&fleet).len() > 1 {
-            let kept = classes_of_in(SixRound, &plain);
+            let kept = classes_of(SixRound, &plain);
             let rounds: BTreeSet<_> = fleet
                 .trucks_below_n()
                 .iter()
@@ -681,10 +691,10 @@ fn without_zero_complete_marks_there_is_disagreement() {
     let mut rng = Rng::new(90);
     let mut disagreements = 0;
     for _ in 0..10_000 {
-        let plain = gen::plain_in(SixRound, &mut rng, TINY_SIX);
-        let (_, fleet) = run_in(SixRound, &gen::bytes_of(&plain));
+        let plain = gen::plain(SixRound, &mut rng, TINY_SIX);
+        let (_, fleet) = run(SixRound, &gen::bytes_of(&plain));
         if !agreed(&fleet) {
-            assert!(!six_zero_complete(&plain));
+            assert!(!zero_complete(SixRound, &plain));
             disagreements += 1;
         }
     }
@@ -708,9 +718,9 @@ fn every_reachable_state_of_two_trucks() {
             let mut next: BTreeMap<[u8; bytes::RECORD], Fleet> = BTreeMap::new();
             for fleet in &reached {
                 for words in &rounds {
-                    let air = air_in(SixRound, fleet, words);
-                    if marks::classes(&air).zero {
-                        let after = follow_in(SixRound, fleet, words);
+                    let radio = radio(SixRound, fleet, words);
+                    if marks::classes(&radio).zero {
+                        let after = follow(SixRound, fleet, words);
                         assert!(agreed(&after) && valid(&after, &openings), "{after:?}");
                         next.insert(record_bytes(&after), after);
                     }
@@ -730,32 +740,32 @@ fn calm_wants_eleven_rounds() {
     let both = &BOTH[..];
     let plain =
         |rounds: usize| Plain { n: 2, rounds, openings: vec![3, 5], words: both.repeat(rounds) };
-    assert!(calm_in(SixRound, &plain(11), 1, 2));
-    assert!(!calm_in(SixRound, &plain(10), 1, 2));
-    assert!(!calm_in(SixRound, &plain(11), 2, 2));
-    assert!(calm_in(SixRound, &plain(12), 2, 2));
-    assert!(!calm_in(SixRound, &plain(12), 0, 2) && !calm_in(SixRound, &plain(12), u64::MAX, 2));
+    assert!(calm(SixRound, &plain(11), 1, 2));
+    assert!(!calm(SixRound, &plain(10), 1, 2));
+    assert!(!calm(SixRound, &plain(11), 2, 2));
+    assert!(calm(SixRound, &plain(12), 2, 2));
+    assert!(!calm(SixRound, &plain(12), 0, 2) && !calm(SixRound, &plain(12), u64::MAX, 2));
     // Two senders are more than b, in prepare and in bit rounds; in bit rounds that is no matter.
-    assert!(!calm_in(SixRound, &plain(12), 1, 1) && !calm_in(SixRound, &plain(12), 1, 0));
+    assert!(!calm(SixRound, &plain(12), 1, 1) && !calm(SixRound, &plain(12), 1, 0));
     // Nobody runs after round 6, so that nothing is asked then.
-    assert!(calm_in(SixRound, &plain(18), 7, 0));
+    assert!(calm(SixRound, &plain(18), 7, 0));
     // Without senders in prepare it is not calm; without senders in bit rounds it is.
     let mut silent = plain(11);
     silent.words[1] = 0;
-    assert!(!calm_in(SixRound, &silent, 1, 2));
+    assert!(!calm(SixRound, &silent, 1, 2));
     let mut silent = plain(11);
     silent.words[5 + 1] = 0;
-    assert!(calm_in(SixRound, &silent, 1, 2));
+    assert!(calm(SixRound, &silent, 1, 2));
     // A false mark in any round up to accept, in which both run.
     for round in 1..=6 {
         let mut marked = plain(11);
         marked.words[5 * (round - 1) + 2] = 0b10;
-        assert!(!calm_in(SixRound, &marked, 1, 2), "{round}");
+        assert!(!calm(SixRound, &marked, 1, 2), "{round}");
     }
     // A bit missed: both send in round 4. With b of 2 that is one round of few senders.
     let mut lost = plain(12);
     lost.words[5 * 3 + 3] = 0b10;
-    assert!(!calm_in(SixRound, &lost, 1, 2));
+    assert!(!calm(SixRound, &lost, 1, 2));
 }
 
 #[test]
@@ -770,10 +780,10 @@ fn all_finish_by_s_plus_10() {
             _ => TINY_SIX,
         };
         let asked = if k % 2 == 0 { gen::ZERO } else { gen::NONE };
-        let made = gen::calm_in(SixRound, &mut rng, limits, asked);
-        assert!(calm_in(SixRound, &made.plain, made.s, made.b));
+        let made = gen::calm(SixRound, &mut rng, limits, asked);
+        assert!(calm(SixRound, &made.plain, made.s, made.b));
         let bytes = gen::bytes_of(&made.plain);
-        let (_, fleet) = run_in(SixRound, &bytes);
+        let (_, fleet) = run(SixRound, &bytes);
         assert!(finished_by(&fleet, made.s + 10), "{bytes:02x?} {} {}", made.s, made.b);
         if k % 2 == 0 {
             assert!(agreed(&fleet) && valid(&fleet, &made.plain.openings));
@@ -781,10 +791,11 @@ fn all_finish_by_s_plus_10() {
         // Some need the last of the eleven rounds.
         late += !finished_by(&fleet, made.s + 9) as usize;
         let first = made.s as usize - 1;
-        let window = &airs_in(SixRound, &made.plain)[first..=first + 10];
+        let window = &radios(SixRound, &made.plain)[first..=first + 10];
         running_at_s += !window[0].running_trucks().is_empty() as usize;
-        lossy += window.iter().any(|air| air.running_trucks().iter().any(|i| air.missed(*i) > 0))
-            as usize;
+        lossy +=
+            window.iter().any(|radio| radio.running_trucks().iter().any(|i| radio.missed(*i) > 0))
+                as usize;
         starts.insert(made.s % 6);
     }
     assert!(late > 100 && running_at_s > 3_000 && lossy > 100, "{late} {running_at_s} {lossy}");

@@ -2,7 +2,7 @@
 
 use oracle::bytes::record_bytes;
 use oracle::gen::{self, Rng, SMALL, TINY, TINY_SIX};
-use oracle::{fleet::record_refused_in, lists, recording};
+use oracle::{fleet::record_refused, lists, recording};
 use rajvokshul::*;
 
 /// A cycle as the independent reading names it.
@@ -81,7 +81,7 @@ fn words_are_judged_as_a_step_judges_them() {
     for _ in 0..20_000 {
         let n = rng.within(1, 32);
         let habits = gen::habits(&mut rng);
-        let mut words = gen::round(&mut rng, n, 1, &habits);
+        let mut words = gen::round(oracle::Cycle::TwoRound, &mut rng, n, 1, &habits);
         for _ in 0..rng.below(3) {
             let word = rng.below(words.len());
             words[word] ^= 1 << rng.below(32);
@@ -140,16 +140,16 @@ fn records_are_judged_in(cycle: Cycle) {
     let mut rng = Rng::new(0x7EC0);
     let mut refused = [0; 2];
     let mut records = Vec::new();
-    for made in oracle::Cycle::BOTH {
-        records.extend((0..1_000).map(|_| gen::record_in(made, &mut rng)));
+    for made in oracle::Cycle::ALL {
+        records.extend((0..1_000).map(|_| gen::record(made, &mut rng)));
         for _ in 0..50 {
-            let broken = gen::broken_records_in(made, &mut rng);
+            let broken = gen::broken_records(made, &mut rng);
             records.extend(broken.iter().map(|broken| broken.fleet));
         }
     }
     for record in records {
         let bytes = record_bytes(&record);
-        let refuses = record_refused_in(read_as(cycle), &record);
+        let refuses = record_refused(read_as(cycle), &record);
         let expected = if refuses { Err(Refusal::Record) } else { Ok(()) };
         let fleet = Fleet::from_bytes_in(cycle, bytes);
         assert_eq!(fleet.as_ref().map(|_| ()).map_err(|r| *r), expected, "{record:?}");
@@ -168,7 +168,7 @@ fn records_are_judged_in(cycle: Cycle) {
     }
     assert!(refused[0] > 500 && refused[1] > 500, "{refused:?}");
     for _ in 0..1_000 {
-        let damaged = gen::damaged_record_in(read_as(cycle), &mut rng);
+        let damaged = gen::damaged_record(read_as(cycle), &mut rng);
         let expected = if damaged.refused { Err(Refusal::Record) } else { Ok(()) };
         let judged = Fleet::from_bytes_in(cycle, damaged.bytes);
         assert_eq!(judged.map(|_| ()), expected, "{}", damaged.how);
@@ -252,7 +252,7 @@ fn what_is_shown_names_trucks() {
 
 /// Plays a list with a recorder and with the independent reading. Answers how often each refusal was met.
 fn hold_list(cycle: Cycle, list: &lists::List) -> [usize; 15] {
-    let (numbers, last) = lists::play_in(list, |_| read_as(cycle)).unwrap();
+    let (numbers, last) = lists::play(list, |_| read_as(cycle)).unwrap();
     let mut recorder = Recorder::start_in(cycle, &list.openings).unwrap();
     assert_eq!(recorder.cycle(), cycle);
     let mut met = [0; 15];
@@ -286,14 +286,17 @@ fn the_recording_of_a_recorder_runs_to_its_fleet() {
         }
     };
     for k in 0..3_000 {
-        hold(Cycle::TwoRound, gen::list(&mut rng, if k % 10 == 0 { SMALL } else { TINY }));
+        hold(
+            Cycle::TwoRound,
+            gen::list(oracle::Cycle::TwoRound, &mut rng, if k % 10 == 0 { SMALL } else { TINY }),
+        );
     }
     for k in 0..1_000 {
         let limits = if k % 10 == 0 { SMALL } else { TINY_SIX };
-        hold(Cycle::SixRound, gen::list_in(oracle::Cycle::SixRound, &mut rng, limits));
+        hold(Cycle::SixRound, gen::list(oracle::Cycle::SixRound, &mut rng, limits));
     }
     for (cycle, trucks) in Cycle::ALL.into_iter().flat_map(|c| [1, 3, 32].map(|n| (c, n))) {
-        hold(cycle, gen::long_list_in(read_as(cycle), &mut rng, trucks));
+        hold(cycle, gen::long_list(read_as(cycle), &mut rng, trucks));
     }
     assert!([0, 6, 8, 14].iter().all(|&k: &usize| met[k] > 0), "{met:?}");
 }

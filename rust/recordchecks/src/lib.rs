@@ -42,7 +42,7 @@ pub fn start(trucks: u32, openings: &[u8], record: &mut [u8]) -> u32 {
 }
 
 /// A step by the call of either cycle.
-pub fn step_in(cycle: Cycle, record: &mut [u8], words: &[u32]) -> u32 {
+pub fn step(cycle: Cycle, record: &mut [u8], words: &[u32]) -> u32 {
     let call = match cycle {
         Cycle::TwoRound => raw::recordcalls_step,
         Cycle::SixRound => raw::recordcalls_step_six,

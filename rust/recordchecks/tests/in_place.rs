@@ -22,7 +22,7 @@ fn start_both(trucks: u32, openings: &[u8], record: &mut [u8]) -> u32 {
 
 fn step_both(cycle: Cycle, record: &mut [u8], words: &[u32]) -> u32 {
     let mut exported = record.to_vec();
-    let number = recordchecks::step_in(cycle, record, words);
+    let number = recordchecks::step(cycle, record, words);
     assert_eq!((EXPORTED.step)(cycle, &mut exported, words), number);
     assert_eq!(record, exported);
     number
@@ -68,16 +68,16 @@ fn any_bytes_above_n() {
 
 /// Some bytes that are a record, and some that are none.
 fn some_record(rng: &mut Rng) -> Vec<u8> {
-    let cycle = rng.pick(&Cycle::BOTH);
+    let cycle = rng.pick(&Cycle::ALL);
     match rng.below(8) {
-        0 => gen::damaged_record_in(cycle, rng).bytes.to_vec(),
+        0 => gen::damaged_record(cycle, rng).bytes.to_vec(),
         1 => {
-            let mut short = record_bytes(&gen::record_in(cycle, rng)).to_vec();
+            let mut short = record_bytes(&gen::record(cycle, rng)).to_vec();
             short.truncate(rng.below(RECORD));
             short
         }
         2 => (0..RECORD).map(|_| rng.below(3) as u8).collect(),
-        _ => record_bytes(&gen::record_in(cycle, rng)).to_vec(),
+        _ => record_bytes(&gen::record(cycle, rng)).to_vec(),
     }
 }
 
@@ -115,11 +115,11 @@ fn copies() {
 fn small_set() {
     let mut rng = Rng::new(212);
     for k in 0..120 {
-        let cycle = Cycle::BOTH[k % 2];
-        let f = gen::record_in(cycle, &mut rng);
+        let cycle = Cycle::ALL[k % 2];
+        let f = gen::record(cycle, &mut rng);
         let words = a_round(cycle, &mut rng, &f);
         BOTH.same_step(cycle, &f, &words);
-        let list = gen::list_in(cycle, &mut rng, TINY);
+        let list = gen::list(cycle, &mut rng, TINY);
         let mut record = [0; RECORD];
         start_both(list.n as u32, &list.openings, &mut record);
         for words in &list.steps {

@@ -95,7 +95,7 @@ fn run(table: &mut Table, cycle: Cycle, input: &Input, rounds: usize) {
         rounds,
         times(
             || {
-                black_box(checks::run_in(cycle, black_box(&input.bytes), &mut record));
+                black_box(checks::run(cycle, black_box(&input.bytes), &mut record));
             },
             || {
                 black_box(plain(black_box(&input.bytes)));
@@ -115,7 +115,7 @@ fn grade(table: &mut Table, cycle: Cycle, input: &Input, rounds: usize) {
         rounds,
         times(
             || {
-                black_box(checks::grade_in(cycle, black_box(&input.bytes), &mut grades));
+                black_box(checks::grade(cycle, black_box(&input.bytes), &mut grades));
             },
             || {
                 black_box(plain(black_box(&input.bytes)).ok());
@@ -219,7 +219,7 @@ fn step(table: &mut Table, input: &Step) {
     let record = record_bytes(&input.fleet);
     let ours = || {
         let mut d = record;
-        black_box(checks::step_in(cycle, black_box(&mut d), &input.words));
+        black_box(checks::step(cycle, black_box(&mut d), &input.words));
     };
     let on_bytes = || {
         let mut d = record;

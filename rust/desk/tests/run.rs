@@ -231,7 +231,7 @@ fn any_bytes_have_an_answer_in_every_view() {
         }
         let status = u8::from(oracle::check(&bytes).is_err());
         for (view, name, _) in View::ALL {
-            for cycle in Cycle::ALL {
+            for &cycle in Cycle::ALL {
                 let answered = answer(view, cycle, &bytes);
                 assert_eq!(answered.status, status, "{name} of {bytes:x?} in {cycle}");
                 assert_eq!(answered.out.is_empty(), status == 1 && view != View::Explain);

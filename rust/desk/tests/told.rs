@@ -52,8 +52,8 @@ fn value(crusher: u8) -> Option<Message> {
 
 fn grades(complete: u16, majority: u16, zero: u16, accurate: u16) -> Grades {
     let first = [complete, majority, zero, accurate];
-    let breaks = Class::ALL.into_iter().zip(first);
-    breaks.fold(Grades::default(), |grades, (class, round)| grades.with_first_break(class, round))
+    let breaks = Class::ALL.iter().zip(first);
+    breaks.fold(Grades::default(), |grades, (&class, round)| grades.with_first_break(class, round))
 }
 
 #[test]
@@ -295,7 +295,8 @@ fn tell_many(cycle: Cycle, theirs: oracle::Cycle, asked: Asked) -> Met {
         assert_eq!(counts(&story), counts_of(theirs, &plain));
         let expected = oracle::grade(theirs, &gen::bytes_of(&plain)).unwrap();
         let derived = grades_of(&story.rounds);
-        assert_eq!(Class::ALL.map(|class| derived.first_break(class).unwrap_or(0)), expected);
+        let firsts = Class::ALL.iter().map(|&class| derived.first_break(class).unwrap_or(0));
+        assert!(firsts.eq(expected));
         assert_eq!(first_calm(&story), calm_by_trying(theirs, &plain));
         met.calm += usize::from(first_calm(&story).is_some());
         met.broken += usize::from(story.grades.majority != 0);
@@ -380,7 +381,7 @@ fn tampered_records_are_contradicted() {
 #[test]
 fn tampered_grades_openings_and_words_are_contradicted() {
     let answers = Answers::ask(Cycle::TwoRound, &C2).unwrap();
-    for class in Class::ALL {
+    for &class in Class::ALL {
         let mut tampered = answers.clone();
         let first = tampered.grades.first_break(class).unwrap_or(0);
         tampered.grades = tampered.grades.with_first_break(class, first ^ 1);

@@ -31,8 +31,9 @@ pub enum Class {
 }
 
 impl Class {
-    /// The four classes, in the order of a grading.
-    pub const ALL: [Class; 4] = [Class::Complete, Class::Majority, Class::Zero, Class::Accurate];
+    /// The four classes, in the order of a grading; a later version may have more.
+    pub const ALL: &'static [Class] =
+        &[Class::Complete, Class::Majority, Class::Zero, Class::Accurate];
 }
 
 /// For each class of marks the first round that breaks it, or 0. `Grades::default()` breaks none.

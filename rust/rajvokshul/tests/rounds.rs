@@ -133,7 +133,7 @@ fn by_names(round: &Round) -> Round {
 
 #[test]
 fn records_are_judged_by_refusal_7_and_no_other() {
-    Cycle::ALL.into_iter().for_each(records_are_judged_in);
+    Cycle::ALL.iter().copied().for_each(records_are_judged_in);
 }
 
 fn records_are_judged_in(cycle: Cycle) {
@@ -215,13 +215,11 @@ fn grades_by_class() {
         breaks.iter().fold(none, |grades, &(class, round)| grades.with_first_break(class, round))
     };
     let grades = breaking(&[(Class::Complete, 1), (Class::Majority, 20), (Class::Accurate, 400)]);
-    assert_eq!(
-        Class::ALL.map(|class| grades.first_break(class)),
-        [Some(1), Some(20), None, Some(400)]
-    );
+    let firsts = |grades: Grades| Class::ALL.iter().map(move |&class| grades.first_break(class));
+    assert!(firsts(grades).eq([Some(1), Some(20), None, Some(400)]));
     assert_eq!((grades.complete, grades.majority, grades.zero, grades.accurate), (1, 20, 0, 400));
     let zero = breaking(&[(Class::Accurate, 2), (Class::Zero, 7), (Class::Accurate, 0)]);
-    assert_eq!(Class::ALL.map(|class| zero.first_break(class)), [None, None, Some(7), None]);
+    assert!(firsts(zero).eq([None, None, Some(7), None]));
 }
 
 #[test]
@@ -295,7 +293,7 @@ fn the_recording_of_a_recorder_runs_to_its_fleet() {
         let limits = if k % 10 == 0 { SMALL } else { TINY_SIX };
         hold(Cycle::SixRound, gen::list(oracle::Cycle::SixRound, &mut rng, limits));
     }
-    for (cycle, trucks) in Cycle::ALL.into_iter().flat_map(|c| [1, 3, 32].map(|n| (c, n))) {
+    for (cycle, trucks) in Cycle::ALL.iter().flat_map(|&c| [1, 3, 32].map(|n| (c, n))) {
         hold(cycle, gen::long_list(read_as(cycle), &mut rng, trucks));
     }
     assert!([0, 6, 8, 14].iter().all(|&k: &usize| met[k] > 0), "{met:?}");
@@ -307,7 +305,7 @@ fn a_recorder_starts_as_a_fleet_does() {
     assert_eq!(Recorder::start(&[0; 33]), Err(Refusal::TruckCount));
     assert_eq!(Recorder::start(&[3, 16]), Err(Refusal::Record));
     assert_eq!(Recorder::start(&[0; 32]).unwrap().fleet(), &Fleet::start(32, &[0; 32]).unwrap());
-    for cycle in Cycle::ALL {
+    for &cycle in Cycle::ALL {
         assert_eq!(Recorder::start_in(cycle, &[3, 16]), Err(Refusal::Record));
         let fleet = Recorder::start_in(cycle, &[3, 5]).unwrap().fleet().clone();
         assert_eq!(fleet, Fleet::start(2, &[3, 5]).unwrap());

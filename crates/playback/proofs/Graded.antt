@@ -23,7 +23,7 @@ use Rattle.protocol.proofs.AnyRun.{radio-suc, kept}
 use Rattle.playback.specs.Replays.{noGrades, gradesAfter, FoundAfter}
 use Rattle.playback.specs.Standing.{trucksAfter}
 use Rattle.playback.specs.Grading.{carried, carriedBy}
-use Rattle.playback.proofs.Stood.{nextRadio}
+use Rattle.playback.proofs.AnyStood.{nextRadio}
 
 -- round k + 1 of these rounds of a recording on the radio, by the rules of a cycle
 abbrev pub radioAfter : Rules recorded → (ℕ → List ℕ) → List ℕ → ℕ → Radio

@@ -25,9 +25,8 @@ use Rattle.playback.specs.Listens.{rowFrom}
 use Rattle.playback.specs.Standing.{holds}
 use Rattle.playback.specs.Grading.{carried, heardAt, missesSome, carriedBy, gradesOf, RadioSets, askedOf, Judges}
 use Rattle.playback.specs.declared.grading.Missed.{Missed}
-use Rattle.playback.proofs.Radios.{heard-fits, count-members, some-members}
+use Rattle.playback.proofs.Radios.{heard-fits, heard-silent, count-members, some-members}
 use Rattle.playback.proofs.Places.{turn-back}
-use Rattle.playback.proofs.Stood.{heard-silent}
 
 -- the truck at place p misses a message
 abbrev missedAt : List ℕ → ℕ → ℕ → ℕ → ℕ → Bool

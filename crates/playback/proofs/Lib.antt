@@ -6,6 +6,7 @@ pub mod Reading
 pub mod Asking
 pub mod Places
 pub mod Pairs
+pub mod AnyStood
 pub mod Stood
 pub mod StoodTwo
 pub mod StoodSix

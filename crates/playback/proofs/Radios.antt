@@ -1,11 +1,11 @@
 -- A round on the radio by sets of trucks: who is heard, and how many.
 use mathlib.Core.Path.{_≡_, refl, ap, ap₂, sym, _∙_}
-use mathlib.Core.Bool.{Bool, true, false, not, _&&_, _||_}
+use mathlib.Core.Bool.{Bool, true, false, not, _&&_, _||_, and-false}
 use Prim.Native.Nat.{ℕ, _^_, _<_}
 use native.Mathlib.Omega.{arith}
 use native.Mathlib.Decide.{ℕ-discrete}
 use borrow.Author.Tests.{eq-eqb, ne-eqb, lt-ltb, le-ltb}
-use lib.Bits.{bitAnd, bitOr, bitXor, and-le-l, or-lt, xor-lt}
+use lib.Bits.{bitAnd, bitOr, bitXor, and-zero-l, or-zero-r, and-le-l, or-lt, xor-lt}
 use lib.Count.{ones, ones-ones}
 use lib.Dec.{eqb, ltb}
 use lib.ListN.{length}
@@ -15,7 +15,7 @@ use Rattle.radio.specs.Radio.{Radio, hears}
 use Rattle.basics.proofs.Laws.{who-ext}
 use Rattle.radio.proofs.Laws.{count-some}
 use Rattle.basics.proofs.Bits.{bit-and, bit-or}
-use Rattle.sets.proofs.Words.{bit-without, bit-power, ones-count, some-bit}
+use Rattle.sets.proofs.Words.{bit-without, bit-power, no-bits, ones-count, some-bit}
 use Rattle.sets.specs.Sets.{Members, without}
 use Rattle.playback.specs.Sets.{heardSet}
 use Rattle.sets.proofs.Members.{members-and, members-without}
@@ -58,6 +58,24 @@ pub heard-fits : (senders row p : ℕ) → senders < 2 ^ 32 → heardSet senders
 unfolding heardSet
 heard-fits senders row p l =
     or-lt 32 (without senders row) (bitAnd senders (2 ^ p)) (xor-lt 32 senders (bitAnd senders row) l (omega (arith, and-le-l senders row))) (omega (arith, and-le-l senders (2 ^ p)))
+
+-- nobody is heard where nobody sends
+pub heard-silent : (senders row p : ℕ) → senders ≡ 0 → heardSet senders row p ≡ 0
+unfolding heardSet
+heard-silent senders row p z = rw (z, and-zero-l row, and-zero-l (2 ^ p))
+
+-- one that doesn't send itself hears no more than the row says
+pub heard-others : (senders row p : ℕ) → senders < 2 ^ 32 → bit senders p ≡ false → heardSet senders row p ≡ without senders row
+unfolding heardSet
+heard-others senders row p lt h =
+    ap (bitOr (without senders row))
+    (no-bits (bitAnd senders (2 ^ p)) 32 (omega (arith, and-le-l senders (2 ^ p)))
+    (λ j l. bit-and senders (2 ^ p) j ∙ ap (λ (b : Bool). bit senders j && b) (bit-power p j) ∙ go j (ℕ-discrete p j)))
+    ∙ or-zero-r (without senders row)
+  where
+    go : (j : ℕ) → Dec (p ≡ j) → (bit senders j && eqb p j) ≡ false
+    go j (yes e) = ap (λ (b : Bool). b && eqb p j) (ap (bit senders) (sym e) ∙ h)
+    go j (no e) = ap (λ (b : Bool). bit senders j && b) (ne-eqb p j e) ∙ and-false (bit senders j)
 
 -- the trucks that truck i hears
 module _ (a : Radio) (i senders row : ℕ) (sends : Members senders (a .trucks) (a .sends)) (lost : (j : ℕ) → j < a .trucks → a .sends j ≡ true → a .lost i j ≡ bit row j) where

@@ -1,26 +1,25 @@
--- The sets of a run stand for the trucks after each round: what depends only on stops and hearing, for the rules of any cycle.
+-- The sets of a run stand for the trucks of a fleet record after each round, for the rules of any cycle. What needs no record is in AnyStood.
 use mathlib.Core.Path.{_≡_, refl, ap, ap₂, sym, subst, _∙_}
 use mathlib.Core.Bool.{Bool, true, false, cond, not, _&&_, _||_, and-false, true≢false, false≢true}
 use mathlib.Core.List.{List, map}
 use Prim.Native.Nat.{ℕ, suc, _+_, _*_, _-_, _^_, _≤_, _<_}
-use native.Mathlib.Nat.{add-mul}
-use native.Mathlib.Decide.{decLt, ℕ-discrete}
+use native.Mathlib.Decide.{decLt}
 use native.Mathlib.Omega.{arith}
-use borrow.Author.Tests.{ne-eqb, eqb-true, lt-ltb, le-ltb, not-true}
-use lib.Bits.{bitAnd, bitOr, and-zero-l, or-zero-r, xor-lt, and-le-l}
+use borrow.Author.Tests.{eqb-true, lt-ltb, le-ltb, not-true}
+use lib.Bits.{bitAnd, bitOr, xor-lt}
 use lib.Dec.{eqb, ltb}
-use lib.Pow.{pow-mono}
 use lib.ListN.{length, getD}
 use Rattle.basics.specs.Bits.{bit}
 use Rattle.basics.specs.Lists.{who, filled}
 use Rattle.basics.proofs.Laws.{getD-filled, length-filled, and-left, and-right}
-use Rattle.radio.specs.Round.{stopBit, activeBit, markBit, lossBit}
-use Rattle.radio.specs.Radio.{Radio, hears, heard, heardBy}
+use Rattle.radio.specs.Round.{stopBit, activeBit, markBit}
+use Rattle.radio.specs.Radio.{hears, heard, heardBy}
 use Rattle.radio.proofs.Laws.{hears-itself, count-some}
 use Rattle.basics.proofs.Bits.{bit-and, bit-or, bit-xor, oneOf}
-use Rattle.sets.proofs.Words.{bit-without, bit-zero, bit-power, no-bits}
-use Rattle.sets.proofs.Mirror.{mirror-twice, mirror-zero}
+use Rattle.sets.proofs.Words.{bit-without, bit-zero}
+use Rattle.sets.proofs.Mirror.{mirror-twice}
 use Rattle.bitreader.specs.Bits.{mirrored}
+use Rattle.bitreader.proofs.Digits.{mirrored-lt}
 use Rattle.protocol.specs.declared.Heard.{Heard}
 use Rattle.protocol.specs.declared.Heard.the-variants.{Nothing, One, Several}
 use Rattle.protocol.specs.declared.State.{State}
@@ -29,20 +28,21 @@ use Rattle.protocol.specs.declared.Sent.{Sent}
 use Rattle.protocol.specs.declared.Truck.{Truck}
 use Rattle.protocol.specs.Cycles.{Rules, radioIn, valuesIn, playsIn, afterIn, isRunning, turn}
 use Rattle.protocol.specs.Rules.{recorded, opened, truck, isOne, isSeveral, runs, different, leastOr, valuesHeard}
+use Rattle.protocol.proofs.AnyRound.{after-cases}
 use Rattle.protocol.proofs.Values.{least-silent, least-same}
 use Rattle.playback.specs.declared.hearing.Values.{Values}
 use Rattle.playback.specs.declared.replay.Vetoed.{Vetoed}
 use Rattle.sets.specs.Sets.{Members, without}
-use Rattle.playback.specs.Sets.{Sorted, heardSet, valuesOf}
-use Rattle.playback.specs.Sets.{estimates}
+use Rattle.playback.specs.Sets.{Sorted, heardSet, valuesOf, estimates}
 use Rattle.playback.specs.Listens.{rowFrom, heardFrom, someValue, settled}
 use Rattle.playback.specs.Standing.{ReadsAs, Active, nextTrucks, holds, wordFrom, stateOf, memoryOf, standing, sentBy, Stands, goingOn, sendersOf, mayOf, vetoersOf, Vetoes, noted}
 use Rattle.playback.specs.Grading.{RadioSets}
 use Rattle.sets.proofs.Members.{member-below}
 use Rattle.playback.proofs.ByCrusher.{values-right, values-silent}
-use Rattle.playback.proofs.Radios.{who-members, some-members, hearers}
-use Rattle.playback.proofs.Packed.{plainRows, row-plain, heard-packed, values-packed}
-use Rattle.playback.proofs.Places.{turn-back, plain-bit, placed, ones-below}
+use Rattle.playback.proofs.Radios.{who-members, heard-fits, heard-silent}
+use Rattle.playback.proofs.Packed.{plainRows, row-plain, values-packed}
+use Rattle.playback.proofs.Places.{placed, ones-below}
+use Rattle.playback.proofs.AnyStood.{nextRadio, RunningSet, SendingSet, mark-bit, going-bit, going-none, going-lt, sending-set, heard-plain, others-heard, radio-sets}
 
 -- ---- one truck
 -- trucks whose parts are the same
@@ -78,39 +78,18 @@ module _ (o k end : ℕ) (x y t : Truck) (m u m′ u′ : Bool) where
       go false true b false e a q s p = e
       go false false b false e a q s p = e
 
--- a running truck whose stop bit is clear plays
-plays-on : (s : State) (b : Bool) (a x t : Truck) → isRunning s ≡ true → b ≡ false → turn s b a x t ≡ x
-plays-on Running true a x t r h = absurd (true≢false h)
-plays-on Running false a x t r h = refl
-plays-on (Stopped q) b a x t r h = absurd (false≢true r)
-plays-on (Decided q) b a x t r h = absurd (false≢true r)
+pub or-false : (b : Bool) → (b || false) ≡ b
+or-false true = refl
+or-false false = refl
+
+-- nobody is in the empty set
+pub none-in : (b : Bool) (j : ℕ) → (b && holds 0 j) ≡ false
+none-in b j = ap (λ (x : Bool). b && x) (bit-zero (31 - j)) ∙ and-false b
 
 pub memory-back : (h : Heard) → memoryOf (isOne h) (isSeveral h) ≡ h
 memory-back Nothing = refl
 memory-back One = refl
 memory-back Several = refl
-
--- nobody is heard where nobody sends
-pub heard-silent : (senders row p : ℕ) → senders ≡ 0 → heardSet senders row p ≡ 0
-unfolding heardSet
-heard-silent senders row p z = rw (z, and-zero-l row, and-zero-l (2 ^ p))
-
--- one that doesn't send itself hears no more than the row says
-pub heard-others : (senders row p : ℕ) → senders < 2 ^ 32 → bit senders p ≡ false → heardSet senders row p ≡ without senders row
-unfolding heardSet
-heard-others senders row p lt h =
-    ap (bitOr (without senders row))
-    (no-bits (bitAnd senders (2 ^ p)) 32 (omega (arith, and-le-l senders (2 ^ p)))
-    (λ j l. bit-and senders (2 ^ p) j ∙ ap (λ (b : Bool). bit senders j && b) (bit-power p j) ∙ go j (ℕ-discrete p j)))
-    ∙ or-zero-r (without senders row)
-  where
-    go : (j : ℕ) → Dec (p ≡ j) → (bit senders j && eqb p j) ≡ false
-    go j (yes e) = ap (λ (b : Bool). b && eqb p j) (ap (bit senders) (sym e) ∙ h)
-    go j (no e) = ap (λ (b : Bool). bit senders j && b) (ne-eqb p j e) ∙ and-false (bit senders j)
-
--- the next round on the radio
-abbrev pub nextRadio : Rules recorded → ℕ → ℕ → List ℕ → List Truck → Radio
-nextRadio c n k w ts = radioIn c n (activeBit w) (suc k) w ts
 
 module _ {n last k : ℕ} {opening : ℕ → ℕ} {ts : List Truck} {by ends sent : List ℕ} {running decided marked one several unwilling : ℕ} (st : Stands n last k opening ts by ends sent running decided marked one several unwilling) where
   pub runs-is : (j : ℕ) → j < n → runs (truck ts j) ≡ holds running j
@@ -121,12 +100,20 @@ module _ {n last k : ℕ} {opening : ℕ → ℕ} {ts : List Truck} {by ends sen
       go false true = refl
       go false false = refl
 
+  pub running-set : RunningSet recorded n ts running
+  running-set = record { each = runs-is; none = st .none; fits = st .fits }
+
   -- the parts of a truck's record
   pub opening-is : (j : ℕ) → j < n → truck ts j .opening ≡ opening j
   opening-is j l = ap (λ (t : Truck). t .opening) (st .each j l)
 
   pub running-is : (j : ℕ) → j < n → holds running j ≡ true → truck ts j .state ≡ Running
   running-is j l r = ap (λ (t : Truck). t .state) (st .each j l) ∙ ap (λ (b : Bool). stateOf b (holds decided j) (getD ends j 0)) r
+
+  -- its state, where it decides in round k + 1 or runs on
+  pub state-is : (j : ℕ) → j < n → holds running j ≡ true → (b : Bool) → cond b (Decided (suc k)) (truck ts j .state) ≡ stateOf (not b) b (cond b (suc k) (getD ends j 0))
+  state-is j l r true = refl
+  state-is j l r false = running-is j l r
 
   pub mark-is : (j : ℕ) → j < n → truck ts j .mark ≡ (holds running j && holds marked j)
   mark-is j l = ap (λ (t : Truck). t .mark) (st .each j l)
@@ -148,35 +135,12 @@ module _ {n last k : ℕ} {opening : ℕ → ℕ} {ts : List Truck} {by ends sen
       unfolding afterIn
       next-truck j l = getD-filled _ n ts j (opened 0) l
 
-      word-bit : (i p j : ℕ) → (i ≡ 1 → ⊥) → i < 3 + n → p ≡ at + i * n → j < n → holds (wordFrom s p) j ≡ bit (getD w i 0) j
-      word-bit i p j ne li e l = ap (λ (x : ℕ). holds (wordFrom s x) j) e ∙ reads i j ne li l
-
-      pub stop-bit : (j : ℕ) → j < n → holds (wordFrom s at) j ≡ stopBit w j
-      stop-bit j l = word-bit 0 at j (λ z. omega arith) (omega arith) (omega arith) l
-
-      pub mark-bit : (j : ℕ) → j < n → holds (wordFrom s (at + 2 * n)) j ≡ markBit w j
-      mark-bit j l = word-bit 2 (at + 2 * n) j (λ z. omega arith) (omega arith) refl l
-
-      row-bit : (i j : ℕ) → i < n → j < n → holds (rowFrom s (at + 3 * n) n (31 - i)) j ≡ lossBit w i j
-      row-bit i j li l =
-          ap (λ (x : ℕ). holds (wordFrom s (at + 3 * n + x * n)) j) (turn-back i (omega (arith, few)))
-          ∙ word-bit (3 + i) (at + 3 * n + i * n) j (λ z. omega arith) (omega arith) (omega (arith, add-mul 3 i n)) l
-
-      pub going-bit : (j : ℕ) → j < n → holds (goingOn s at running) j ≡ (holds running j && not (stopBit w j))
-      going-bit j l = bit-without running (wordFrom s at) (31 - j) ∙ ap (λ (b : Bool). holds running j && not b) (stop-bit j l)
-
-      pub going-none : (j : ℕ) → n ≤ j → j < 32 → holds (goingOn s at running) j ≡ false
-      going-none j o l = bit-without running (wordFrom s at) (31 - j) ∙ ap (λ (b : Bool). b && not (holds (wordFrom s at) j)) (st .none j o l)
-
-      pub going-lt : goingOn s at running < 2 ^ 32
-      going-lt = xor-lt 32 running (bitAnd running (wordFrom s at)) (st .fits) (omega (arith, and-le-l running (wordFrom s at), st .fits))
-
       -- a truck that goes on plays
       pub next-plays : (j : ℕ) → j < n → (holds running j && not (stopBit w j)) ≡ true → truck (nextTrucks rules n k w ts) j ≡ playsIn rules (nextRadio rules n k w ts) (suc k) w ts j
       next-plays j l g =
-          next-truck j l
-          ∙ plays-on (truck ts j .state) (stopBit w j) (rules .stops (suc k) (truck ts j)) (playsIn rules (nextRadio rules n k w ts) (suc k) w ts j) (truck ts j)
-          (runs-is j l ∙ and-left (holds running j) (not (stopBit w j)) g) (not-true (stopBit w j) (and-right (holds running j) (not (stopBit w j)) g))
+          after-cases rules n (activeBit w) (suc k) w ts (λ (t : Truck). t ≡ playsIn rules (nextRadio rules n k w ts) (suc k) w ts j) j l
+          (λ h. absurd (true≢false (sym (runs-is j l ∙ and-left (holds running j) (not (stopBit w j)) g) ∙ h)))
+          (λ h b. absurd (true≢false (sym b ∙ not-true (stopBit w j) (and-right (holds running j) (not (stopBit w j)) g)))) (λ h r. refl)
 
       -- its estimate after the round, where a stop leaves that as it was
       pub estimate-after : ((t : Truck) → rules .stops (suc k) t .estimate ≡ t .estimate) → (j : ℕ) → j < n
@@ -194,73 +158,39 @@ module _ {n last k : ℕ} {opening : ℕ → ℕ} {ts : List Truck} {by ends sen
           go (Decided q) b x y t e = refl
 
       -- where no truck changes its estimate the crushers' trucks stay
-      pub sorted-kept : ((j : ℕ) → j < n → truck (nextTrucks rules n k w ts) j .estimate ≡ truck ts j .estimate)
+      pub sorted-kept : ((t : Truck) → rules .stops (suc k) t .estimate ≡ t .estimate)
+          → ((j : ℕ) → playsIn rules (nextRadio rules n k w ts) (suc k) w ts j .estimate ≡ truck ts j .estimate)
           → (c : ℕ) → c < 16 → (j : ℕ) → j < 32 → holds (getD by c 0) j ≡ (ltb j n && eqb (truck (nextTrucks rules n k w ts) j .estimate) c)
-      sorted-kept same c lc j l32 = st .sorted c lc j l32 ∙ go (decLt j n)
+      sorted-kept keeps stays c lc j l32 = st .sorted c lc j l32 ∙ go (decLt j n)
         where
+          same : (b : Bool) (x : ℕ) → x ≡ truck ts j .estimate → cond b x (truck ts j .estimate) ≡ truck ts j .estimate
+          same true x e = e
+          same false x e = refl
+
           go : Dec (j < n) → (ltb j n && eqb (truck ts j .estimate) c) ≡ (ltb j n && eqb (truck (nextTrucks rules n k w ts) j .estimate) c)
-          go (yes l) = ap (λ (x : ℕ). ltb j n && eqb x c) (sym (same j l))
+          go (yes l) = ap (λ (x : ℕ). ltb j n && eqb x c) (sym (estimate-after keeps j l ∙ same (holds running j && not (stopBit w j)) _ (stays j)))
           go (no h) = rw (le-ltb j n (omega arith))
 
-      -- those whose end it is, where those of on run on
-      pub ended-bit : (on j : ℕ) → holds (without running on) j ≡ (holds running j && not (holds on j))
-      ended-bit on j = bit-without running on (31 - j)
+      -- the values that truck i hears of the senders
+      module _ {senders : ℕ} (sending : SendingSet (nextRadio rules n k w ts) n senders) (i : ℕ) (l : i < n) where
+        abbrev packed : ℕ
+        packed = heardSet senders (rowFrom s (at + 3 * n) n (31 - i)) (31 - i)
 
-      -- what truck i hears of the senders
-      module _ (senders : ℕ) (lt : senders < 2 ^ 32) (sends : Members (mirrored 32 senders) n (nextRadio rules n k w ts .sends)) (i : ℕ) (l : i < n) where
-        abbrev row : ℕ
-        row = rowFrom s (at + 3 * n) n (31 - i)
+        heard-members : Members (mirrored 32 packed) n (hears (nextRadio rules n k w ts) i)
+        heard-members = heard-plain rules k few running-set s at w reads sending i l
 
-        abbrev plainHeard : ℕ
-        plainHeard = heardSet (mirrored 32 senders) (mirrored 32 row) i
-
-        heard-members : Members plainHeard n (hears (nextRadio rules n k w ts) i)
-        unfolding radioIn
-        heard-members = hearers (nextRadio rules n k w ts) i (mirrored 32 senders) (mirrored 32 row) sends (λ j lj h. sym (plain-bit row j (omega (arith, few)) ∙ row-bit i j l lj))
-
-        heard-lt : plainHeard < 2 ^ 32
-        heard-lt = omega (arith, heard-members .below, pow-mono few)
-
-        heard-turned : heardSet senders row (31 - i) ≡ mirrored 32 plainHeard
-        heard-turned =
-            ap₂ (λ (x p : ℕ). heardSet x row p) (sym (mirror-twice 32 senders lt)) (let e : 31 - i ≡ 32 - suc i = omega (arith, few) in e)
-            ∙ heard-packed 32 (mirrored 32 senders) row i (omega (arith, few))
-
-        heard-plain : Members (mirrored 32 (heardSet senders row (31 - i))) n (hears (nextRadio rules n k w ts) i)
-        heard-plain = rw (heard-turned, mirror-twice 32 plainHeard heard-lt) heard-members
-
-        values-heard : map (estimates ts) (who (bit plainHeard) n) ≡ valuesHeard (nextRadio rules n k w ts) ts i
+        values-heard : map (estimates ts) (who (bit (mirrored 32 packed)) n) ≡ valuesHeard (nextRadio rules n k w ts) ts i
         unfolding valuesIn heardBy radioIn
         values-heard = sym (ap (map (estimates ts)) (who-members heard-members))
 
-        values-are : valuesOf by (heardSet senders row (31 - i)) 16
+        values-are : valuesOf by packed 16
             ≡ record { heard = different (valuesHeard (nextRadio rules n k w ts) ts i); least = leastOr 16 (valuesHeard (nextRadio rules n k w ts) ts i) }
         values-are =
-            ap (λ (h : ℕ). valuesOf by h 16) heard-turned
-            ∙ values-packed 32 by plainHeard 16 heard-lt
-            ∙ values-right (plainRows 32 by) n (2 ^ n - 1) plainHeard 16 (estimates ts) sorted-plain (heard-members .below)
+            ap (λ (h : ℕ). valuesOf by h 16) (sym (mirror-twice 32 packed (heard-fits senders (rowFrom s (at + 3 * n) n (31 - i)) (31 - i) (sending .fits))))
+            ∙ values-packed 32 by (mirrored 32 packed) 16 (mirrored-lt 32 packed)
+            ∙ values-right (plainRows 32 by) n (2 ^ n - 1) (mirrored 32 packed) 16 (estimates ts) sorted-plain (heard-members .below)
             (λ j h. ones-below n j (member-below heard-members j h)) (λ j lj h. small j lj)
             ∙ ap (λ (vs : List ℕ). record { heard = different vs; least = leastOr 16 vs }) values-heard
-
-        pub any-heard : ltb 0 (heard (nextRadio rules n k w ts) i) ≡ not (eqb (heardSet senders row (31 - i)) 0)
-        unfolding heard heardBy radioIn
-        any-heard = some-members heard-members ∙ ap not (sym (ap (λ (x : ℕ). eqb x 0) heard-turned ∙ mirror-zero 32 plainHeard heard-lt))
-
-      -- the round on the radio, by sets
-      pub radio-sets : (senders : ℕ) → senders < 2 ^ 32 → Members (mirrored 32 senders) n (nextRadio rules n k w ts .sends)
-          → RadioSets (nextRadio rules n k w ts) s (at + 3 * n) n (goingOn s at running) senders (wordFrom s (at + 2 * n))
-      unfolding radioIn
-      radio-sets senders lt sends =
-          record {
-            few = few;
-            fits = lt;
-            goes = going-lt;
-            running = λ j l. ap (λ (b : Bool). b && not (stopBit w j)) (runs-is j l) ∙ sym (going-bit j l);
-            none = going-none;
-            sends = sends;
-            marked = λ j l. sym (mark-bit j l);
-            heard = λ i l. heard-plain senders lt sends i l;
-          }
 
       -- the sets after the round stand for the trucks after it: on are those that run on, dn says who decides
       module _ (on decided′ mark′ one′ several′ unwilling′ : ℕ) (by′ sent′ : List ℕ) (dn : ℕ → Bool)
@@ -287,7 +217,7 @@ module _ {n last k : ℕ} {opening : ℕ → ℕ} {ts : List Truck} {by ends sen
             → getD (filled (noted ends (without running on) (suc k)) 32 ends) j 0 ≡ cond (holds running j && not ((holds running j && not (stopBit w j)) && not (dn j))) (suc k) (getD ends j 0)
         end-is j l =
             getD-filled (noted ends (without running on) (suc k)) 32 ends j 0 (omega (arith, few))
-            ∙ ap (λ (b : Bool). cond b (suc k) (getD ends j 0)) (ended-bit on j ∙ ap (λ (b : Bool). holds running j && not b) (on-is j l))
+            ∙ ap (λ (b : Bool). cond b (suc k) (getD ends j 0)) (bit-without running on (31 - j) ∙ ap (λ (b : Bool). holds running j && not b) (on-is j l))
 
         -- the round of those that decide
         pub end-now : (j : ℕ) → j < n → dn j ≡ true → (holds running j && not (stopBit w j)) ≡ true → getD (filled (noted ends (without running on) (suc k)) 32 ends) j 0 ≡ suc k
@@ -335,25 +265,8 @@ module _ {n last k : ℕ} {opening : ℕ → ℕ} {ts : List Truck} {by ends sen
         abbrev senders : ℕ
         senders = sendersOf s at running active
 
-        pub senders-lt : senders < 2 ^ 32
-        senders-lt = omega (arith, and-le-l (goingOn s at running) active, going-lt)
-
-        pub proposers-bit : (j : ℕ) → j < n → holds senders j ≡ nextRadio rules n k w ts .sends j
-        unfolding radioIn
-        proposers-bit j l =
-            bit-and (goingOn s at running) active (31 - j) ∙ ap (λ (b : Bool). b && holds active j) (going-bit j l)
-            ∙ go (holds running j) (not (stopBit w j)) (holds active j) (activeBit w j) (actives j l)
-            ∙ sym (ap₂ (λ (x y : Bool). (x && not (stopBit w j)) && y) (runs-is j l) (asks (activeBit w j) (truck ts j)))
-          where
-            go : (x y b c : Bool) → (x ≡ true → b ≡ c) → ((x && y) && b) ≡ ((x && y) && c)
-            go true true b c e = e refl
-            go true false b c e = refl
-            go false y b c e = refl
-
-        pub proposers-are : Members (mirrored 32 senders) n (nextRadio rules n k w ts .sends)
-        proposers-are =
-            placed senders n (nextRadio rules n k w ts .sends) few proposers-bit
-            (λ j h l. bit-and (goingOn s at running) active (31 - j) ∙ ap (λ (b : Bool). b && holds active j) (going-none j h l))
+        pub proposing : SendingSet (nextRadio rules n k w ts) n (sendersOf s at running active)
+        proposing = sending-set rules k few running-set s at w reads active (λ j l r. asks (activeBit w j) (truck ts j) ∙ sym (actives j l r))
 
         abbrev values : ℕ → List ℕ
         values j = valuesHeard (nextRadio rules n k w ts) ts j
@@ -362,7 +275,7 @@ module _ {n last k : ℕ} {opening : ℕ → ℕ} {ts : List Truck} {by ends sen
         from j = heardFrom s (at + 3 * n) n senders by (31 - j)
 
         pub from-is : (j : ℕ) → j < n → from j ≡ record { heard = different (values j); least = leastOr 16 (values j) }
-        from-is j l = values-are senders senders-lt proposers-are j l
+        from-is j l = values-are proposing j l
 
         -- rows are read of those that go on without those of `unread`, and nobody's where nobody sends
         module _ (unread : ℕ) where
@@ -374,7 +287,7 @@ module _ {n last k : ℕ} {opening : ℕ → ℕ} {ts : List Truck} {by ends sen
             where
               go : (b : Bool) → holds (cond b 0 (without (goingOn s at running) unread)) j ≡ false
               go true = bit-zero (31 - j)
-              go false = bit-without (goingOn s at running) unread (31 - j) ∙ ap (λ (b : Bool). b && not (holds unread j)) (going-none j h l)
+              go false = bit-without (goingOn s at running) unread (31 - j) ∙ ap (λ (b : Bool). b && not (holds unread j)) (going-none running-set s at j h l)
 
           -- of those wanted, who heard something of a kind: as if they listened in a silent round too
           pub listens : (f : Heard → Bool) → f Nothing ≡ false → (j : ℕ) → j < n
@@ -392,7 +305,7 @@ module _ {n last k : ℕ} {opening : ℕ → ℕ} {ts : List Truck} {by ends sen
                   ∙ sym (ap (λ (b : Bool). ((holds running j && not (stopBit w j)) && not (holds unread j)) && b) (ap f quiet ∙ z) ∙ and-false ((holds running j && not (stopBit w j)) && not (holds unread j)))
               go false e =
                   ap (λ (b : Bool). b && f (different (values j)))
-                  (bit-without (goingOn s at running) unread (31 - j) ∙ ap (λ (b : Bool). b && not (holds unread j)) (going-bit j l))
+                  (bit-without (goingOn s at running) unread (31 - j) ∙ ap (λ (b : Bool). b && not (holds unread j)) (going-bit n s at w reads running j l))
 
         -- those of them that have no mark and hear something, `changed`, take the least value that they hear
         module _ (takes : (j : ℕ) → j < n
@@ -474,25 +387,8 @@ module _ {n last k : ℕ} {opening : ℕ → ℕ} {ts : List Truck} {by ends sen
         abbrev vetoers : ℕ
         vetoers = vetoersOf s at running vet sev
 
-        pub vetoers-lt : vetoersOf s at running vet sev < 2 ^ 32
-        vetoers-lt = omega (arith, and-le-l (goingOn s at running) (bitOr vet sev), going-lt)
-
-        pub vetoers-bit : (j : ℕ) → j < n → holds (vetoersOf s at running vet sev) j ≡ nextRadio rules n k w ts .sends j
-        unfolding radioIn
-        vetoers-bit j l =
-            bit-and (goingOn s at running) (bitOr vet sev) (31 - j) ∙ ap₂ _&&_ (going-bit j l) (bit-or vet sev (31 - j))
-            ∙ go (holds running j) (not (stopBit w j)) (holds vet j || holds sev j) (rules .sends (suc k) (activeBit w j) (truck ts j)) (λ r. vetoes j l r (activeBit w j))
-            ∙ sym (ap (λ (x : Bool). (x && not (stopBit w j)) && rules .sends (suc k) (activeBit w j) (truck ts j)) (runs-is j l))
-          where
-            go : (x y b c : Bool) → (x ≡ true → c ≡ b) → ((x && y) && b) ≡ ((x && y) && c)
-            go true true b c e = sym (e refl)
-            go true false b c e = refl
-            go false y b c e = refl
-
-        vetoers-are : Members (mirrored 32 vetoers) n (nextRadio rules n k w ts .sends)
-        vetoers-are =
-            placed vetoers n (nextRadio rules n k w ts .sends) few vetoers-bit
-            (λ j h l. bit-and (goingOn s at running) (bitOr vet sev) (31 - j) ∙ ap (λ (b : Bool). b && holds (bitOr vet sev) j) (going-none j h l))
+        pub vetoing : SendingSet (nextRadio rules n k w ts) n (vetoersOf s at running vet sev)
+        vetoing = sending-set rules k few running-set s at w reads (bitOr vet sev) (λ j l r. vetoes j l r (activeBit w j) ∙ sym (bit-or vet sev (31 - j)))
 
         -- it hears a veto
         abbrev pub veto : ℕ → Bool
@@ -504,7 +400,7 @@ module _ {n last k : ℕ} {opening : ℕ → ℕ} {ts : List Truck} {by ends sen
         own-veto j l g v =
             lt-ltb 0 (length (who (hears (nextRadio rules n k w ts) j) n))
             (count-some (hears (nextRadio rules n k w ts) j) n j l (hears-itself (nextRadio rules n k w ts) j
-            (sym (vetoers-bit j l) ∙ bit-and (goingOn s at running) (bitOr vet sev) (31 - j) ∙ ap₂ _&&_ (going-bit j l ∙ g) (bit-or vet sev (31 - j) ∙ ap (λ (b : Bool). b || holds sev j) v))))
+            (sym (vetoing .each j l) ∙ bit-and (goingOn s at running) (bitOr vet sev) (31 - j) ∙ ap₂ _&&_ (going-bit n s at w reads running j l ∙ g) (bit-or vet sev (31 - j) ∙ ap (λ (b : Bool). b || holds sev j) v))))
 
         abbrev unheard : ℕ → Bool
         unheard j = eqb (without vetoers (rowFrom s (at + 3 * n) n (31 - j))) 0
@@ -520,7 +416,7 @@ module _ {n last k : ℕ} {opening : ℕ → ℕ} {ts : List Truck} {by ends sen
 
         decides-is : (j : ℕ) → j < n → (holds (mayOf s at n running vet lone) j && unheard j) ≡ decidesNow j
         decides-is j l =
-            ap (λ (b : Bool). b && unheard j) (may-bit j ∙ ap₂ (λ (x y : Bool). (x && holds lone j) && not (y || holds vet j)) (going-bit j l) (mark-bit j l))
+            ap (λ (b : Bool). b && unheard j) (may-bit j ∙ ap₂ (λ (x y : Bool). (x && holds lone j) && not (y || holds vet j)) (going-bit n s at w reads running j l) (mark-bit n s at w reads j l))
             ∙ go (holds running j && not (stopBit w j)) refl (holds lone j) refl (holds vet j) refl
           where
             top : (y z : Bool) → (not (y || true) && z) ≡ false
@@ -543,9 +439,7 @@ module _ {n last k : ℕ} {opening : ℕ → ℕ} {ts : List Truck} {by ends sen
                 let out : holds vetoers j ≡ false = bit-and (goingOn s at running) (bitOr vet sev) (31 - j)
                 ∙ ap (λ (b : Bool). holds (goingOn s at running) j && b) (bit-or vet sev (31 - j) ∙ ap₂ _||_ ev (silent j l r eo ev))
                 ∙ and-false (holds (goingOn s at running) j) in
-                let h : veto j ≡ not (unheard j) = any-heard vetoers vetoers-lt vetoers-are j l
-                ∙ ap (λ (x : ℕ). not (eqb x 0)) (heard-others vetoers (rowFrom s (at + 3 * n) n (31 - j)) (31 - j) vetoers-lt out) in
-                both (unheard j) (markBit w j) ∙ ap (λ (x : Bool). not (markBit w j) && not x) (sym h)
+                both (unheard j) (markBit w j) ∙ ap (λ (x : Bool). not (markBit w j) && not x) (sym (others-heard rules k few running-set s at w reads vetoing j l out))
 
         module _ {r : Vetoed} (p : Vetoes s at n running vet lone sev r) where
           pub done-bit : (j : ℕ) → j < n → holds (r .done) j ≡ decidesNow j
@@ -554,14 +448,14 @@ module _ {n last k : ℕ} {opening : ℕ → ℕ} {ts : List Truck} {by ends sen
           done-none : (j : ℕ) → n ≤ j → j < 32 → holds (r .done) j ≡ false
           done-none j h l =
               p .done .each (31 - j) (omega arith)
-              ∙ ap (λ (b : Bool). b && unheard j) (may-bit j ∙ ap (λ (b : Bool). (b && holds lone j) && not (holds (wordFrom s (at + 2 * n)) j || holds vet j)) (going-none j h l))
+              ∙ ap (λ (b : Bool). b && unheard j) (may-bit j ∙ ap (λ (b : Bool). (b && holds lone j) && not (holds (wordFrom s (at + 2 * n)) j || holds vet j)) (going-none running-set s at j h l))
 
           on-both : (j : ℕ) → holds (r .on) j ≡ oneOf (holds (goingOn s at running) j) (holds (r .done) j)
           on-both j = ap (λ (x : ℕ). holds x j) (p .on) ∙ bit-xor (goingOn s at running) (r .done) (31 - j)
 
           pub on-bit : (j : ℕ) → j < n → holds (r .on) j ≡ ((holds running j && not (stopBit w j)) && not (holds (r .done) j))
           on-bit j l =
-              on-both j ∙ ap (λ (b : Bool). oneOf b (holds (r .done) j)) (going-bit j l)
+              on-both j ∙ ap (λ (b : Bool). oneOf b (holds (r .done) j)) (going-bit n s at w reads running j l)
               ∙ go (holds running j && not (stopBit w j)) (holds (r .done) j) ((holds lone j && not (holds vet j)) && not (markBit w j) && not (veto j)) (done-bit j l)
             where
               go : (g d x : Bool) → d ≡ (g && x) → oneOf g d ≡ (g && not d)
@@ -570,13 +464,13 @@ module _ {n last k : ℕ} {opening : ℕ → ℕ} {ts : List Truck} {by ends sen
               go false false x e = refl
 
           pub on-none : (j : ℕ) → n ≤ j → j < 32 → holds (r .on) j ≡ false
-          on-none j h l = on-both j ∙ ap₂ oneOf (going-none j h l) (done-none j h l)
+          on-none j h l = on-both j ∙ ap₂ oneOf (going-none running-set s at j h l) (done-none j h l)
 
           pub on-lt : r .on < 2 ^ 32
-          on-lt = rw (p .on) (xor-lt 32 (goingOn s at running) (r .done) going-lt (p .done .below))
+          on-lt = rw (p .on) (xor-lt 32 (goingOn s at running) (r .done) (going-lt running-set s at) (p .done .below))
 
           pub done-goes : (j : ℕ) → j < n → holds (r .done) j ≡ true → (holds running j && not (stopBit w j)) ≡ true
           done-goes j l h = and-left (holds running j && not (stopBit w j)) ((holds lone j && not (holds vet j)) && not (markBit w j) && not (veto j)) (sym (done-bit j l) ∙ h)
 
           pub veto-radio : RadioSets (nextRadio rules n k w ts) s (at + 3 * n) n (r .going) (r .senders) (r .mark)
-          veto-radio = rw (p .going, p .senders, p .mark) (radio-sets vetoers vetoers-lt vetoers-are)
+          veto-radio = rw (p .going, p .senders, p .mark) (radio-sets rules k few running-set s at w reads vetoing)

@@ -5,7 +5,7 @@ use mathlib.Core.List.{List}
 use Prim.Native.Nat.{ℕ, suc, _+_, _*_, _-_, _%_, _^_, _≤_, _<_}
 use native.Mathlib.Decide.{ℕ-discrete}
 use native.Mathlib.Omega.{arith}
-use borrow.Author.Tests.{eq-eqb, ne-eqb, eqb-true, lt-ltb}
+use borrow.Author.Tests.{eq-eqb, ne-eqb, lt-ltb}
 use lib.Bits.{bitAnd, bitOr, bitXor, and-le-l, or-zero-r, xor-lt}
 use lib.Dec.{eqb, ltb}
 use lib.ListN.{length, getD}
@@ -15,8 +15,7 @@ use Rattle.basics.proofs.Laws.{and-left, some-ext, someBelow-by, none-someBelow
 use Rattle.basics.proofs.Bits.{bit-and, bit-or}
 use Rattle.radio.specs.Round.{stopBit, activeBit, markBit}
 use Rattle.radio.specs.Radio.{Radio, heard}
-use Rattle.bitreader.specs.Bits.{mirrored}
-use Rattle.sets.specs.Sets.{Members, without}
+use Rattle.sets.specs.Sets.{without}
 use Rattle.sets.proofs.Words.{bit-without, bit-zero}
 use Rattle.sets.proofs.Members.{members-ext, members-rest}
 use Rattle.protocol.specs.declared.Heard.{Heard}
@@ -34,16 +33,11 @@ use Rattle.playback.specs.declared.six.Played.{Played}
 use Rattle.playback.specs.declared.replay.Vetoed.{Vetoed}
 use Rattle.playback.specs.Sets.{estimates}
 use Rattle.playback.specs.Listens.{rowFrom, heardFrom, someValue}
-use Rattle.playback.specs.Sets.{heardSet}
-use Rattle.playback.specs.Standing.{ReadsAs, Active, nextTrucks, holds, wordFrom, stateOf, memoryOf, standing, sentBy, Stands, goingOn, proposersOf, mayOf, Vetoes, noted, unmarkedOf, Prepares, quietOf, Listens, willingOf, Accepts}
+use Rattle.playback.specs.Standing.{ReadsAs, Active, nextTrucks, holds, wordFrom, memoryOf, standing, sentBy, Stands, goingOn, proposersOf, mayOf, Vetoes, noted, unmarkedOf, Prepares, quietOf, Listens, willingOf, Accepts}
 use Rattle.playback.specs.Grading.{RadioSets}
-use Rattle.playback.proofs.Places.{placed}
-use Rattle.playback.proofs.Stood.{truck-same, memory-back, heard-silent, heard-others, nextRadio, runs-is, opening-is, running-is, mark-is, unwilling-is, estimate-after, sorted-kept, stands-next, mark-bit, going-bit, going-lt, going-none, any-heard, radio-sets, senders-lt, proposers-are, wanted-none, listens, now-sorted, crushers-kept}
+use Rattle.playback.proofs.AnyStood.{nextRadio, SendingSet, mark-bit, going-bit, going-lt, going-none, sending-set, none-heard, others-heard, radio-sets}
+use Rattle.playback.proofs.Stood.{truck-same, or-false, none-in, memory-back, running-set, opening-is, running-is, state-is, mark-is, unwilling-is, estimate-after, sorted-kept, stands-next, proposing, wanted-none, listens, now-sorted, crushers-kept}
 use Rattle.playback.proofs.Stood.{done-bit, on-bit, on-none, on-lt, done-goes, veto-radio}
-
-or-false : (b : Bool) → (b || false) ≡ b
-or-false true = refl
-or-false false = refl
 
 module _ {n last k : ℕ} {opening : ℕ → ℕ} {ts : List Truck} {by ends sent : List ℕ} {running decided unwilling : ℕ} (st : Stands n last k opening ts by ends sent running decided 0 0 0 unwilling)
     (few : n ≤ 32) (small : (j : ℕ) → j < n → estimates ts j < 16) (s : List ℕ) (at : ℕ) (w : List ℕ) (reads : ReadsAs s at n w) where
@@ -59,12 +53,9 @@ module _ {n last k : ℕ} {opening : ℕ → ℕ} {ts : List Truck} {by ends sen
   runs-now : (j : ℕ) → goes j ≡ true → holds running j ≡ true
   runs-now j g = and-left (holds running j) (not (stopBit w j)) g
 
-  out : (b : Bool) (j : ℕ) → (b && holds 0 j) ≡ false
-  out b j = ap (λ (x : Bool). b && x) (bit-zero (31 - j)) ∙ and-false b
-
   -- nobody remembers a mark, a value or a count
   unmarked : (j : ℕ) → j < n → truck ts j .mark ≡ false
-  unmarked j l = mark-is st j l ∙ out (holds running j) j
+  unmarked j l = mark-is st j l ∙ none-in (holds running j) j
 
   heard-bits : (j : ℕ) → j < n → holds running j ≡ true → (isOne (truck ts j .heard) ≡ holds 0 j) × (isSeveral (truck ts j .heard) ≡ holds 0 j)
   heard-bits j l r = st .heard j l r (λ x. absurd (true≢false (sym x ∙ bit-zero (31 - j))))
@@ -107,11 +98,11 @@ module _ {n last k : ℕ} {opening : ℕ → ℕ} {ts : List Truck} {by ends sen
       → Stands n last (suc k) opening (nextTrucks sixRules n k w ts) by′ (filled (noted ends (without running (goingOn s at running)) (suc k)) 32 ends) sent (goingOn s at running) (bitOr decided 0) 0 0 0 unwilling′
   stands-on unwilling′ by′ plays crushers sorted =
       stands-next st sixRules few small s at w reads (goingOn s at running) (bitOr decided 0) 0 0 0 unwilling′ by′ sent (λ j. false)
-      (λ j l. going-bit st sixRules few small s at w reads j l ∙ sym (and-true (goes j)))
+      (λ j l. going-bit n s at w reads running j l ∙ sym (and-true (goes j)))
       (λ j l. ap (λ (x : ℕ). holds x j) (or-zero-r decided) ∙ sym (or-false (holds decided j)))
-      (going-lt st sixRules few small s at w reads) (going-none st sixRules few small s at w reads) (λ j l d. absurd (true≢false (sym d)))
+      (going-lt (running-set st) s at) (going-none (running-set st) s at) (λ j l d. absurd (true≢false (sym d)))
       (λ j l r b. stop-six (holds unwilling′ j) j l r) plays crushers (st .digits) counts
-      (λ j l h m. memory j l (runs-now j (sym (going-bit st sixRules few small s at w reads j l) ∙ h)))
+      (λ j l h m. memory j l (runs-now j (sym (going-bit n s at w reads running j l) ∙ h)))
       sorted
 
   -- ---- prepare
@@ -132,8 +123,7 @@ module _ {n last k : ℕ} {opening : ℕ → ℕ} {ts : List Truck} {by ends sen
         ∙ ap (λ (t : Truck). cond (goes j) (t .estimate) (truck ts j .estimate)) (prepare-plays j)
 
     pub prepare-radio : Active n running w (wordFrom s (at + n)) → RadioSets (nextRadio sixRules n k w ts) s (at + 3 * n) n (goingOn s at running) (proposersOf s at n running) (wordFrom s (at + 2 * n))
-    prepare-radio actives =
-        radio-sets st sixRules few small s at w reads (proposersOf s at n running) (senders-lt st sixRules few small s at w reads (wordFrom s (at + n)) actives asks) (proposers-are st sixRules few small s at w reads (wordFrom s (at + n)) actives asks)
+    prepare-radio actives = radio-sets sixRules k few (running-set st) s at w reads (proposing st sixRules few small s at w reads (wordFrom s (at + n)) actives asks)
 
     module _ (actives : Active n running w (wordFrom s (at + n))) {by′ : List ℕ} {r : Played} (p : Prepares s at n running by by′ r) where
       abbrev unread : ℕ
@@ -142,7 +132,7 @@ module _ {n last k : ℕ} {opening : ℕ → ℕ} {ts : List Truck} {by ends sen
       changes : (j : ℕ) → j < n → holds (p .changed) j ≡ (goes j && not (markBit w j) && someValue (different (values j)))
       changes j l =
           p .heard .each (31 - j) (omega arith) ∙ listens st sixRules few small s at w reads (wordFrom s (at + n)) actives asks unread someValue refl j l
-          ∙ ap (λ (b : Bool). (goes j && not b) && someValue (different (values j))) (mark-bit st sixRules few small s at w reads j l)
+          ∙ ap (λ (b : Bool). (goes j && not b) && someValue (different (values j))) (mark-bit n s at w reads j l)
 
       none : (j : ℕ) → n ≤ j → j < 32 → holds (p .changed) j ≡ false
       none j h l =
@@ -164,15 +154,6 @@ module _ {n last k : ℕ} {opening : ℕ → ℕ} {ts : List Truck} {by ends sen
           (plays-on (cond (markBit w j) (truck ts j .estimate) (leastOr (truck ts j .estimate) (values j))) false j l g 0 (sym (bit-zero (31 - j)))))
           (crushers-kept st sixRules few small s at w reads (wordFrom s (at + n)) actives asks takes (p .changed) (p .taking) by′ (p .took) changes none taken)
           (now-sorted st sixRules few small s at w reads (wordFrom s (at + n)) actives asks takes (p .changed) (p .taking) by′ (p .took) changes none taken)
-
-  -- estimates stay in the other rounds
-  estimate-stays : ((j : ℕ) → playsIn sixRules radio (suc k) w ts j .estimate ≡ truck ts j .estimate) → (j : ℕ) → j < n → now j .estimate ≡ truck ts j .estimate
-  estimate-stays stays j l =
-      estimate-after st sixRules few small s at w reads (λ t. refl) j l ∙ ap (λ (x : ℕ). cond (goes j) x (truck ts j .estimate)) (stays j) ∙ go (goes j)
-    where
-      go : (b : Bool) → cond b (truck ts j .estimate) (truck ts j .estimate) ≡ truck ts j .estimate
-      go true = refl
-      go false = refl
 
   -- ---- a bit round
   module _ (o₁ : suc k % 6 ≡ 1 → ⊥) (o₀ : suc k % 6 ≡ 0 → ⊥) {b : ℕ} (eb : b ≡ 5 - suc k % 6) {r : Played} (p : Listens s at n b running unwilling by r) where
@@ -206,24 +187,13 @@ module _ {n last k : ℕ} {opening : ℕ → ℕ} {ts : List Truck} {by ends sen
             other c (no q) = ap (λ (x : Bool). bit c b && x) (ne-eqb (truck ts j .estimate) c q) ∙ and-false (bit c b)
 
     senders-bit : (j : ℕ) → j < n → holds senders j ≡ (goes j && own j)
-    senders-bit j l = bit-and (goingOn s at running) shown (31 - j) ∙ ap₂ _&&_ (going-bit st sixRules few small s at w reads j l) (shown-bit j l)
+    senders-bit j l = bit-and (goingOn s at running) shown (31 - j) ∙ ap₂ _&&_ (going-bit n s at w reads running j l) (shown-bit j l)
 
-    bit-senders : (j : ℕ) → j < n → holds senders j ≡ radio .sends j
-    unfolding radioIn
-    bit-senders j l =
-        senders-bit j l
-        ∙ sym (ap₂ (λ (x y : Bool). (x && not (stopBit w j)) && y) (runs-is st j l) (sends-bit (suc k) (activeBit w j) (truck ts j) o₁ o₀))
-
-    bit-lt : senders < 2 ^ 32
-    bit-lt = omega (arith, and-le-l (goingOn s at running) shown, going-lt st sixRules few small s at w reads)
-
-    senders-are : Members (mirrored 32 senders) n (radio .sends)
-    senders-are =
-        placed senders n (radio .sends) few bit-senders
-        (λ j h l. bit-and (goingOn s at running) shown (31 - j) ∙ ap (λ (x : Bool). x && holds shown j) (going-none st sixRules few small s at w reads j h l))
+    showing : SendingSet radio n senders
+    showing = sending-set sixRules k few (running-set st) s at w reads shown (λ j l r. sends-bit (suc k) (activeBit w j) (truck ts j) o₁ o₀ ∙ sym (shown-bit j l))
 
     pub bit-radio : RadioSets (nextRadio sixRules n k w ts) s (at + 3 * n) n (goingOn s at running) (bitAnd (goingOn s at running) (p .shown)) (wordFrom s (at + 2 * n))
-    bit-radio = radio-sets st sixRules few small s at w reads senders bit-lt senders-are
+    bit-radio = radio-sets sixRules k few (running-set st) s at w reads showing
 
     -- it notices a message or a mark
     abbrev notices : ℕ → Bool
@@ -242,22 +212,19 @@ module _ {n last k : ℕ} {opening : ℕ → ℕ} {ts : List Truck} {by ends sen
     quiet-bit : (j : ℕ) → j < n → goes j ≡ true → holds (quietOf s at running shown) j ≡ not (own j)
     quiet-bit j l g =
         bit-without (goingOn s at running) senders (31 - j)
-        ∙ ap₂ (λ (x y : Bool). x && not y) (going-bit st sixRules few small s at w reads j l ∙ g) (senders-bit j l ∙ ap (λ (x : Bool). x && own j) g)
+        ∙ ap₂ (λ (x y : Bool). x && not y) (going-bit n s at w reads running j l ∙ g) (senders-bit j l ∙ ap (λ (x : Bool). x && own j) g)
 
     -- who of those that listen hears a message
     some-bit : (j : ℕ) → j < n → goes j ≡ true → holds (p .some) j ≡ ((not (own j) && not (markBit w j || holds unwilling j)) && ltb 0 (heard radio j))
     some-bit j l g =
         p .heard .each (31 - j) (omega arith) ∙ go (eqb senders 0) refl
       where
-        hears : ltb 0 (heard radio j) ≡ not (eqb (heardSet senders (rowFrom s (at + 3 * n) n (31 - j)) (31 - j)) 0)
-        hears = any-heard st sixRules few small s at w reads senders bit-lt senders-are j l
-
         listener : (x : Bool) → own j ≡ x
             → ((not x && not (markBit w j || holds unwilling j)) && not (unheard j)) ≡ ((not x && not (markBit w j || holds unwilling j)) && ltb 0 (heard radio j))
         listener true e = refl
         listener false e =
             ap (λ (x : Bool). not (markBit w j || holds unwilling j) && x)
-            (sym (hears ∙ ap (λ (x : ℕ). not (eqb x 0)) (heard-others senders (rowFrom s (at + 3 * n) n (31 - j)) (31 - j) bit-lt (senders-bit j l ∙ ap₂ _&&_ g e))))
+            (sym (others-heard sixRules k few (running-set st) s at w reads showing j l (senders-bit j l ∙ ap₂ _&&_ g e)))
 
         go : (z : Bool) → eqb senders 0 ≡ z
             → (holds (cond z 0 (without (quietOf s at running shown) (bitOr (wordFrom s (at + 2 * n)) unwilling))) j && not (unheard j))
@@ -265,13 +232,13 @@ module _ {n last k : ℕ} {opening : ℕ → ℕ} {ts : List Truck} {by ends sen
         go true e =
             ap (λ (x : Bool). x && not (unheard j)) (bit-zero (31 - j))
             ∙ sym (ap (λ (x : Bool). (not (own j) && not (markBit w j || holds unwilling j)) && x)
-            (hears ∙ ap (λ (x : ℕ). not (eqb x 0)) (heard-silent senders (rowFrom s (at + 3 * n) n (31 - j)) (31 - j) (eqb-true senders 0 e)))
+            (none-heard sixRules k few (running-set st) s at w reads showing j l e)
             ∙ and-false (not (own j) && not (markBit w j || holds unwilling j)))
         go false e =
             ap (λ (x : Bool). x && not (unheard j))
             (bit-without (quietOf s at running shown) (bitOr (wordFrom s (at + 2 * n)) unwilling) (31 - j)
             ∙ ap₂ (λ (x y : Bool). x && not y) (quiet-bit j l g)
-            (bit-or (wordFrom s (at + 2 * n)) unwilling (31 - j) ∙ ap (λ (x : Bool). x || holds unwilling j) (mark-bit st sixRules few small s at w reads j l)))
+            (bit-or (wordFrom s (at + 2 * n)) unwilling (31 - j) ∙ ap (λ (x : Bool). x || holds unwilling j) (mark-bit n s at w reads j l)))
             ∙ listener (own j) refl
 
     unwilling-now : (j : ℕ) → j < n → goes j ≡ true → (truck ts j .unwilling || (not (own j) && notices j)) ≡ holds unwilling′ j
@@ -281,8 +248,8 @@ module _ {n last k : ℕ} {opening : ℕ → ℕ} {ts : List Truck} {by ends sen
         ∙ sym (bit-or (bitOr (bitAnd (goingOn s at running) unwilling) (bitAnd (quietOf s at running shown) (wordFrom s (at + 2 * n)))) (p .some) (31 - j)
         ∙ ap₂ _||_
         (bit-or (bitAnd (goingOn s at running) unwilling) (bitAnd (quietOf s at running shown) (wordFrom s (at + 2 * n))) (31 - j)
-        ∙ ap₂ _||_ (bit-and (goingOn s at running) unwilling (31 - j) ∙ ap (λ (x : Bool). x && holds unwilling j) (going-bit st sixRules few small s at w reads j l ∙ g))
-        (bit-and (quietOf s at running shown) (wordFrom s (at + 2 * n)) (31 - j) ∙ ap₂ _&&_ (quiet-bit j l g) (mark-bit st sixRules few small s at w reads j l)))
+        ∙ ap₂ _||_ (bit-and (goingOn s at running) unwilling (31 - j) ∙ ap (λ (x : Bool). x && holds unwilling j) (going-bit n s at w reads running j l ∙ g))
+        (bit-and (quietOf s at running shown) (wordFrom s (at + 2 * n)) (31 - j) ∙ ap₂ _&&_ (quiet-bit j l g) (mark-bit n s at w reads j l)))
         (some-bit j l g))
       where
         go : (u x m h : Bool) → (u || (not x && (m || h))) ≡ (((true && u) || (not x && m)) || ((not x && not (m || u)) && h))
@@ -299,7 +266,7 @@ module _ {n last k : ℕ} {opening : ℕ → ℕ} {ts : List Truck} {by ends sen
         subst (λ (x : Truck). x ≡ standing (opening j) (x .estimate) (x .heard) true false (holds 0 j) (holds unwilling′ j) (getD ends j 0) (x .sent)) (sym (bit-plays j))
         (plays-on (truck ts j .estimate) (truck ts j .unwilling || (not (own j) && notices j)) j l g unwilling′ (unwilling-now j l g)))
         (st .crushers)
-        (sorted-kept st sixRules few small s at w reads (estimate-stays (λ j. ap (λ (t : Truck). t .estimate) (bit-plays j))))
+        (sorted-kept st sixRules few small s at w reads (λ t. refl) (λ j. ap (λ (t : Truck). t .estimate) (bit-plays j)))
 
   -- ---- accept
   module _ (o : suc k % 6 ≡ 0) where
@@ -347,8 +314,8 @@ module _ {n last k : ℕ} {opening : ℕ → ℕ} {ts : List Truck} {by ends sen
           }
         where
           may-lt : may < 2 ^ 32
-          may-lt = xor-lt 32 (goingOn s at running) (bitAnd (goingOn s at running) (bitOr (wordFrom s (at + 2 * n)) unwilling)) (going-lt st sixRules few small s at w reads)
-              (omega (arith, and-le-l (goingOn s at running) (bitOr (wordFrom s (at + 2 * n)) unwilling), going-lt st sixRules few small s at w reads))
+          may-lt = xor-lt 32 (goingOn s at running) (bitAnd (goingOn s at running) (bitOr (wordFrom s (at + 2 * n)) unwilling)) (going-lt (running-set st) s at)
+              (omega (arith, and-le-l (goingOn s at running) (bitOr (wordFrom s (at + 2 * n)) unwilling), going-lt (running-set st) s at))
 
           twice : (x y : Bool) → (x && not y) ≡ ((x && not y) && x)
           twice true true = refl
@@ -406,19 +373,15 @@ module _ {n last k : ℕ} {opening : ℕ → ℕ} {ts : List Truck} {by ends sen
           (play j l g (holds done j) (sym (done-is j l g))))
           (st .crushers) (st .digits) counts
           (λ j l h m. memory j l (runs-now j (and-left (goes j) (not (holds done j)) (sym (ons j l) ∙ h))))
-          (sorted-kept st sixRules few small s at w reads (estimate-stays (λ j. ap (λ (t : Truck). t .estimate) (accept-plays j))))
+          (sorted-kept st sixRules few small s at w reads (λ t. refl) (λ j. ap (λ (t : Truck). t .estimate) (accept-plays j)))
         where
           play : (j : ℕ) → j < n → goes j ≡ true → (dn : Bool) → accepts (noticed j) (truck ts j) ≡ dn
               → afterAccept (suc k) (noticed j) (truck ts j)
               ≡ standing (opening j) (truck ts j .estimate) (truck ts j .heard) (not dn) dn (holds 0 j) (holds 0 j) (cond dn (suc k) (getD ends j 0)) (truck ts j .sent)
           play j l g dn e =
-              truck-same (truck ts j .estimate) (truck ts j .sent) (opening-is st j l) (unmarked j l ∙ sym (out (not dn) j)) (value (not dn)) (sym (out (not dn) j))
-              (ap (λ (b : Bool). cond b (Decided (suc k)) (truck ts j .state)) e ∙ state dn)
+              truck-same (truck ts j .estimate) (truck ts j .sent) (opening-is st j l) (unmarked j l ∙ sym (none-in (not dn) j)) (value (not dn)) (sym (none-in (not dn) j))
+              (ap (λ (b : Bool). cond b (Decided (suc k)) (truck ts j .state)) e ∙ state-is st j l (runs-now j g) dn)
             where
               value : (b : Bool) → truck ts j .heard ≡ cond b (truck ts j .heard) Nothing
               value true = refl
               value false = no-value j l (runs-now j g)
-
-              state : (b : Bool) → cond b (Decided (suc k)) (truck ts j .state) ≡ stateOf (not b) b (cond b (suc k) (getD ends j 0))
-              state true = refl
-              state false = running-is st j l (runs-now j g)

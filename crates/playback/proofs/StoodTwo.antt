@@ -33,19 +33,16 @@ use Rattle.playback.specs.declared.replay.Proposed.{Proposed}
 use Rattle.playback.specs.declared.replay.Vetoed.{Vetoed}
 use Rattle.playback.specs.Sets.{estimates}
 use Rattle.playback.specs.Listens.{heardFrom, someValue}
-use Rattle.playback.specs.Standing.{ReadsAs, Active, nextTrucks, holds, wordFrom, stateOf, standing, sentBy, Stands, unreadOf, wantedOf, sendersOf, Proposes, Vetoes, noted}
+use Rattle.playback.specs.Standing.{ReadsAs, Active, nextTrucks, holds, wordFrom, standing, sentBy, Stands, unreadOf, wantedOf, sendersOf, Proposes, Vetoes, noted}
 use Rattle.playback.specs.Grading.{RadioSets}
-use Rattle.playback.proofs.Stood.{truck-same, nextRadio, opening-is, running-is, mark-is, unwilling-is, next-plays, estimate-after, sorted-kept, end-now, stands-next, mark-bit, going-bit, going-lt, going-none, radio-sets, senders-lt, proposers-bit, proposers-are, wanted-none, listens, now-sorted, crushers-kept}
-use Rattle.playback.proofs.Stood.{vetoers-lt, vetoers-bit, own-veto, done-bit, on-bit, on-none, on-lt, done-goes}
+use Rattle.playback.proofs.AnyStood.{nextRadio, mark-bit, going-bit, going-lt, going-none, radio-sets}
+use Rattle.playback.proofs.Stood.{truck-same, or-false, none-in, running-set, state-is, opening-is, running-is, mark-is, unwilling-is, next-plays, estimate-after, sorted-kept, end-now, stands-next, proposing, wanted-none, listens, now-sorted, crushers-kept}
+use Rattle.playback.proofs.Stood.{vetoing, own-veto, done-bit, on-bit, on-none, on-lt, done-goes}
 use Rattle.playback.proofs.Stood as stood
 
 added : (b : Bool) (c : ℕ) → counted b c ≡ c + digitOf b
 added true c = refl
 added false c = omega arith
-
-or-false : (b : Bool) → (b || false) ≡ b
-or-false true = refl
-or-false false = refl
 
 module _ {n last k : ℕ} {opening : ℕ → ℕ} {ts : List Truck} {by ends sent : List ℕ} {running decided marked one several : ℕ} (st : Stands n last k opening ts by ends sent running decided marked one several 0)
     (few : n ≤ 32) (small : (j : ℕ) → j < n → estimates ts j < 16) (room : (j : ℕ) → j < n → (truck ts j .sent .proposals < 255) × (truck ts j .sent .vetoes < 255))
@@ -58,7 +55,7 @@ module _ {n last k : ℕ} {opening : ℕ → ℕ} {ts : List Truck} {by ends sen
 
   -- nobody is unwilling
   willing : (j : ℕ) → j < n → truck ts j .unwilling ≡ false
-  willing j l = unwilling-is st j l ∙ ap (λ (b : Bool). holds running j && b) (bit-zero (31 - j)) ∙ and-false (holds running j)
+  willing j l = unwilling-is st j l ∙ none-in (holds running j) j
 
   stop-two : (m u : Bool) (j : ℕ) → j < n
       → stops (suc k) (truck ts j) ≡ standing (opening j) (truck ts j .estimate) Nothing false false m u (suc k) (truck ts j .sent)
@@ -102,10 +99,10 @@ module _ {n last k : ℕ} {opening : ℕ → ℕ} {ts : List Truck} {by ends sen
       changed = without (bitOr (r .one) (r .several)) (r .mark)
 
       goes : (j : ℕ) → j < n → holds (r .going) j ≡ (holds running j && not (stopBit w j))
-      goes j l = ap (λ (x : ℕ). holds x j) (p .going) ∙ going-bit st twoRules few small s at w reads j l
+      goes j l = ap (λ (x : ℕ). holds x j) (p .going) ∙ going-bit n s at w reads running j l
 
       marks : (j : ℕ) → j < n → holds (r .mark) j ≡ markBit w j
-      marks j l = ap (λ (x : ℕ). holds x j) (p .mark) ∙ mark-bit st twoRules few small s at w reads j l
+      marks j l = ap (λ (x : ℕ). holds x j) (p .mark) ∙ mark-bit n s at w reads j l
 
       one-bit : (j : ℕ) → j < n → holds (r .one) j ≡ (((holds running j && not (stopBit w j)) && not (holds unread j)) && isOne (different (values j)))
       one-bit j l = p .one .each (31 - j) (omega arith) ∙ listens st twoRules few small s at w reads active actives asks unread isOne refl j l
@@ -120,7 +117,7 @@ module _ {n last k : ℕ} {opening : ℕ → ℕ} {ts : List Truck} {by ends sen
           go : Dec (left ≡ 1) → (b : Bool) → markBit w j ≡ b → holds unread j ≡ false
           go (yes e) b q = ap (λ (c : Bool). holds (cond c 0 (wordFrom s (at + 2 * n))) j) (eq-eqb left 1 e) ∙ bit-zero (31 - j)
           go (no e) true q = absurd (e (omega (arith, h q, end)))
-          go (no e) false q = ap (λ (c : Bool). holds (cond c 0 (wordFrom s (at + 2 * n))) j) (ne-eqb left 1 e) ∙ mark-bit st twoRules few small s at w reads j l ∙ q
+          go (no e) false q = ap (λ (c : Bool). holds (cond c 0 (wordFrom s (at + 2 * n))) j) (ne-eqb left 1 e) ∙ mark-bit n s at w reads j l ∙ q
 
       changed-bit : (j : ℕ) → holds changed j ≡ ((holds (r .one) j || holds (r .several) j) && not (holds (r .mark) j))
       changed-bit j = bit-without (bitOr (r .one) (r .several)) (r .mark) (31 - j) ∙ ap (λ (b : Bool). b && not (holds (r .mark) j)) (bit-or (r .one) (r .several) (31 - j))
@@ -170,14 +167,14 @@ module _ {n last k : ℕ} {opening : ℕ → ℕ} {ts : List Truck} {by ends sen
       pub proposal-radio : RadioSets (nextRadio twoRules n k w ts) s (at + 3 * n) n (r .going) (r .senders) (r .mark)
       proposal-radio =
           rw (p .going, p .senders, p .mark)
-          (radio-sets st twoRules few small s at w reads (sendersOf s at running active) (senders-lt st twoRules few small s at w reads active actives asks) (proposers-are st twoRules few small s at w reads active actives asks))
+          (radio-sets twoRules k few (running-set st) s at w reads (proposing st twoRules few small s at w reads active actives asks))
 
       pub proposal-stands : Stands n last (suc k) opening (nextTrucks twoRules n k w ts) by′ (filled (noted ends (without running (r .going)) (suc k)) 32 ends) (countedUp sent (r .senders)) (r .going) decided (r .mark) (r .one) (r .several) 0
       proposal-stands =
           stands-next st twoRules few small s at w reads (r .going) decided (r .mark) (r .one) (r .several) 0 by′ (countedUp sent (r .senders)) (λ j. false)
           (λ j l. goes j l ∙ sym (and-true (holds running j && not (stopBit w j)))) (λ j l. sym (or-false (holds decided j)))
-          (rw (p .going) (going-lt st twoRules few small s at w reads))
-          (λ j h l. ap (λ (x : ℕ). holds x j) (p .going) ∙ going-none st twoRules few small s at w reads j h l)
+          (rw (p .going) (going-lt (running-set st) s at))
+          (λ j h l. ap (λ (x : ℕ). holds x j) (p .going) ∙ going-none (running-set st) s at j h l)
           (λ j l d. absurd (true≢false (sym d)))
           (λ j l g b. stop-two (holds (r .mark) j) (holds 0 j) j l)
           (λ j l g.
@@ -187,8 +184,8 @@ module _ {n last k : ℕ} {opening : ℕ → ℕ} {ts : List Truck} {by ends sen
           (opening-is st j l) (sym (marks j l)) refl (willing j l ∙ sym (bit-zero (31 - j))) (running-is st j l (and-left (holds running j) (not (stopBit w j)) g))))
           (crushers-kept st twoRules few small s at w reads active actives asks takes changed (p .taking) by′ (p .took) changes none taken)
           (length-up sent (r .senders) (st .digits))
-          (λ j l. counts-next j l (r .senders) (ap (λ (x : ℕ). holds x j) (p .senders) ∙ proposers-bit st twoRules few small s at w reads active actives asks j l ∙ sym (ap (λ (b : Bool). b && radio .sends j) o))
-          (bit-high (r .senders) 32 (32 + (31 - j)) (rw (p .senders) (senders-lt st twoRules few small s at w reads active actives asks)) (omega arith) ∙ sym (ap (λ (b : Bool). not b && radio .sends j) o)))
+          (λ j l. counts-next j l (r .senders) (ap (λ (x : ℕ). holds x j) (p .senders) ∙ proposing st twoRules few small s at w reads active actives asks .each j l ∙ sym (ap (λ (b : Bool). b && radio .sends j) o))
+          (bit-high (r .senders) 32 (32 + (31 - j)) (rw (p .senders) (proposing st twoRules few small s at w reads active actives asks .fits)) (omega arith) ∙ sym (ap (λ (b : Bool). not b && radio .sends j) o)))
           (λ j l g h.
           let on = sym (goes j l) ∙ g in
           let u = was-read j l (λ m. h (marks j l ∙ m)) in
@@ -221,16 +218,6 @@ module _ {n last k : ℕ} {opening : ℕ → ℕ} {ts : List Truck} {by ends sen
     plays-are′ : (j : ℕ) → plays radio (suc k) w ts j ≡ vetoed (suc k) (radio .sends j) (markBit w j) (veto j) (truck ts j)
     unfolding radioIn
     plays-are′ j = plays-veto n (activeBit w) (suc k) w ts j o
-
-    same-estimate : (j : ℕ) → j < n → now j .estimate ≡ truck ts j .estimate
-    same-estimate j l =
-        estimate-after st twoRules few small s at w reads (λ t. refl) j l
-        ∙ ap (λ (t : Truck). cond (holds running j && not (stopBit w j)) (t .estimate) (truck ts j .estimate)) (plays-are′ j)
-        ∙ go (holds running j && not (stopBit w j))
-      where
-        go : (b : Bool) → cond b (truck ts j .estimate) (truck ts j .estimate) ≡ truck ts j .estimate
-        go true = refl
-        go false = refl
 
     -- a truck that goes on decides as the rules say
     decides-as : (j : ℕ) → j < n → (holds running j && not (stopBit w j)) ≡ true
@@ -296,14 +283,14 @@ module _ {n last k : ℕ} {opening : ℕ → ℕ} {ts : List Truck} {by ends sen
           (length-up sent (r .senders * 2 ^ 32 % 2 ^ 64) (st .digits))
           (λ j l. counts-next j l (r .senders * 2 ^ 32 % 2 ^ 64) (ap (λ (x : ℕ). bit x (31 - j)) moved ∙ bit-below (r .senders) 32 (31 - j) (omega arith) ∙ sym (ap (λ (b : Bool). b && radio .sends j) o))
           (ap (λ (x : ℕ). bit x (32 + (31 - j))) moved ∙ bit-shifted (r .senders) 32 (31 - j) ∙ ap (λ (x : ℕ). holds x j) (p .senders)
-          ∙ vetoers-bit st twoRules few small s at w reads marked one several vetoes-is silent j l ∙ sym (ap (λ (b : Bool). not b && radio .sends j) o)))
+          ∙ vetoing st twoRules few small s at w reads marked one several vetoes-is silent .each j l ∙ sym (ap (λ (b : Bool). not b && radio .sends j) o)))
           (λ j l g h.
           let e : now j .heard ≡ Nothing = ap (λ (t : Truck). t .heard) (next-plays st twoRules few small s at w reads j l (and-left (holds running j && not (stopBit w j)) (not (done j)) (sym (ons j l) ∙ g)) ∙ plays-are′ j) in
           (ap isOne e ∙ sym (bit-zero (31 - j)), ap isSeveral e ∙ sym (bit-zero (31 - j))))
-          (sorted-kept st twoRules few small s at w reads same-estimate)
+          (sorted-kept st twoRules few small s at w reads (λ t. refl) (λ j. ap (λ (t : Truck). t .estimate) (plays-are′ j)))
         where
           moved : r .senders * 2 ^ 32 % 2 ^ 64 ≡ r .senders * 2 ^ 32
-          moved = shl-exact 32 32 64 (rw (p .senders) (vetoers-lt st twoRules few small s at w reads marked one several vetoes-is silent)) (omega arith)
+          moved = shl-exact 32 32 64 (rw (p .senders) (vetoing st twoRules few small s at w reads marked one several vetoes-is silent .fits)) (omega arith)
 
           play : (j : ℕ) → j < n → (holds running j && not (stopBit w j)) ≡ true → (dn : Bool) → decides (markBit w j) (veto j) (truck ts j) ≡ dn
               → vetoed (suc k) (radio .sends j) (markBit w j) (veto j) (truck ts j)
@@ -311,16 +298,9 @@ module _ {n last k : ℕ} {opening : ℕ → ℕ} {ts : List Truck} {by ends sen
               (vetoed (suc k) (radio .sends j) (markBit w j) (veto j) (truck ts j) .sent)
           play j l g dn e =
               truck-same (truck ts j .estimate) (vetoed (suc k) (radio .sends j) (markBit w j) (veto j) (truck ts j) .sent)
-              (opening-is st j l) (sym (out (not dn))) (none (not dn)) (willing j l ∙ sym (out (not dn)))
-              (ap (λ (b : Bool). cond b (Decided (suc k)) (truck ts j .state)) e ∙ state dn)
+              (opening-is st j l) (sym (none-in (not dn) j)) (none (not dn)) (willing j l ∙ sym (none-in (not dn) j))
+              (ap (λ (b : Bool). cond b (Decided (suc k)) (truck ts j .state)) e ∙ state-is st j l (and-left (holds running j) (not (stopBit w j)) g) dn)
             where
-              out : (b : Bool) → (b && holds 0 j) ≡ false
-              out b = ap (λ (x : Bool). b && x) (bit-zero (31 - j)) ∙ and-false b
-
               none : (b : Bool) → Nothing ≡ cond b Nothing Nothing
               none true = refl
               none false = refl
-
-              state : (b : Bool) → cond b (Decided (suc k)) (truck ts j .state) ≡ stateOf (not b) b (cond b (suc k) (getD ends j 0))
-              state true = refl
-              state false = running-is st j l (and-left (holds running j) (not (stopBit w j)) g)

@@ -78,10 +78,6 @@ module _ (o k end : ℕ) (x y t : Truck) (m u m′ u′ : Bool) where
       go false true b false e a q s p = e
       go false false b false e a q s p = e
 
-pub or-false : (b : Bool) → (b || false) ≡ b
-or-false true = refl
-or-false false = refl
-
 -- nobody is in the empty set
 pub none-in : (b : Bool) (j : ℕ) → (b && holds 0 j) ≡ false
 none-in b j = ap (λ (x : Bool). b && x) (bit-zero (31 - j)) ∙ and-false b

@@ -1,6 +1,6 @@
 -- The sets after a round of the six-round cycle stand for the trucks after it.
 use mathlib.Core.Path.{_≡_, refl, ap, ap₂, sym, subst, _∙_}
-use mathlib.Core.Bool.{Bool, true, false, cond, not, _&&_, _||_, and-true, and-false, true≢false}
+use mathlib.Core.Bool.{Bool, true, false, cond, not, _&&_, _||_, and-true, and-false, or-false, true≢false}
 use mathlib.Core.List.{List}
 use Prim.Native.Nat.{ℕ, suc, _+_, _*_, _-_, _%_, _^_, _≤_, _<_}
 use native.Mathlib.Decide.{ℕ-discrete}
@@ -36,7 +36,7 @@ use Rattle.playback.specs.Listens.{rowFrom, heardFrom, someValue}
 use Rattle.playback.specs.Standing.{ReadsAs, Active, nextTrucks, holds, wordFrom, memoryOf, standing, sentBy, Stands, goingOn, proposersOf, mayOf, Vetoes, noted, unmarkedOf, Prepares, quietOf, Listens, willingOf, Accepts}
 use Rattle.playback.specs.Grading.{RadioSets}
 use Rattle.playback.proofs.AnyStood.{nextRadio, SendingSet, mark-bit, going-bit, going-lt, going-none, sending-set, none-heard, others-heard, radio-sets}
-use Rattle.playback.proofs.Stood.{truck-same, or-false, none-in, memory-back, running-set, opening-is, running-is, state-is, mark-is, unwilling-is, estimate-after, sorted-kept, stands-next, proposing, wanted-none, listens, now-sorted, crushers-kept}
+use Rattle.playback.proofs.Stood.{truck-same, none-in, memory-back, running-set, opening-is, running-is, state-is, mark-is, unwilling-is, estimate-after, sorted-kept, stands-next, proposing, wanted-none, listens, now-sorted, crushers-kept}
 use Rattle.playback.proofs.Stood.{done-bit, on-bit, on-none, on-lt, done-goes, veto-radio}
 
 module _ {n last k : ℕ} {opening : ℕ → ℕ} {ts : List Truck} {by ends sent : List ℕ} {running decided unwilling : ℕ} (st : Stands n last k opening ts by ends sent running decided 0 0 0 unwilling)

@@ -1,6 +1,6 @@
 -- The sets after a round of the two-round cycle stand for the trucks after it.
 use mathlib.Core.Path.{_≡_, refl, ap, ap₂, sym, subst, _∙_}
-use mathlib.Core.Bool.{Bool, true, false, cond, not, _&&_, _||_, and-true, and-false, true≢false}
+use mathlib.Core.Bool.{Bool, true, false, cond, not, _&&_, _||_, and-true, and-false, or-false, true≢false}
 use mathlib.Core.List.{List}
 use Prim.Native.Nat.{ℕ, suc, _+_, _*_, _-_, _%_, _^_, _≤_, _<_}
 use native.Mathlib.Decide.{ℕ-discrete}
@@ -36,7 +36,7 @@ use Rattle.playback.specs.Listens.{heardFrom, someValue}
 use Rattle.playback.specs.Standing.{ReadsAs, Active, nextTrucks, holds, wordFrom, standing, sentBy, Stands, unreadOf, wantedOf, sendersOf, Proposes, Vetoes, noted}
 use Rattle.playback.specs.Grading.{RadioSets}
 use Rattle.playback.proofs.AnyStood.{nextRadio, mark-bit, going-bit, going-lt, going-none, radio-sets}
-use Rattle.playback.proofs.Stood.{truck-same, or-false, none-in, running-set, state-is, opening-is, running-is, mark-is, unwilling-is, next-plays, estimate-after, sorted-kept, end-now, stands-next, proposing, wanted-none, listens, now-sorted, crushers-kept}
+use Rattle.playback.proofs.Stood.{truck-same, none-in, running-set, state-is, opening-is, running-is, mark-is, unwilling-is, next-plays, estimate-after, sorted-kept, end-now, stands-next, proposing, wanted-none, listens, now-sorted, crushers-kept}
 use Rattle.playback.proofs.Stood.{vetoing, own-veto, done-bit, on-bit, on-none, on-lt, done-goes}
 use Rattle.playback.proofs.Stood as stood
 

@@ -121,7 +121,7 @@ fn judged_into(
 }
 
 // The grades with a proposal round or a round of the six-round cycle too, where they are asked for. Veto rounds have a function of their own, so that
-// `judged_into` has two callers: the compiler builds a function with one caller into it, and every round would then make a call to ask for nothing.
+// `judged_into` has two callers and stays a call: built into one function for all rounds, it would make that a call in every round, asked for or not.
 pub(crate) fn judged_proposing(
     judging: bool,
     found: &mut [u16; 4],

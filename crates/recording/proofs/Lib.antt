@@ -8,3 +8,4 @@ pub mod Limit
 pub mod Searches
 pub mod Fronts
 pub mod Named
+pub mod Masks

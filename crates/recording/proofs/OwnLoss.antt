@@ -1,7 +1,7 @@
 -- Laws of refusal 6: it accepts exactly where no own loss bit is 1, and names the earliest round and, in it, the lowest truck.
 use mathlib.Core.Path.{_≡_, refl, ap, ap₂, sym, subst, _∙_}
 use mathlib.Core.Bool.{Bool, true, false}
-use Prim.Native.Nat.{ℕ, _+_, _*_, _<_}
+use Prim.Native.Nat.{ℕ, _+_, _*_, _≤_, _<_}
 use native.Mathlib.Omega.{arith}
 use lib.Arith.{digits-lt}
 use Rattle.refusals.specs.declared.Refusal.the-variants.{OwnLoss}
@@ -10,7 +10,7 @@ use Rattle.refusals.specs.Outcomes.{refuse}
 use Rattle.refusals.proofs.Outcomes.{refused-not, refuse-false, refuse-on}
 use Rattle.basics.specs.Bits.{bit}
 use Rattle.basics.specs.Lists.{first, someBelow}
-use Rattle.basics.proofs.Laws.{someBelow-none, none-someBelow, someBelow-by, some-first, first-none, first-before, first-at, first-unique, first-step, first-found, first-ext, some-ext}
+use Rattle.basics.proofs.Laws.{someBelow-none, none-someBelow, someBelow-by, some-first, first-none, first-before, first-at, first-unique, first-step, first-found, first-ext, some-ext, first-le, first-all}
 use Rattle.recording.specs.Checks.{ownBit, ownIn, ownLoss, ownRound, ownTruck, ownLossCheck, FirstOwn, FirstOwnAt}
 
 -- words that agree have the same own loss bits
@@ -20,9 +20,9 @@ own-ext f g n R h r i l u = ap (λ (w : ℕ). bit w i) (h (r * (3 + n) + (3 + i)
 
 module _ (word : ℕ → ℕ) (n : ℕ) where
   -- no own loss bit of R rounds is 1
-  pub own-clear : (R : ℕ) → ownLoss word n R ≡ false → (r i : ℕ) → r < R → i < n → ownBit word n r i ≡ false
+  pub own-round : (R : ℕ) → ownLoss word n R ≡ false → (r i : ℕ) → r < R → i < n → ownBit word n r i ≡ false
   unfolding ownLoss ownIn
-  own-clear R h r i l u = someBelow-none (ownBit word n r) n (someBelow-none (ownIn word n) R h r l) i u
+  own-round R h r i l u = someBelow-none (ownBit word n r) n (someBelow-none (ownIn word n) R h r l) i u
 
   pub clear-own : (R : ℕ) → ((r i : ℕ) → r < R → i < n → ownBit word n r i ≡ false) → ownLoss word n R ≡ false
   unfolding ownLoss ownIn
@@ -33,7 +33,7 @@ module _ (word : ℕ → ℕ) (n : ℕ) where
     unfolding ownLossCheck
     own-accepted h =
         let r = ownRound word n R in
-        own-clear R (refuse-false (ownLoss word n R) (OwnLoss (k + r) (ownTruck word n r)) Accepted h)
+        own-round R (refuse-false (ownLoss word n R) (OwnLoss (k + r) (ownTruck word n r)) Accepted h)
 
     pub accepted-own : ((r i : ℕ) → r < R → i < n → ownBit word n r i ≡ false) → ownLossCheck word n k R ≡ Accepted
     unfolding ownLossCheck
@@ -113,6 +113,15 @@ module _ (word : ℕ → ℕ) (n : ℕ) where
   pub own-passes : (r : ℕ) → ownRound word n r ≡ r → ownIn word n r ≡ false → ownRound word n (r + 1) ≡ r + 1
   unfolding ownRound
   own-passes r = first-step (ownIn word n) r
+
+  pub own-at : (R r : ℕ) → r < R → ownRound word n r ≡ r → ownIn word n r ≡ true → r ≡ ownRound word n R
+  unfolding ownRound
+  own-at R r l e h = sym (first-found (ownIn word n) R r l e h)
+
+  -- from the round that such a search came to, another may go on
+  pub own-on : (R r : ℕ) → r ≡ ownRound word n R → (r ≤ R) × (ownRound word n r ≡ r)
+  unfolding ownRound
+  own-on R r e = (omega (arith, first-le (ownIn word n) R), first-all (ownIn word n) r (λ q l. first-before (ownIn word n) R q (omega arith)))
 
   module _ (k R : ℕ) where
     pub own-found : (r round truck : ℕ) → r < R → ownRound word n r ≡ r → ownIn word n r ≡ true → ownTruck word n r ≡ truck → round ≡ k + r

@@ -1,11 +1,13 @@
 // A packed recording: the counts of its header, its openings, and the check 1 to 6 that reading, running and grading share.
 ghost use mathlib.Core.Path.{_≡_};
-ghost use Prim.Native.Nat.{_+_, _*_, _-_, _<_, _≤_, _^_, min};
+ghost use mathlib.Core.Bool.{not};
+ghost use Prim.Native.Nat.{ℕ, _+_, _*_, _-_, _%_, _<_, _≤_, _^_, min};
+ghost use lib.Bits.{bitAnd};
 ghost use lib.Dec.{eqb};
-ghost use lib.ListN.{length};
+ghost use lib.ListN.{length, getD, replicate};
 ghost use Rattle.basics.specs.Lists.{first, someBelow};
 ghost use Rattle.recording.specs.Packed.{bitAt, countsOf, openingPlace, openingsInto, wordPlace, wordIn, bitsFor, bytesFor};
-ghost use Rattle.recording.specs.Checks.{badTrucks, ownLossCheck, countedCheck, checkOf};
+ghost use Rattle.recording.specs.Checks.{badTrucks, ownRound, ownLossCheck, countedCheck, checkOf};
 use refusals::Outcome;
 use refusals::Refusal;
 
@@ -132,15 +134,70 @@ fn own_truck(s: &[u8], at: usize, n: usize) -> usize
     n
 }
 
-// Refusal 6, of so many rounds from the first one on. Only in the round that it names is the truck searched for.
+// The mask of a round's own loss bits, of which the first stands at bit `at` of the mask.
+fn own_mask(at: usize, n: usize, mask: &mut [u8; 136])
+    requires { ⌜ (at < 8) × (n ≤ 32) × (now mask ≡ replicate 136 0) ⌝ }
+    ensures { λ r. ⌜ ((q : ℕ) → eqb (bitAt (now (mask .exit)) q) 1 ≡ someBelow (λ i. eqb q (at + i * (n + 1))) n) ⌝ }
+{
+    let mut marked = 0;
+    let mut p = at;
+    while marked < n {
+        mask[p / 8] = mask[p / 8] | (128u8 >> (p % 8));
+        p = p + (n + 1);
+        marked += 1;
+    }
+}
+
+// Whether one of m bytes from byte `b` on has a bit of the mask: a union too, so that the compiler takes sixteen bytes at once.
+fn any_masked(s: &[u8], b: usize, mask: &[u8; 136], m: usize) -> bool
+    requires { ⌜ (m ≤ 136) × (b + m ≤ length (now s)) ⌝ }
+    ensures { λ r. ⌜ r ≡ someBelow (λ j. not (eqb (bitAnd (getD (now (s .entry)) (b + j) 0) (getD (now (mask .entry)) j 0)) 0)) m ⌝ }
+{
+    let mut any: u8 = 0;
+    let mut j = 0;
+    while j < m {
+        any = any | (s[b + j] & mask[j]);
+        j += 1;
+    }
+    any != 0
+}
+
+// The earliest round in which an own loss bit is 1, or `rounds` where none has one, where the bits of a round fill whole bytes: then the own bits of each round
+// stand at the same bits of its bytes, and one mask serves all rounds. The first own bit of the first round stands at `at`.
+fn own_round(s: &[u8], at: usize, n: usize, rounds: u16) -> u16
+    requires { ⌜ (n ≤ 32) × (rounds ≤ 400) × (at ≡ wordPlace n 3) × ((3 * n + n * n) % 8 ≡ 0) × (bitsFor n rounds ≤ 8 * length (now s)) ⌝ }
+    ensures { λ r. ⌜ r ≡ ownRound (wordIn (bitAt (now (s .entry))) n) n rounds ⌝ }
+{
+    let mut mask = [0u8; 136];
+    own_mask(at % 8, n, &mut mask);
+    let size = (3 * n + n * n) / 8;
+    let m = (at % 8 + n * n + 7) / 8;
+    let mut b = at / 8;
+    let mut passed: u16 = 0;
+    while passed < rounds {
+        if any_masked(s, b, &mask, m) {
+            return passed;
+        }
+        b = b + size;
+        passed += 1;
+    }
+    passed
+}
+
+// Refusal 6, of so many rounds from the first one on. Only in the round that it names is the truck searched for. With 16, 21, 24, 29 and 32 trucks the bits of a
+// round fill whole bytes, 38 or more: the rounds before it are passed by a mask.
 fn check_own(s: &[u8], trucks: u8, rounds: u16) -> Outcome
     requires { ⌜ (trucks ≤ 32) × (rounds ≤ 400) × (bitsFor trucks rounds ≤ 8 * length (now s)) ⌝ }
     ensures { λ r. ⌜ r ≡ ownLossCheck (wordIn (bitAt (now (s .entry))) trucks) trucks 1 rounds ⌝ }
 {
     let n = trucks as usize;
     let size = 3 * n + n * n;
-    let mut at = word_place(trucks, 3);
+    let place = word_place(trucks, 3);
     let mut r: u16 = 0;
+    if (16 <= n) & (size % 8 == 0) {
+        r = own_round(s, place, n, rounds);
+    }
+    let mut at = place + r as usize * size;
     while r < rounds {
         if own_any(s, at, n) {
             return Outcome::Refused(Refusal::OwnLoss {

@@ -118,10 +118,14 @@ module _ (word : ℕ → ℕ) (n : ℕ) where
   unfolding ownRound
   own-at R r l e h = sym (first-found (ownIn word n) R r l e h)
 
-  -- from the round that such a search came to, another may go on
+  -- the round that such a search came to: no earlier round has an own loss bit that is 1, and where it is none of the R rounds, none of them has
   pub own-on : (R r : ℕ) → r ≡ ownRound word n R → (r ≤ R) × (ownRound word n r ≡ r)
   unfolding ownRound
   own-on R r e = (omega (arith, first-le (ownIn word n) R), first-all (ownIn word n) r (λ q l. first-before (ownIn word n) R q (omega arith)))
+
+  pub own-there : (R r : ℕ) → r ≡ ownRound word n R → r < R → ownIn word n r ≡ true
+  unfolding ownRound
+  own-there R r e l = rw e (first-at (ownIn word n) R (omega arith))
 
   module _ (k R : ℕ) where
     pub own-found : (r round truck : ℕ) → r < R → ownRound word n r ≡ r → ownIn word n r ≡ true → ownTruck word n r ≡ truck → round ≡ k + r

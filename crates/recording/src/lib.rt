@@ -162,9 +162,26 @@ fn any_masked(s: &[u8], b: usize, mask: &[u8; 136], m: usize) -> bool
     any != 0
 }
 
-// The earliest round in which an own loss bit is 1, or `rounds` where none has one, where the bits of a round fill whole bytes: then the own bits of each round
-// stand at the same bits of its bytes, and one mask serves all rounds. The first own bit of the first round stands at `at`.
+// The earliest round in which an own loss bit is 1, or `rounds` where none has one. The first own bit of the first round stands at `at`.
 fn own_round(s: &[u8], at: usize, n: usize, rounds: u16) -> u16
+    requires { ⌜ (n ≤ 32) × (rounds ≤ 400) × (at ≡ wordPlace n 3) × (bitsFor n rounds ≤ 8 * length (now s)) ⌝ }
+    ensures { λ r. ⌜ r ≡ ownRound (wordIn (bitAt (now (s .entry))) n) n rounds ⌝ }
+{
+    let size = 3 * n + n * n;
+    let mut p = at;
+    let mut r: u16 = 0;
+    while r < rounds {
+        if own_any(s, p, n) {
+            return r;
+        }
+        p = p + size;
+        r += 1;
+    }
+    r
+}
+
+// The same, where the bits of a round fill whole bytes: then the own bits of each round stand at the same bits of its bytes, and one mask serves all rounds.
+fn own_round_masked(s: &[u8], at: usize, n: usize, rounds: u16) -> u16
     requires { ⌜ (n ≤ 32) × (rounds ≤ 400) × (at ≡ wordPlace n 3) × ((3 * n + n * n) % 8 ≡ 0) × (bitsFor n rounds ≤ 8 * length (now s)) ⌝ }
     ensures { λ r. ⌜ r ≡ ownRound (wordIn (bitAt (now (s .entry))) n) n rounds ⌝ }
 {
@@ -185,7 +202,7 @@ fn own_round(s: &[u8], at: usize, n: usize, rounds: u16) -> u16
 }
 
 // Refusal 6, of so many rounds from the first one on. Only in the round that it names is the truck searched for. With 16, 21, 24, 29 and 32 trucks the bits of a
-// round fill whole bytes, 38 or more: the rounds before it are passed by a mask.
+// round fill whole bytes, 38 or more, and rounds are passed by a mask, which is not worth making for one round.
 fn check_own(s: &[u8], trucks: u8, rounds: u16) -> Outcome
     requires { ⌜ (trucks ≤ 32) × (rounds ≤ 400) × (bitsFor trucks rounds ≤ 8 * length (now s)) ⌝ }
     ensures { λ r. ⌜ r ≡ ownLossCheck (wordIn (bitAt (now (s .entry))) trucks) trucks 1 rounds ⌝ }
@@ -193,22 +210,18 @@ fn check_own(s: &[u8], trucks: u8, rounds: u16) -> Outcome
     let n = trucks as usize;
     let size = 3 * n + n * n;
     let place = word_place(trucks, 3);
-    let mut r: u16 = 0;
-    if (16 <= n) & (size % 8 == 0) {
-        r = own_round(s, place, n, rounds);
+    let r = if (16 <= n) & (1 < rounds) & (size % 8 == 0) {
+        own_round_masked(s, place, n, rounds)
+    } else {
+        own_round(s, place, n, rounds)
+    };
+    if r == rounds {
+        return Outcome::Accepted;
     }
-    let mut at = place + r as usize * size;
-    while r < rounds {
-        if own_any(s, at, n) {
-            return Outcome::Refused(Refusal::OwnLoss {
-                round: r + 1,
-                truck: own_truck(s, at, n) as u8,
-            });
-        }
-        at = at + size;
-        r += 1;
-    }
-    Outcome::Accepted
+    Outcome::Refused(Refusal::OwnLoss {
+        round: r + 1,
+        truck: own_truck(s, place + r as usize * size, n) as u8,
+    })
 }
 
 // Refusals 2 to 6, by counts that are given: the header is not read.

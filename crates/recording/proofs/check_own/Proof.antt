@@ -1,135 +1,111 @@
--- `check_own` meets its contract: no own bit of the rounds that the loop has passed is 1.
+-- `check_own` meets its contract, by the earliest round in which an own bit is 1.
 use mathlib.Core.Path.{_≡_, _∙_}
+use mathlib.Core.Bool.{_&&_}
 use mathlib.Core.Logic.{⊎-elim}
-use Prim.Native.Nat.{_≤_, _+_, _*_, _-_, _%_}
+use Prim.Native.Nat.{_<_, _+_, _*_, _%_}
 use native.Mathlib.Omega.{arith}
 use borrow.Author.Needs.{needs}
 use borrow.Author.Tests.{eqb-true}
-use lib.Dec.{leb, eqb}
-use lib.ListN.{length}
+use lib.Dec.{leb, ltb, eqb}
 use Rattle.basics.proofs.Laws.{and-right, first-le}
 use Rattle.recording.specs.Packed.{bitAt, roundPlace, wordIn}
-use Rattle.recording.specs.Checks.{ownIn, ownRound}
-use Rattle.recording.proofs.OwnLoss.{own-looked, own-searched, own-begins, own-passes, own-on, own-found, own-ends}
+use Rattle.recording.specs.Checks.{ownRound}
+use Rattle.recording.proofs.OwnLoss.{own-searched, own-on, own-there, own-found, own-ends}
 use Rattle.recording.proofs.Searches.{ownPacked, own-packed}
-use Rattle.recording.proofs.Sizes.{square-small, rounds-within, rows-within}
+use Rattle.recording.proofs.Sizes.{square-small, rounds-within}
 use Rattle.recording.proofs.check_own.Statement.{statement}
 use Rattle.recording.proofs.check_own.Tie as tie
 
-abbrev Inv-loop : tie.InvT-loop
-Inv-loop s trucks rounds n size place r₀ at₀ r at = (at ≡ roundPlace n r + 3 * n) × (r ≤ rounds) × (ownRound (wordIn (bitAt s) n) n r ≡ r)
-
-abbrev μ-loop : tie.MeasureT-loop
-μ-loop s trucks rounds n size place r₀ at₀ r at = rounds - r
-
-mul-size-2 : tie.Need-mul-size-2 Inv-loop μ-loop
+mul-size-2 : tie.Need-mul-size-2
 mul-size-2 c = omega (arith, square-small (c .before .args .trucks) (omega arith))
 
-add-size : tie.Need-add-size Inv-loop μ-loop
+add-size : tie.Need-add-size
 add-size c = omega (arith, square-small (c .before .args .trucks) (omega arith))
 
-own-round-requires : tie.Need-own-round-requires Inv-loop μ-loop
-own-round-requires c κs =
+own-round-masked-requires : tie.Need-own-round-masked-requires
+own-round-masked-requires c κs =
     let s = c .before .before .before in
     let n = s .args .trucks in
-    let whole : (3 * n + n * n) % 8 ≡ 0 = eqb-true ((3 * n + n * n) % 8) 0 (and-right (leb 16 n) (eqb ((3 * n + n * n) % 8) 0) (c .if1 .taken)) in
+    let whole : (3 * n + n * n) % 8 ≡ 0 = eqb-true ((3 * n + n * n) % 8) 0 (and-right (leb 16 n && ltb 1 (s .args .rounds)) (eqb ((3 * n + n * n) % 8) 0) (c .if1 .taken)) in
     (s .pre .0, s .pre .1, c .before .word-place .ensures, whole, s .pre .2)
 
--- the round that the search begins at
-begun : (c : tie.Joined1 Inv-loop μ-loop)
-    → (c .if1 .r ≤ c .before .before .before .args .rounds) × (ownRound (wordIn (bitAt (c .before .before .before .args .s .now)) (c .before .before .before .args .trucks)) (c .before .before .before .args .trucks) (c .if1 .r) ≡ c .if1 .r)
-begun c =
-    let a = c .before .before .before .args in
-    let word = wordIn (bitAt (a .s .now)) (a .trucks) in
-    ⊎-elim (λ w. own-on word (a .trucks) (a .rounds) (c .if1 .r) (w .2 ∙ w .1 .ensures)) (λ w. rw (w .1) (omega arith, own-begins word (a .trucks))) (c .if1 .came)
+own-round-requires : tie.Need-own-round-requires
+own-round-requires c κs = let s = c .before .before .before in (s .pre .0, s .pre .1, c .before .word-place .ensures, s .pre .2)
 
-mul-at : tie.Need-mul-at Inv-loop μ-loop
-mul-at c =
-    let a = c .before .before .before .before .args in
-    omega (arith, rounds-within (a .trucks) (c .before .if1 .r) (omega arith) (omega (arith, begun (c .before) .0)))
+-- the round that either search came to
+found : (c : tie.Joined1)
+    → c .if1 .r ≡ ownRound (wordIn (bitAt (c .before .before .before .args .s .now)) (c .before .before .before .args .trucks)) (c .before .before .before .args .trucks) (c .before .before .before .args .rounds)
+found c = ⊎-elim (λ w. w .2 ∙ w .1 .ensures) (λ w. w .2 ∙ w .1 .ensures) (c .if1 .came)
 
-add-at : tie.Need-add-at Inv-loop μ-loop
-add-at c =
-    let a = c .before .before .before .before .args in
-    omega (arith, c .before .before .word-place .ensures, rounds-within (a .trucks) (c .before .if1 .r) (omega arith) (omega (arith, begun (c .before) .0)))
-
-loop-holds : tie.Need-loop-holds Inv-loop μ-loop
-loop-holds c = (omega (arith, c .before .before .word-place .ensures), begun (c .before) .0, begun (c .before) .1)
-
-own-any-requires : tie.Need-own-any-requires Inv-loop μ-loop
-own-any-requires c κs =
-    let s = c .before .before .before .before .before .before in
-    let a = s .args in
-    let l = c .before .loop in
-    (omega arith, omega (arith, l .inv .0, rounds-within (a .trucks) (l .r) (omega arith) (omega arith)), rows-within (a .trucks) (a .rounds) (l .r) (l .at) (8 * length (a .s .now)) (c .loop-test .taken) (l .inv .0) (s .pre .2))
-
-own-truck-requires : tie.Need-own-truck-requires Inv-loop μ-loop
-own-truck-requires c κs =
-    let a = c .before .before .before .before .before .before .before .before .before .args in
-    let l = c .before .before .before .before .loop in
-    omega (arith, l .inv .0, rounds-within (a .trucks) (l .r) (omega arith) (omega arith))
-
-cast-t18 : tie.Need-cast-t18 Inv-loop μ-loop
-cast-t18 c =
-    let a = c .before .before .before .before .before .before .before .before .before .before .args in
-    let l = c .before .before .before .before .before .loop in
-    omega (arith, c .own-truck .ensures, first-le (ownPacked (a .s .now) (l .at) (a .trucks)) (a .trucks))
-
--- what the look at a round says
-looked : (c : tie.After-own-any Inv-loop μ-loop)
-    → ownIn (wordIn (bitAt (c .before .before .before .before .before .before .before .args .s .now)) (c .before .before .before .before .before .before .before .args .trucks)) (c .before .before .before .before .before .before .before .args .trucks) (c .before .before .loop .r) ≡ c .own-any .result
-looked c =
-    let a = c .before .before .before .before .before .before .before .args in
-    let l = c .before .before .loop in
-    own-looked (wordIn (bitAt (a .s .now)) (a .trucks)) (a .trucks) (l .r) (ownPacked (a .s .now) (l .at) (a .trucks)) (own-packed (a .s .now) (a .trucks) (l .r) (l .at) (l .inv .0)) (c .own-any .result) (c .own-any .ensures)
-
-returns : tie.Need-returns Inv-loop μ-loop
+returns : tie.Need-returns
 returns c =
-    let a = c .before .before .before .before .before .before .before .before .before .before .args in
-    let l = c .before .before .before .before .before .loop in
+    let a = c .before .before .before .before .args in
     let word = wordIn (bitAt (a .s .now)) (a .trucks) in
-    own-found word (a .trucks) 1 (a .rounds) (l .r) (l .r + 1) (c .own-truck .result) (omega arith) (l .inv .2) (looked (c .before .before .before) ∙ c .before .before .if2 .taken)
-    (own-searched word (a .trucks) (l .r) (ownPacked (a .s .now) (l .at) (a .trucks)) (own-packed (a .s .now) (a .trucks) (l .r) (l .at) (l .inv .0)) (c .own-truck .result) (c .own-truck .ensures))
-    (omega arith)
+    own-ends word (a .trucks) 1 (a .rounds) (c .before .if1 .r) (c .if2 .taken) (own-on word (a .trucks) (a .rounds) (c .before .if1 .r) (found (c .before)) .1)
 
-add-at-2 : tie.Need-add-at-2 Inv-loop μ-loop
-add-at-2 c =
-    let a = c .before .before .before .before .before .before .before .before .args in
-    let l = c .before .before .before .loop in
-    omega (arith, l .inv .0, rounds-within (a .trucks) (l .r) (omega arith) (omega arith), square-small (a .trucks) (omega arith))
+-- where it is one of the rounds
+within : (c : tie.Else2) → c .before .if1 .r < c .before .before .before .before .args .rounds
+within c =
+    let a = c .before .before .before .before .args in
+    let h = own-on (wordIn (bitAt (a .s .now)) (a .trucks)) (a .trucks) (a .rounds) (c .before .if1 .r) (found (c .before)) .0 in
+    omega (arith, c .if2 .left, h)
 
-loop-again : tie.Need-loop-again Inv-loop μ-loop
-loop-again c =
-    let a = c .before .before .before .before .before .before .before .before .before .args in
-    let l = c .before .before .before .before .loop in
-    (omega (arith, l .inv .0), omega arith, own-passes (wordIn (bitAt (a .s .now)) (a .trucks)) (a .trucks) (l .r) (l .inv .2) (looked (c .before .before) ∙ c .before .if2 .left))
+add-t16 : tie.Need-add-t16
+add-t16 c = omega (arith, within (c .before))
 
-returns-2 : tie.Need-returns-2 Inv-loop μ-loop
+mul-own-truck : tie.Need-mul-own-truck
+mul-own-truck c =
+    let a = c .before .before .before .before .before .args in
+    omega (arith, rounds-within (a .trucks) (c .before .before .if1 .r) (omega arith) (omega (arith, within (c .before))))
+
+add-own-truck : tie.Need-add-own-truck
+add-own-truck c =
+    let a = c .before .before .before .before .before .args in
+    omega (arith, c .before .before .before .word-place .ensures, rounds-within (a .trucks) (c .before .before .if1 .r) (omega arith) (omega (arith, within (c .before))))
+
+-- where the first own bit of that round stands
+placed : (c : tie.After-row-known)
+    → c .before .before .before .word-place .result + c .before .before .if1 .r * (3 * c .before .before .before .before .before .args .trucks + c .before .before .before .before .before .args .trucks * c .before .before .before .before .before .args .trucks)
+    ≡ roundPlace (c .before .before .before .before .before .args .trucks) (c .before .before .if1 .r) + 3 * c .before .before .before .before .before .args .trucks
+placed c = omega (arith, c .before .before .before .word-place .ensures)
+
+own-truck-requires : tie.Need-own-truck-requires
+own-truck-requires c κs =
+    let a = c .before .before .before .before .before .args in
+    omega (arith, placed c, rounds-within (a .trucks) (c .before .before .if1 .r) (omega arith) (omega (arith, within (c .before))))
+
+cast-t19 : tie.Need-cast-t19
+cast-t19 c =
+    let a = c .before .before .before .before .before .before .args in
+    let at = c .before .before .before .before .word-place .result + c .before .before .before .if1 .r * (3 * a .trucks + a .trucks * a .trucks) in
+    omega (arith, c .own-truck .ensures, first-le (ownPacked (a .s .now) at (a .trucks)) (a .trucks))
+
+returns-2 : tie.Need-returns-2
 returns-2 c =
     let a = c .before .before .before .before .before .before .args in
-    own-ends (wordIn (bitAt (a .s .now)) (a .trucks)) (a .trucks) 1 (a .rounds) (c .before .loop .r) (omega arith) (c .before .loop .inv .2)
+    let word = wordIn (bitAt (a .s .now)) (a .trucks) in
+    let j = c .before .before .before in
+    let r = j .if1 .r in
+    let at = c .before .before .before .before .word-place .result + r * (3 * a .trucks + a .trucks * a .trucks) in
+    let l = within (c .before .before) in
+    own-found word (a .trucks) 1 (a .rounds) r (r + 1) (c .own-truck .result) l (own-on word (a .trucks) (a .rounds) r (found j) .1) (own-there word (a .trucks) (a .rounds) r (found j) l)
+    (own-searched word (a .trucks) r (ownPacked (a .s .now) at (a .trucks)) (own-packed (a .s .now) (a .trucks) r at (placed (c .before))) (c .own-truck .result) (c .own-truck .ensures))
+    (omega arith)
 
 pub check-own-spec : {M : Type 1} → statement M
 check-own-spec =
     tie.close
     (tie.spec
-    Inv-loop
-    μ-loop
     (λ c. search needs)
     mul-size-2
     add-size
     (λ c κs. search needs)
+    own-round-masked-requires
     own-round-requires
-    mul-at
-    add-at
-    loop-holds
-    own-any-requires
-    (λ c. search needs)
-    own-truck-requires
-    cast-t18
     returns
-    add-at-2
-    (λ c. search needs)
-    (λ c. search needs)
-    loop-again
+    add-t16
+    mul-own-truck
+    add-own-truck
+    own-truck-requires
+    cast-t19
     returns-2)

@@ -1,4 +1,9 @@
 # Proofs: rt ci proves every listed crate from nothing, tries each must-fail edit and runs each program. Its own counts are added. A line is printed as each crate and each edit is done.
+# rt starts so many checks and waits for the last of them before it starts as many again, so that more than there are cores keep the cores busy while the longest
+# of them ends. Each takes some 600 MB.
+: "${RT_JOBS:=4}"
+export RT_JOBS
+
 # The tests of the independent reading need nothing of the library, so they run beside the proofs, on what these leave of the machine; 40-rust asks what came of them.
 reading=$(mktemp)
 (cd rust && nice -n 19 cargo test --offline --release -p oracle) > "$reading" 2>&1 &

@@ -150,7 +150,8 @@ fn veto(s: &[u8], at: usize, n: usize, running: u32, marked: u32, one: u32, seve
     }
 }
 
-// A proposal round and those after it.
+// A proposal round and those after it. Here and in `vetoes` judging stands last, right before the next round: it is a call only where grades are asked for, and
+// at that place fewer values have to be kept over it.
 fn proposals(
     s: &[u8],
     at: usize,
@@ -183,6 +184,8 @@ fn proposals(
         };
     }
     let q = propose(s, at, n, left, running, by);
+    ended(ends, sets::without(running, q.going), k + 1);
+    counters::count_up(sent, q.senders as u64);
     judged_proposing(
         judging,
         found,
@@ -194,8 +197,6 @@ fn proposals(
         q.senders,
         q.mark,
     );
-    ended(ends, sets::without(running, q.going), k + 1);
-    counters::count_up(sent, q.senders as u64);
     vetoes(
         s,
         at + (3 + n) * n,
@@ -252,6 +253,8 @@ fn vetoes(
         };
     }
     let q = veto(s, at, n, running, marked, one, several);
+    ended(ends, sets::without(running, q.on), k + 1);
+    counters::count_up(sent, (q.senders as u64) << 32);
     judged_vetoing(
         judging,
         found,
@@ -263,8 +266,6 @@ fn vetoes(
         q.senders,
         q.mark,
     );
-    ended(ends, sets::without(running, q.on), k + 1);
-    counters::count_up(sent, (q.senders as u64) << 32);
     proposals(
         s,
         at + (3 + n) * n,

@@ -125,7 +125,7 @@ static inline size_t rajvokshul_words(uint32_t trucks, uint32_t rounds) {
 
 /* ---- Stack ----------------------------------------------------------------------------------------------------------
  * Every call takes fewer bytes of stack than these, also on inputs of the largest size; there is no other memory behind a
- * call. Measured on x86-64: list 67 KiB, run and grade 64 KiB, a run of six rounds 1.1 KiB, the others below 1 KiB. */
+ * call. Measured on x86-64: list 64 KiB, run and grade 61 KiB, a run of six rounds 1.0 KiB, the others below 1 KiB. */
 #define RAJVOKSHUL_RUN_STACK 131072 /* run, grade and list, in either cycle */
 #define RAJVOKSHUL_STACK 4096       /* every other call */
 

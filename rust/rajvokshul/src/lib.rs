@@ -14,7 +14,7 @@
 //! # Stack
 //!
 //! A call takes no memory but stack, and what this crate allocates for an answer. [`Fleet::run`], [`list`] and [`grade`]
-//! take less than 128 KiB of stack on recordings of the largest size, in either cycle (67 KiB were measured), every other
+//! take less than 128 KiB of stack on recordings of the largest size, in either cycle (64 KiB were measured), every other
 //! call less than 4 KiB. Threads with stacks of their own should have that much to spare.
 //!
 //! # A first run

@@ -11,10 +11,16 @@ use native.Mathlib.Omega.{arith}
 use borrow.Author.Tests.{ltb-true, ltb-false, lt-ltb, le-ltb, eq-eqb, ne-eqb, eqb-true, eqb-false}
 use borrow.Author.Count.{below-more}
 use lib.Dec.{ltb}
-use lib.ListN.{length, getD, drop, set, length-append, length-drop, List·getD-append}
+use lib.ListN.{length, getD, drop, set, replicate, length-append, length-drop, List·getD-append}
 use lib.Seq.{drop-cons, drop-append-add, drop-drop, set-at, getD-append-add, getD-drop, ext-getD}
 use Rattle.basics.specs.Bits.{odd}
 use Rattle.basics.specs.Lists.{tabFrom, tab, filled, allBelow, who, first, someBelow, sumBelow}
+
+-- a list of zeros has a 0 at every place, also past its end
+pub zeros : (m i : ℕ) → getD {A = ℕ} (replicate m 0) i 0 ≡ 0
+zeros zero i = refl
+zeros (suc m) zero = refl
+zeros (suc m) (suc i) = zeros m i
 
 module _ {ℓ} {A : Type ℓ} where
   length-tabFrom : (g : ℕ → A) (i m : ℕ) → length (tabFrom g i m) ≡ m

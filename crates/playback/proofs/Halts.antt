@@ -2,7 +2,7 @@
 use mathlib.Core.Path.{_≡_, refl, ap, ap₂, sym, subst, subst₂, _∙_}
 use mathlib.Core.Bool.{Bool, true, false, cond, not, _&&_, _||_, and-false, true≢false, false≢true}
 use mathlib.Core.List.{List, []}
-use Prim.Native.Nat.{ℕ, zero, suc, _+_, _*_, _-_, _%_, _^_, _≤_, _<_}
+use Prim.Native.Nat.{ℕ, suc, _+_, _*_, _-_, _%_, _^_, _≤_, _<_}
 use native.Mathlib.Nat.{mul-le-mul}
 use native.Mathlib.Numerals.{add-one}
 use native.Mathlib.Decide.{decLt, ℕ-discrete}
@@ -16,7 +16,7 @@ use lib.Seq.{ext-getD}
 use Rattle.radio.specs.Runs.{stateAt}
 use Rattle.basics.specs.Bits.{bit, odd}
 use Rattle.basics.specs.Lists.{filled, first}
-use Rattle.basics.proofs.Laws.{or-left, or-right, odd-suc, first-unique, getD-filled, getD-filled-past, length-filled, length-tab, getD-tab}
+use Rattle.basics.proofs.Laws.{zeros, or-left, or-right, odd-suc, first-unique, getD-filled, getD-filled-past, length-filled, length-tab, getD-tab}
 use Rattle.refusals.specs.declared.Outcome.the-variants.{Accepted}
 use Rattle.basics.proofs.Bits.{bit-and, bit-or}
 use Rattle.sets.proofs.Words.{bit-power, bit-zero, no-bits}
@@ -361,12 +361,6 @@ module _ (p : Protocol) {rounds : ℕ → List ℕ} {s : List ℕ} {last : ℕ} 
           ∙ truck-unopened [] j (omega arith) ∙ sym (unused (p .rules) rounds s last j (omega arith))
 
 -- ---- before round 1
--- a place of the list that is lent for the openings holds 0
-zeros : (m i : ℕ) → getD {A = ℕ} (replicate m 0) i 0 ≡ 0
-zeros zero i = refl
-zeros (suc m) zero = refl
-zeros (suc m) (suc i) = zeros m i
-
 -- the openings as they were read
 module _ (s : List ℕ) (good : frameCheck s ≡ Accepted) (openings : List ℕ) (read : openings ≡ openingsInto s (replicate 32 0)) where
   pub openings-are : (j : ℕ) → j < trucksOf s → getD openings j 0 ≡ openingAt s j

@@ -2,7 +2,7 @@
 use mathlib.Core.Path.{_≡_, refl, ap, ap₂, sym, _∙_}
 use mathlib.Core.Bool.{Bool, true, false, cond, not, _&&_, _||_, or-false}
 use mathlib.Core.List.{List}
-use Prim.Native.Nat.{ℕ, zero, suc, _+_, _*_, _-_, _/_, _%_, _^_, _≤_, _<_}
+use Prim.Native.Nat.{ℕ, suc, _+_, _*_, _-_, _/_, _%_, _^_, _≤_, _<_}
 use native.Mathlib.Nat.{mod-lt, zero-add, zero-div}
 use native.Mathlib.Decide.{ℕ-discrete}
 use native.Mathlib.Omega.{arith}
@@ -13,7 +13,7 @@ use lib.ListN.{length, getD, set, replicate}
 use lib.Seq.{getD-set-same, getD-set-other}
 use Rattle.basics.specs.Bits.{digit, bit}
 use Rattle.basics.specs.Lists.{allBelow, someBelow}
-use Rattle.basics.proofs.Laws.{and-left, and-right, and-both, allBelow-at, someBelow-at, someBelow-by, some-none, some-more, some-ext}
+use Rattle.basics.proofs.Laws.{zeros, and-left, and-right, and-both, allBelow-at, someBelow-at, someBelow-by, some-none, some-more, some-ext}
 use Rattle.basics.proofs.Bits.{bit-and, bit-or}
 use Rattle.bitreader.proofs.Digits.{digit-lt, numAt-is, bitAt-byte}
 use Rattle.recording.specs.Packed.{bitAt, roundPlace}
@@ -21,16 +21,16 @@ use Rattle.recording.proofs.Searches.{number-tests, ownPacked, within-r
 
 -- ---- the mask
 -- bit e of a byte, counted from the left, in which bit d alone is 1
-all-marks : allBelow (λ d. allBelow (λ e. eqb (digit (128 / 2 ^ d) (7 - e)) (cond (eqb e d) 1 0)) 8) 8 ≡ true
+all-single : allBelow (λ d. allBelow (λ e. eqb (digit (128 / 2 ^ d) (7 - e)) (cond (eqb e d) 1 0)) 8) 8 ≡ true
 unfolding allBelow
-all-marks = refl
+all-single = refl
 
-mark-bit : (d e : ℕ) → d < 8 → e < 8 → bit (128 / 2 ^ d) (7 - e) ≡ eqb e d
-mark-bit d e h l =
+single-bit : (d e : ℕ) → d < 8 → e < 8 → bit (128 / 2 ^ d) (7 - e) ≡ eqb e d
+single-bit d e h l =
     ap (λ (x : ℕ). eqb x 1)
     (eqb-true (digit (128 / 2 ^ d) (7 - e)) (cond (eqb e d) 1 0)
     (allBelow-at (λ e. eqb (digit (128 / 2 ^ d) (7 - e)) (cond (eqb e d) 1 0)) 8
-    (allBelow-at (λ d. allBelow (λ e. eqb (digit (128 / 2 ^ d) (7 - e)) (cond (eqb e d) 1 0)) 8) 8 all-marks d h) e l))
+    (allBelow-at (λ d. allBelow (λ e. eqb (digit (128 / 2 ^ d) (7 - e)) (cond (eqb e d) 1 0)) 8) 8 all-single d h) e l))
     ∙ go (eqb e d)
   where
     go : (b : Bool) → eqb (cond b 1 0) 1 ≡ b
@@ -55,7 +55,7 @@ bit-set mask p q l = go (ℕ-discrete (q / 8) (p / 8))
         ∙ ap (λ (x : ℕ). bit x (7 - q % 8)) (getD-set-same mask (p / 8) (bitOr (getD mask (p / 8) 0) (128 / 2 ^ (p % 8))) 0 l)
         ∙ bit-or (getD mask (p / 8) 0) (128 / 2 ^ (p % 8)) (7 - q % 8)
         ∙ ap₂ _||_ (ap (λ (j : ℕ). bit (getD mask j 0) (7 - q % 8)) (sym e))
-        (mark-bit (p % 8) (q % 8) (mod-lt p (lit< tt)) (mod-lt q (lit< tt)) ∙ same e (ℕ-discrete (q % 8) (p % 8)))
+        (single-bit (p % 8) (q % 8) (mod-lt p (lit< tt)) (mod-lt q (lit< tt)) ∙ same e (ℕ-discrete (q % 8) (p % 8)))
     go (no e) =
         ap (λ (x : ℕ). bit x (7 - q % 8)) (getD-set-other mask (p / 8) (q / 8) (bitOr (getD mask (p / 8) 0) (128 / 2 ^ (p % 8))) 0 e)
         ∙ sym (or-false (eqb (bitAt mask q) 1))
@@ -64,11 +64,6 @@ bit-set mask p q l = go (ℕ-discrete (q / 8) (p / 8))
 -- the bits of a mask are those of the first i trucks, of which the first stands at a place
 abbrev pub OwnMask : List ℕ → ℕ → ℕ → ℕ → Type 0
 OwnMask mask at n i = (q : ℕ) → eqb (bitAt mask q) 1 ≡ someBelow (λ k. eqb q (at + k * (n + 1))) i
-
-zeros : (m i : ℕ) → getD {A = ℕ} (replicate m 0) i 0 ≡ 0
-zeros zero i = refl
-zeros (suc m) zero = refl
-zeros (suc m) (suc i) = zeros m i
 
 pub mask-begins : (m at n : ℕ) → OwnMask (replicate m 0) at n 0
 unfolding bitAt

@@ -24,9 +24,9 @@ module _ (op f : ℕ → ℕ → ℕ) (g : Bool → Bool → Bool) where
   abbrev One : ℕ → ℕ → Type 0
   One x y = (f x y < 2) × (eqb (f x y) 1 ≡ g (eqb x 1) (eqb y 1))
 
-  bit-op : ((a b k : ℕ) → op a b / 2 ^ k ≡ op (a / 2 ^ k) (b / 2 ^ k)) → ((a b : ℕ) → op a b ≡ op (a / 2) (b / 2) * 2 + f (a % 2) (b % 2))
+  bit_op : ((a b k : ℕ) → op a b / 2 ^ k ≡ op (a / 2 ^ k) (b / 2 ^ k)) → ((a b : ℕ) → op a b ≡ op (a / 2) (b / 2) * 2 + f (a % 2) (b % 2))
       → One 0 0 → One 0 1 → One 1 0 → One 1 1 → (a b j : ℕ) → bit (op a b) j ≡ g (bit a j) (bit b j)
-  bit-op shr step zz zo oz oo a b j =
+  bit_op shr step zz zo oz oo a b j =
       let x : ℕ = a / 2 ^ j in
       let y : ℕ = b / 2 ^ j in
       let p = digits One zz zo oz oo (x % 2) (y % 2) (mod-lt x (lit< tt)) (mod-lt y (lit< tt)) in
@@ -35,10 +35,10 @@ module _ (op f : ℕ → ℕ → ℕ) (g : Bool → Bool → Bool) where
       ∙ p.1
 
 pub bit-and : (a b j : ℕ) → bit (bit_and a b) j ≡ (bit a j && bit b j)
-bit-and = bit-op bit_and min ◌&&◌ and_shr and_step (lit< tt, refl) (lit< tt, refl) (lit< tt, refl) (lit< tt, refl)
+bit-and = bit_op bit_and min ◌&&◌ and_shr and_step (lit< tt, refl) (lit< tt, refl) (lit< tt, refl) (lit< tt, refl)
 
 pub bit-or : (a b j : ℕ) → bit (bit_or a b) j ≡ (bit a j || bit b j)
-bit-or = bit-op bit_or max ◌||◌ or_shr or_step (lit< tt, refl) (lit< tt, refl) (lit< tt, refl) (lit< tt, refl)
+bit-or = bit_op bit_or max ◌||◌ or_shr or_step (lit< tt, refl) (lit< tt, refl) (lit< tt, refl) (lit< tt, refl)
 
 -- exactly one of the two
 abbrev pub one_of : Bool → Bool → Bool
@@ -46,4 +46,4 @@ one_of true b = not b
 one_of false b = b
 
 pub bit-xor : (a b j : ℕ) → bit (bit_xor a b) j ≡ one_of (bit a j) (bit b j)
-bit-xor = bit-op bit_xor differ one_of xor_shr xor_step (lit< tt, refl) (lit< tt, refl) (lit< tt, refl) (lit< tt, refl)
+bit-xor = bit_op bit_xor differ one_of xor_shr xor_step (lit< tt, refl) (lit< tt, refl) (lit< tt, refl) (lit< tt, refl)

@@ -2,13 +2,13 @@
 use Rattle.std.specs.Prelude.{ℕ, zero, suc, ◌+◌, Bool, true, cond, ◌&&◌, List, [], ◌∷◌, ◌++◌, ltb, drop}
 
 -- g i, g (i + 1), .. : m elements
-unfoldable pub tabFrom {ℓ} : {A : Type ℓ} → (ℕ → A) → ℕ → ℕ → List A
-tabFrom g i zero = []
-tabFrom g i (suc m) = g i ∷ tabFrom g (suc i) m
+unfoldable pub tab_from {ℓ} : {A : Type ℓ} → (ℕ → A) → ℕ → ℕ → List A
+tab_from g i zero = []
+tab_from g i (suc m) = g i ∷ tab_from g (suc i) m
 
 -- g 0, g 1, .. : m elements
 unfoldable pub tab {ℓ} : {A : Type ℓ} → (ℕ → A) → ℕ → List A
-tab g m = tabFrom g 0 m
+tab g m = tab_from g 0 m
 
 -- a list whose first m elements are now g 0, g 1, ..; a longer list keeps everything past them
 unfoldable pub filled {ℓ} : {A : Type ℓ} → (ℕ → A) → ℕ → List A → List A
@@ -30,10 +30,10 @@ first p zero = 0
 first p (suc m) = cond (ltb (first p m) m) (first p m) (cond (p m) m (suc m))
 
 -- some number below m has p
-unfoldable pub someBelow : (ℕ → Bool) → ℕ → Bool
-someBelow p m = ltb (first p m) m
+unfoldable pub some_below : (ℕ → Bool) → ℕ → Bool
+some_below p m = ltb (first p m) m
 
 -- the sum of g 0, g 1, .. : m numbers
-unfoldable pub sumBelow : (ℕ → ℕ) → ℕ → ℕ
-sumBelow g zero = 0
-sumBelow g (suc m) = sumBelow g m + g m
+unfoldable pub sum_below : (ℕ → ℕ) → ℕ → ℕ
+sum_below g zero = 0
+sum_below g (suc m) = sum_below g m + g m

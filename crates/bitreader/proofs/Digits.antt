@@ -9,7 +9,7 @@ use lib.Pow.{mod-pow-add, mod-mod-pow, field, high, low, pow-add, shl_exact, shl
 use Rattle.basics.specs.Bits.{digit}
 use mathlib.Core.List.{List}
 use lib.ListN.{get_or}
-use Rattle.bitreader.specs.Bits.{bitAt, num_at, row_at, mirrored}
+use Rattle.bitreader.specs.Bits.{bit_at, num_at, row_at, mirrored}
 
 pub digit_lt : (v j : ℕ) → digit v j < 2
 digit_lt v j = mod-lt (v / 2 ^ j) (lit< tt)
@@ -44,43 +44,43 @@ low_same v w (suc k) h = step v ∙ ap₂ (λ (a b : ℕ). a * 2 ^ k + b) (h k (
 pub same_digits : (v w k : ℕ) → v < 2 ^ k → w < 2 ^ k → ((j : ℕ) → j < k → digit v j ≡ digit w j) → v ≡ w
 same_digits v w k p q h = sym (mod-eq_of_lt p) ∙ low_same v w k h ∙ mod-eq_of_lt q
 
-pub numAt-ext : (f g : ℕ → ℕ) (p q k : ℕ) → ((i : ℕ) → i < k → f (p + i) ≡ g (q + i)) → num_at f p k ≡ num_at g q k
+pub num_at_ext : (f g : ℕ → ℕ) (p q k : ℕ) → ((i : ℕ) → i < k → f (p + i) ≡ g (q + i)) → num_at f p k ≡ num_at g q k
 unfolding num_at
-numAt-ext f g p q zero h = refl
-numAt-ext f g p q (suc k) h = ap₂ (λ (a b : ℕ). a * 2 + b) (numAt-ext f g p q k (λ i l. h i (omega arith))) (h k (omega arith))
+num_at_ext f g p q zero h = refl
+num_at_ext f g p q (suc k) h = ap₂ (λ (a b : ℕ). a * 2 + b) (num_at_ext f g p q k (λ i l. h i (omega arith))) (h k (omega arith))
 
-pub rowAt-ext : (f g : ℕ → ℕ) (p q k : ℕ) → ((i : ℕ) → i < k → f (p + i) ≡ g (q + i)) → row_at f p k ≡ row_at g q k
+pub row_at_ext : (f g : ℕ → ℕ) (p q k : ℕ) → ((i : ℕ) → i < k → f (p + i) ≡ g (q + i)) → row_at f p k ≡ row_at g q k
 unfolding row_at
-rowAt-ext f g p q zero h = refl
-rowAt-ext f g p q (suc k) h = ap₂ (λ (a b : ℕ). a + b * 2 ^ k) (rowAt-ext f g p q k (λ i l. h i (omega arith))) (h k (omega arith))
+row_at_ext f g p q zero h = refl
+row_at_ext f g p q (suc k) h = ap₂ (λ (a b : ℕ). a + b * 2 ^ k) (row_at_ext f g p q k (λ i l. h i (omega arith))) (h k (omega arith))
 
 -- of a function that gives bits
 module _ (f : ℕ → ℕ) (bits : (i : ℕ) → f i < 2) where
-  pub numAt-lt : (p k : ℕ) → num_at f p k < 2 ^ k
+  pub num_at-lt : (p k : ℕ) → num_at f p k < 2 ^ k
   unfolding num_at
-  numAt-lt p zero = lit< tt
-  numAt-lt p (suc k) = omega (arith, numAt-lt p k, bits (p + k), pow-suc 2 k)
+  num_at-lt p zero = lit< tt
+  num_at-lt p (suc k) = omega (arith, num_at-lt p k, bits (p + k), pow-suc 2 k)
 
-  pub rowAt-lt : (p k : ℕ) → row_at f p k < 2 ^ k
+  pub row_at-lt : (p k : ℕ) → row_at f p k < 2 ^ k
   unfolding row_at
-  rowAt-lt p zero = lit< tt
-  rowAt-lt p (suc k) =
+  row_at-lt p zero = lit< tt
+  row_at-lt p (suc k) =
       let m : f (p + k) * 2 ^ k ≤ 1 * 2 ^ k = mul-le-mul_right (2 ^ k) (let b : f (p + k) ≤ 1 = omega (arith, bits (p + k)) in b) in
-      omega (arith, rowAt-lt p k, pow-suc 2 k)
+      omega (arith, row_at-lt p k, pow-suc 2 k)
 
   -- the digits of the one
-  pub numAt-digit : (p k j : ℕ) → j < k → digit (num_at f p k) j ≡ f (p + (k - suc j))
+  pub num_at-digit : (p k j : ℕ) → j < k → digit (num_at f p k) j ≡ f (p + (k - suc j))
   unfolding num_at
-  numAt-digit p zero j h = absurd (omega arith)
-  numAt-digit p (suc k) zero h = digit-zero (num_at f p k) (bits (p + k)) ∙ ap f (omega arith)
-  numAt-digit p (suc k) (suc j) h =
-      digit-suc (num_at f p k) j (bits (p + k)) ∙ numAt-digit p k j (omega arith) ∙ ap f (omega arith)
+  num_at-digit p zero j h = absurd (omega arith)
+  num_at-digit p (suc k) zero h = digit-zero (num_at f p k) (bits (p + k)) ∙ ap f (omega arith)
+  num_at-digit p (suc k) (suc j) h =
+      digit-suc (num_at f p k) j (bits (p + k)) ∙ num_at-digit p k j (omega arith) ∙ ap f (omega arith)
 
   -- and of the other
-  pub rowAt-digit : (p k j : ℕ) → j < k → digit (row_at f p k) j ≡ f (p + j)
+  pub row_at-digit : (p k j : ℕ) → j < k → digit (row_at f p k) j ≡ f (p + j)
   unfolding row_at
-  rowAt-digit p zero j h = absurd (omega arith)
-  rowAt-digit p (suc k) j h = go (dec_lt j k) (rowAt-digit p k j)
+  row_at-digit p zero j h = absurd (omega arith)
+  row_at-digit p (suc k) j h = go (dec_lt j k) (row_at-digit p k j)
     where
       lo : ℕ
       lo = row_at f p k
@@ -95,91 +95,91 @@ module _ (f : ℕ → ℕ) (bits : (i : ℕ) → f i < 2) where
       go (yes l) ih =
           sym (digit-mod (lo + hi * 2 ^ k) k j l)
           ∙ ap (λ (a : ℕ). digit (a % 2 ^ k) j) turned
-          ∙ ap (λ (a : ℕ). digit a j) (low hi k (rowAt-lt p k))
+          ∙ ap (λ (a : ℕ). digit a j) (low hi k (row_at-lt p k))
           ∙ ih l
       go (no l) ih =
           let e : j ≡ k = omega arith in
           ap (λ (a : ℕ). digit (lo + hi * 2 ^ k) a) e
           ∙ ap (λ (a : ℕ). a / 2 ^ k % 2) turned
-          ∙ ap (λ (a : ℕ). a % 2) (high hi k (rowAt-lt p k))
+          ∙ ap (λ (a : ℕ). a % 2) (high hi k (row_at-lt p k))
           ∙ mod-eq_of_lt (bits (p + k))
           ∙ ap (λ (a : ℕ). f (p + a)) (sym e)
 
   -- a number is read back from its digits
-  pub numAt-is : (p k v : ℕ) → v < 2 ^ k → ((i : ℕ) → i < k → f (p + i) ≡ digit v (k - suc i)) → num_at f p k ≡ v
-  numAt-is p k v l h =
-      same_digits (num_at f p k) v k (numAt-lt p k) l
-      (λ j o. numAt-digit p k j o ∙ h (k - suc j) (omega arith) ∙ ap (digit v) (omega arith))
+  pub num_at_is : (p k v : ℕ) → v < 2 ^ k → ((i : ℕ) → i < k → f (p + i) ≡ digit v (k - suc i)) → num_at f p k ≡ v
+  num_at_is p k v l h =
+      same_digits (num_at f p k) v k (num_at-lt p k) l
+      (λ j o. num_at-digit p k j o ∙ h (k - suc j) (omega arith) ∙ ap (digit v) (omega arith))
 
-  pub rowAt-is : (p k v : ℕ) → v < 2 ^ k → ((i : ℕ) → i < k → f (p + i) ≡ digit v i) → row_at f p k ≡ v
-  rowAt-is p k v l h = same_digits (row_at f p k) v k (rowAt-lt p k) l (λ j o. rowAt-digit p k j o ∙ h j o)
+  pub row_at_is : (p k v : ℕ) → v < 2 ^ k → ((i : ℕ) → i < k → f (p + i) ≡ digit v i) → row_at f p k ≡ v
+  row_at_is p k v l h = same_digits (row_at f p k) v k (row_at-lt p k) l (λ j o. row_at-digit p k j o ∙ h j o)
 
 -- a single bit
-pub numAt-one : (f : ℕ → ℕ) (p : ℕ) → num_at f p 1 ≡ f p
+pub num_at-one : (f : ℕ → ℕ) (p : ℕ) → num_at f p 1 ≡ f p
 unfolding num_at
-numAt-one f p = omega (arith, ap f (add-zero p))
+num_at-one f p = omega (arith, ap f (add-zero p))
 
 -- a run of bits in two parts
-pub numAt-add : (f : ℕ → ℕ) (p a b : ℕ) → num_at f p (a + b) ≡ num_at f p a * 2 ^ b + num_at f (p + a) b
+pub num_at-add : (f : ℕ → ℕ) (p a b : ℕ) → num_at f p (a + b) ≡ num_at f p a * 2 ^ b + num_at f (p + a) b
 unfolding num_at
-numAt-add f p a zero = ap (num_at f p) (add-zero a) ∙ omega arith
-numAt-add f p a (suc b) =
+num_at-add f p a zero = ap (num_at f p) (add-zero a) ∙ omega arith
+num_at-add f p a (suc b) =
     ap (num_at f p) (let e : a + suc b ≡ suc (a + b) = omega arith in e)
-    ∙ ap₂ (λ (x y : ℕ). x * 2 + f y) (numAt-add f p a b) (let e : p + (a + b) ≡ p + a + b = omega arith in e)
+    ∙ ap₂ (λ (x y : ℕ). x * 2 + f y) (num_at-add f p a b) (let e : p + (a + b) ≡ p + a + b = omega arith in e)
     ∙ omega (arith, ap (λ (x : ℕ). num_at f p a * x) (pow-suc 2 b))
 
-pub rowAt-add : (f : ℕ → ℕ) (p a b : ℕ) → row_at f p (a + b) ≡ row_at f p a + row_at f (p + a) b * 2 ^ a
+pub row_at-add : (f : ℕ → ℕ) (p a b : ℕ) → row_at f p (a + b) ≡ row_at f p a + row_at f (p + a) b * 2 ^ a
 unfolding row_at
-rowAt-add f p a zero = ap (row_at f p) (add-zero a) ∙ omega arith
-rowAt-add f p a (suc b) =
+row_at-add f p a zero = ap (row_at f p) (add-zero a) ∙ omega arith
+row_at-add f p a (suc b) =
     ap (row_at f p) (let e : a + suc b ≡ suc (a + b) = omega arith in e)
-    ∙ ap₂ (λ (x y : ℕ). x + y) (rowAt-add f p a b) (ap₂ (λ (x y : ℕ). f x * y) (let e : p + (a + b) ≡ p + a + b = omega arith in e) (pow-add 2 a b))
+    ∙ ap₂ (λ (x y : ℕ). x + y) (row_at-add f p a b) (ap₂ (λ (x y : ℕ). f x * y) (let e : p + (a + b) ≡ p + a + b = omega arith in e) (pow-add 2 a b))
     ∙ omega arith
 
 -- the first k of more bits
-pub rowAt-low : (f : ℕ → ℕ) → ((i : ℕ) → f i < 2) → (p k m : ℕ) → k ≤ m → row_at f p m % 2 ^ k ≡ row_at f p k
-rowAt-low f bits p k m h =
+pub row_at_low : (f : ℕ → ℕ) → ((i : ℕ) → f i < 2) → (p k m : ℕ) → k ≤ m → row_at f p m % 2 ^ k ≡ row_at f p k
+row_at_low f bits p k m h =
     ap (λ (x : ℕ). row_at f p x % 2 ^ k) (let e : m ≡ k + (m - k) = omega arith in e)
-    ∙ ap (λ (x : ℕ). x % 2 ^ k) (rowAt-add f p k (m - k) ∙ add_comm (row_at f p k) (row_at f (p + k) (m - k) * 2 ^ k))
-    ∙ low (row_at f (p + k) (m - k)) k (rowAt-lt f bits p k)
+    ∙ ap (λ (x : ℕ). x % 2 ^ k) (row_at-add f p k (m - k) ∙ add_comm (row_at f p k) (row_at f (p + k) (m - k) * 2 ^ k))
+    ∙ low (row_at f (p + k) (m - k)) k (row_at-lt f bits p k)
 
 -- the middle one of three parts
-pub numAt-part : (f : ℕ → ℕ) → ((i : ℕ) → f i < 2) → (p a b c : ℕ) → num_at f p (a + b + c) / 2 ^ c % 2 ^ b ≡ num_at f (p + a) b
-numAt-part f bits p a b c =
-    ap (λ (x : ℕ). x / 2 ^ c % 2 ^ b) (numAt-add f p (a + b) c)
-    ∙ ap (λ (x : ℕ). x % 2 ^ b) (high (num_at f p (a + b)) c (numAt-lt f bits (p + (a + b)) c))
-    ∙ ap (λ (x : ℕ). x % 2 ^ b) (numAt-add f p a b)
-    ∙ low (num_at f p a) b (numAt-lt f bits (p + a) b)
+pub num_at-part : (f : ℕ → ℕ) → ((i : ℕ) → f i < 2) → (p a b c : ℕ) → num_at f p (a + b + c) / 2 ^ c % 2 ^ b ≡ num_at f (p + a) b
+num_at-part f bits p a b c =
+    ap (λ (x : ℕ). x / 2 ^ c % 2 ^ b) (num_at-add f p (a + b) c)
+    ∙ ap (λ (x : ℕ). x % 2 ^ b) (high (num_at f p (a + b)) c (num_at-lt f bits (p + (a + b)) c))
+    ∙ ap (λ (x : ℕ). x % 2 ^ b) (num_at-add f p a b)
+    ∙ low (num_at f p a) b (num_at-lt f bits (p + a) b)
 
 -- the first k of more bits
-pub numAt-first : (f : ℕ → ℕ) → ((i : ℕ) → f i < 2) → (p k m : ℕ) → k ≤ m → num_at f p m / 2 ^ (m - k) ≡ num_at f p k
-numAt-first f bits p k m h =
+pub num_at-first : (f : ℕ → ℕ) → ((i : ℕ) → f i < 2) → (p k m : ℕ) → k ≤ m → num_at f p m / 2 ^ (m - k) ≡ num_at f p k
+num_at-first f bits p k m h =
     ap (λ (x : ℕ). num_at f p x / 2 ^ (m - k)) (let e : m ≡ k + (m - k) = omega arith in e)
-    ∙ ap (λ (x : ℕ). x / 2 ^ (m - k)) (numAt-add f p k (m - k))
-    ∙ high (num_at f p k) (m - k) (numAt-lt f bits (p + k) (m - k))
+    ∙ ap (λ (x : ℕ). x / 2 ^ (m - k)) (num_at-add f p k (m - k))
+    ∙ high (num_at f p k) (m - k) (num_at-lt f bits (p + k) (m - k))
 
 -- ---- bytes
-pub bit_at_lt : (s : List ℕ) (p : ℕ) → bitAt s p < 2
-unfolding bitAt
+pub bit_at_lt : (s : List ℕ) (p : ℕ) → bit_at s p < 2
+unfolding bit_at
 bit_at_lt s p = mod-lt _ (lit< tt)
 
 -- bit i of byte q
-pub bitAt-byte : (s : List ℕ) (q i : ℕ) → i < 8 → bitAt s (8 * q + i) ≡ digit (get_or s q 0) (8 - suc i)
-unfolding bitAt
-bitAt-byte s q i l = ap₂ (λ (a b : ℕ). digit (get_or s a 0) b) (omega arith) (omega arith)
+pub bit_at_byte : (s : List ℕ) (q i : ℕ) → i < 8 → bit_at s (8 * q + i) ≡ digit (get_or s q 0) (8 - suc i)
+unfolding bit_at
+bit_at_byte s q i l = ap₂ (λ (a b : ℕ). digit (get_or s a 0) b) (omega arith) (omega arith)
 
 -- the bit at a place, with those before it shifted out of its byte
-pub bit-in-byte : (s : List ℕ) (p : ℕ) → get_or s (p / 8) 0 < 256 → get_or s (p / 8) 0 * 2 ^ (p % 8) % 2 ^ 32 / 128 % 2 ≡ bitAt s p
-unfolding bitAt
-bit-in-byte s p h =
+pub bit_in_byte : (s : List ℕ) (p : ℕ) → get_or s (p / 8) 0 < 256 → get_or s (p / 8) 0 * 2 ^ (p % 8) % 2 ^ 32 / 128 % 2 ≡ bit_at s p
+unfolding bit_at
+bit_in_byte s p h =
     let x : ℕ = get_or s (p / 8) 0 in
     let d : ℕ = p % 8 in
     ap (λ (v : ℕ). v / 128 % 2) (shl_exact {a = x} 8 d 32 h (omega arith))
     ∙ ap (λ (k : ℕ). x * 2 ^ d / 2 ^ k % 2) (let e : 7 ≡ d + (7 - d) = omega arith in e)
     ∙ ap (λ (v : ℕ). v % 2) (sym (shr-shr (x * 2 ^ d) d (7 - d)) ∙ ap (λ (v : ℕ). v / 2 ^ (7 - d)) (shl-shr x d))
 
-pub byte-is : (s : List ℕ) (q : ℕ) → get_or s q 0 < 256 → num_at (bitAt s) (8 * q) 8 ≡ get_or s q 0
-byte-is s q h = numAt-is (bitAt s) (bit_at_lt s) (8 * q) 8 (get_or s q 0) h (bitAt-byte s q)
+pub byte_is : (s : List ℕ) (q : ℕ) → get_or s q 0 < 256 → num_at (bit_at s) (8 * q) 8 ≡ get_or s q 0
+byte_is s q h = num_at_is (bit_at s) (bit_at_lt s) (8 * q) 8 (get_or s q 0) h (bit_at_byte s q)
 
 -- a shift of 1
 pub one_shifted : (k : ℕ) → k < 64 → 1 * 2 ^ k % 2 ^ 64 ≡ 2 ^ k
@@ -188,27 +188,27 @@ one_shifted k h = shl_exact {a = 1} 1 k 64 (lit< tt) (omega arith) ∙ omega ari
 -- ---- digits in reverse
 pub mirrored-lt : (k v : ℕ) → mirrored k v < 2 ^ k
 unfolding mirrored
-mirrored-lt k v = rowAt-lt (λ i. digit v (k - suc i)) (λ i. digit_lt v (k - suc i)) 0 k
+mirrored-lt k v = row_at-lt (λ i. digit v (k - suc i)) (λ i. digit_lt v (k - suc i)) 0 k
 
 pub mirrored-digit : (k v j : ℕ) → j < k → digit (mirrored k v) j ≡ digit v (k - suc j)
 unfolding mirrored
-mirrored-digit k v j h = rowAt-digit (λ i. digit v (k - suc i)) (λ i. digit_lt v (k - suc i)) 0 k j h ∙ ap (λ (i : ℕ). digit v (k - suc i)) (omega arith)
+mirrored-digit k v j h = row_at-digit (λ i. digit v (k - suc i)) (λ i. digit_lt v (k - suc i)) 0 k j h ∙ ap (λ (i : ℕ). digit v (k - suc i)) (omega arith)
 
 -- digits above the d-th, counted from there
-digit-shr : (v d j : ℕ) → digit v (d + j) ≡ digit (v / 2 ^ d) j
-digit-shr v d j = ap (λ (x : ℕ). x % 2) (sym (shr-shr v d j))
+digit_shr : (v d j : ℕ) → digit v (d + j) ≡ digit (v / 2 ^ d) j
+digit_shr v d j = ap (λ (x : ℕ). x % 2) (sym (shr-shr v d j))
 
 -- each half is reversed, and the halves change places
 pub mirrored-add : (a b v : ℕ) → mirrored (a + b) v ≡ mirrored a (v / 2 ^ b) + mirrored b (v % 2 ^ b) * 2 ^ a
 unfolding mirrored
 mirrored-add a b v =
     let f : ℕ → ℕ = λ i. digit v (a + b - suc i) in
-    rowAt-add f 0 a b
+    row_at-add f 0 a b
     ∙ ap₂ (λ (x y : ℕ). x + y * 2 ^ a)
-    (rowAt-ext f (λ i. digit (v / 2 ^ b) (a - suc i)) 0 0 a
+    (row_at_ext f (λ i. digit (v / 2 ^ b) (a - suc i)) 0 0 a
     (λ i l.
-    ap (digit v) (let e : a + b - suc (0 + i) ≡ b + (a - suc (0 + i)) = omega arith in e) ∙ digit-shr v b (a - suc (0 + i))))
-    (rowAt-ext f (λ i. digit (v % 2 ^ b) (b - suc i)) (0 + a) 0 b
+    ap (digit v) (let e : a + b - suc (0 + i) ≡ b + (a - suc (0 + i)) = omega arith in e) ∙ digit_shr v b (a - suc (0 + i))))
+    (row_at_ext f (λ i. digit (v % 2 ^ b) (b - suc i)) (0 + a) 0 b
     (λ i l.
     ap (digit v) (let e : a + b - suc (0 + a + i) ≡ b - suc (0 + i) = omega arith in e)
     ∙ sym (digit-mod v b (b - suc (0 + i)) (omega arith))))
@@ -216,9 +216,9 @@ mirrored-add a b v =
 pub mirrored-joined : (k v lo hi : ℕ) → lo ≡ mirrored k (v % 2 ^ k) → hi ≡ mirrored k (v / 2 ^ k) → lo * 2 ^ k + hi ≡ mirrored (k + k) v
 mirrored-joined k v lo hi e g = ap₂ (λ (a b : ℕ). a * 2 ^ k + b) e g ∙ sym (mirrored-add k k v ∙ omega arith)
 
-pub mirrored-two : (v : ℕ) → v < 4 → mirrored 2 v ≡ v % 2 * 2 + v / 2
+pub mirrored_two : (v : ℕ) → v < 4 → mirrored 2 v ≡ v % 2 * 2 + v / 2
 unfolding mirrored row_at
-mirrored-two v h = omega arith
+mirrored_two v h = omega arith
 
 -- the digits below the k-th in reverse, out of more digits in reverse
 pub mirrored-below : (k d v : ℕ) → mirrored (d + k) v / 2 ^ d ≡ mirrored k v
@@ -226,22 +226,22 @@ unfolding mirrored
 mirrored-below k d v =
     ap (λ (x : ℕ). x / 2 ^ d) (mirrored-add d k v ∙ add_comm (mirrored d (v / 2 ^ k)) (mirrored k (v % 2 ^ k) * 2 ^ d))
     ∙ high (mirrored k (v % 2 ^ k)) d (mirrored-lt d (v / 2 ^ k))
-    ∙ rowAt-ext (λ i. digit (v % 2 ^ k) (k - suc i)) (λ i. digit v (k - suc i)) 0 0 k (λ i l. digit-mod v k (k - suc (0 + i)) (omega arith))
+    ∙ row_at_ext (λ i. digit (v % 2 ^ k) (k - suc i)) (λ i. digit v (k - suc i)) 0 0 k (λ i l. digit-mod v k (k - suc (0 + i)) (omega arith))
 
 -- between the two numbers of a run of bits
 module _ (f : ℕ → ℕ) (bits : (i : ℕ) → f i < 2) (p k : ℕ) where
-  pub mirrored-num : mirrored k (num_at f p k) ≡ row_at f p k
+  pub mirrored_num : mirrored k (num_at f p k) ≡ row_at f p k
   unfolding mirrored
-  mirrored-num =
-      rowAt-ext (λ i. digit (num_at f p k) (k - suc i)) f 0 p k
-      (λ i l. numAt-digit f bits p k (k - suc (0 + i)) (omega arith) ∙ ap f (omega arith))
+  mirrored_num =
+      row_at_ext (λ i. digit (num_at f p k) (k - suc i)) f 0 p k
+      (λ i l. num_at-digit f bits p k (k - suc (0 + i)) (omega arith) ∙ ap f (omega arith))
 
-  pub num-mirrored : (v : ℕ) → ((i : ℕ) → i < k → f (p + i) ≡ digit v i) → num_at f p k ≡ mirrored k v
-  num-mirrored v h =
-      numAt-is f bits p k (mirrored k v) (mirrored-lt k v)
+  pub num_mirrored : (v : ℕ) → ((i : ℕ) → i < k → f (p + i) ≡ digit v i) → num_at f p k ≡ mirrored k v
+  num_mirrored v h =
+      num_at_is f bits p k (mirrored k v) (mirrored-lt k v)
       (λ i l. h i l ∙ sym (mirrored-digit k v (k - suc i) (omega arith) ∙ ap (digit v) (omega arith)))
 
 -- the reverse of the lowest w of 32 digits
-pub mirrored-of-32 : (w x y : ℕ) → w ≤ 32 → y ≡ mirrored 32 x → y / 2 ^ (32 - w) ≡ mirrored w x
-mirrored-of-32 w x y h e =
+pub mirrored_of_32 : (w x y : ℕ) → w ≤ 32 → y ≡ mirrored 32 x → y / 2 ^ (32 - w) ≡ mirrored w x
+mirrored_of_32 w x y h e =
     ap (λ (a : ℕ). a / 2 ^ (32 - w)) (e ∙ ap (λ (a : ℕ). mirrored a x) (let o : 32 ≡ 32 - w + w = omega arith in o)) ∙ mirrored-below w (32 - w) x

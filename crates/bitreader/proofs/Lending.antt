@@ -37,7 +37,7 @@ use denote.Struct.Steps.{spelt}
 use denote.Triple.Spec.{triple_of}
 use denote.Triple.Statement.{Contract}
 use denote.Triple.Clauses.{ensured, lasts}
-use Rattle.bitreader.specs.Bits.{bitAt, num_at, bitsRead, movedBy}
+use Rattle.bitreader.specs.Bits.{bit_at, num_at, bits_read, moved_by}
 use Rattle.bitreader.specs.declared.Reader.{Reader}
 use Rattle.bitreader.specs.contracts.Reader as T
 use Rattle.bitreader.proofs.Reader.TheLaws as T'
@@ -54,7 +54,7 @@ reader s p = record { bytes = s; at = p }
 
 -- what a reader reads
 abbrev pub bits_of : Reader → ℕ → ℕ
-bits_of r k = num_at (bitAt r.bytes.now) r.at (bitsRead k)
+bits_of r k = num_at (bit_at r.bytes.now) r.at (bits_read k)
 
 module _ {M : Type 1} {𝓤 : Ura M} (𝓛 : Logic 𝓤) (κ : Lft) (r : Reader) (l : ℕ) where
   pub lies : (u : Val) → ent 𝓤 (sep 𝓤 (sem 𝓛 (fat full_share (T'.mir erased) l 0 u)) (sem 𝓛 ((R κ).own r (u ∷ [])))) (sem 𝓛 (part_at (R κ) full_share r l 0))
@@ -144,7 +144,7 @@ module _ {M : Type 1} {𝓤 : Ura M} (𝓛 : Logic 𝓤) (at_mem : Memory → SP
 
     -- what is had after the call
     abbrev pub Back : Val → Item 𝓤
-    Back u = some (λ (w : ℕ). given (w ≡ bits_of r k) (‵ (u32.own_val w (u ∷ [])) ⊛ ‵ (flft κ q) ⊛ ‵ (part_at (R κ) full_share (movedBy r k) l 0)))
+    Back u = some (λ (w : ℕ). given (w ≡ bits_of r k) (‵ (u32.own_val w (u ∷ [])) ⊛ ‵ (flft κ q) ⊛ ‵ (part_at (R κ) full_share (moved_by r k) l 0)))
 
     pub comes_back : (ν : ℕ) (δ : GName) (u : Val) → ent 𝓤 (sep 𝓤 (Take.post (to ν δ) u) (mean 𝓛 (Kept ν δ))) (H.⇛ (mean 𝓛 (Back u)))
     unfolding part_of
@@ -152,8 +152,8 @@ module _ {M : Type 1} {𝓤 : Ura M} (𝓛 : Logic 𝓤) (at_mem : Memory → SP
         qed 𝓛 (raw (Take.post (to ν δ) u) ∷ Kept ν δ ∷ []) ∵ updating ! $
         use1 𝓛 (later (some (λ (w : ℕ). ((‵ (flft (ν ∷ κ) (PosShare.right q)) ⊛ ‵ (flft κ (PosShare.left q)) ⊛ ‵ ftrue) ⊛ ‵ (u32.own_val w (u ∷ [])))
         ⊛ raw (ensured 𝓛 take.ended (take.clauses 𝓛 at_mem run) (ν ∷ κ, (κ, tt)) (passed δ) tt w)))) (id⊢ 𝓤 _) $ await ! tt $ pick ! (λ w. split ! $ move ! (1 ∷ []) $
-        use1 𝓛 (some (λ (ws : Reader × (Unit {0} × Unit {0})). ‵ (lasts take.ended (ν ∷ κ, (κ, tt)) (passed δ) ws) ⊛ raw (fact 𝓤 ((w ≡ bits_of r k) × (ws.0 ≡ movedBy r k))))) (id⊢ 𝓤 _) $ pick ! (λ ws.
-        split ! $ move ! (1 ∷ []) $ heard ! ((w ≡ bits_of r k) × (ws.0 ≡ movedBy r k)) (λ e. fsplit ! $ move ! (2 ∷ []) $ split ! $ split ! $ move ! (1 ∷ []) $ split ! $
+        use1 𝓛 (some (λ (ws : Reader × (Unit {0} × Unit {0})). ‵ (lasts take.ended (ν ∷ κ, (κ, tt)) (passed δ) ws) ⊛ raw (fact 𝓤 ((w ≡ bits_of r k) × (ws.0 ≡ moved_by r k))))) (id⊢ 𝓤 _) $ pick ! (λ ws.
+        split ! $ move ! (1 ∷ []) $ heard ! ((w ≡ bits_of r k) × (ws.0 ≡ moved_by r k)) (λ e. fsplit ! $ move ! (2 ∷ []) $ split ! $ split ! $ move ! (1 ∷ []) $ split ! $
         -- [the bytes' token; true; the loan's token; the bits; the last value; true; what the lender kept]
         move ! (6 ∷ []) $ split ! $ move ! (4 ∷ 0 ∷ []) $ use2 𝓛 (later (‵ (fdead (ν ∷ κ)) ⊛ ‵ (flft κ (PosShare.right q)))) (within_end 𝓛 ν κ (PosShare.right q)) $ await ! tt $ split ! $
         -- [the loan is over; the other half of the token; the lender's part; the bytes' token; true; the bits; the last value; true]
@@ -161,5 +161,5 @@ module _ {M : Type 1} {𝓤 : Ura M} (𝓛 : Logic 𝓤) (at_mem : Memory → SP
         rewrite ! 0 (λ (y : Reader). ‵ (part_at (R κ) full_share y l 0)) e.1 refl $
         -- [the reader; the other half; the bytes' token; true; the bits; true]
         move ! (2 ∷ 1 ∷ []) $ use2 𝓛 (‵ (flft κ q)) (𝓛.lfts.lft_join κ q) $
-        at_once ! $ show ! (λ (w : ℕ). guard 𝓤 (w ≡ bits_of r k) (sep 𝓤 (sem 𝓛 (u32.own_val w (u ∷ []))) (sep 𝓤 (A.lft κ q) (sem 𝓛 (part_at (R κ) full_share (movedBy r k) l 0))))) w $
+        at_once ! $ show ! (λ (w : ℕ). guard 𝓤 (w ≡ bits_of r k) (sep 𝓤 (sem 𝓛 (u32.own_val w (u ∷ []))) (sep 𝓤 (A.lft κ q) (sem 𝓛 (part_at (R κ) full_share (moved_by r k) l 0))))) w $
         check ! e.0 $ keep ! (3 ∷ 0 ∷ 1 ∷ []) $ done !)))

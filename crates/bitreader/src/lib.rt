@@ -1,7 +1,7 @@
 // Numbers of up to 32 bits at any place of a slice of bytes, by a reader and on plain parameters.
 ghost use Rattle.std.specs.Prelude.{◌≡◌, ◌+◌, ◌*◌, ◌-◌, ◌<◌, ◌≤◌, ◌^◌, ◌/◌, ◌%◌, get_or, length};
-ghost use Rattle.bitreader.specs.Bits.{bitAt, num_at, row_at, bitsRead, placeAfter, mirrored, movedBy};
-ghost use Rattle.bitreader.specs.Ways.{bytesFrom, EightRemain, byEight, byBytes};
+ghost use Rattle.bitreader.specs.Bits.{bit_at, num_at, row_at, bits_read, place_after, mirrored, moved_by};
+ghost use Rattle.bitreader.specs.Ways.{bytes_from, EightRemain, by_eight, by_bytes};
 
 // The byte at a place; past the end it is 0.
 fn byte_at(s: &[u8], i: usize) -> u64
@@ -13,7 +13,7 @@ fn byte_at(s: &[u8], i: usize) -> u64
 // The number that m bytes make.
 fn bytes_at(s: &[u8], b: usize, m: usize) -> u64
     requires { (m ≤ 5) × (b < 2 ^ 61) }
-    ensures { result ≡ bytesFrom s.now b m }
+    ensures { result ≡ bytes_from s.now b m }
 {
     let mut v: u64 = 0;
     let mut i = 0;
@@ -25,13 +25,13 @@ fn bytes_at(s: &[u8], b: usize, m: usize) -> u64
 }
 
 fn bits_read(k: usize) -> usize
-    ensures { result ≡ bitsRead k }
+    ensures { result ≡ bits_read k }
 {
     if k < 32 { k } else { 32 }
 }
 
 fn place_after(at: usize, k: usize) -> usize
-    ensures { result ≡ placeAfter at k }
+    ensures { result ≡ place_after at k }
 {
     let w = bits_read(k);
     if at < 18446744073709551615 - w {
@@ -61,7 +61,7 @@ fn four(a: u8, b: u8, c: u8, d: u8) -> u32
 // The number of eight bytes that are there. Two sums of four become one load wherever this is inlined; a loop over them does not.
 fn eight_at(s: &[u8], b: usize) -> u64
     requires { b + 8 ≤ length s.now }
-    ensures { result ≡ bytesFrom s.now b 8 }
+    ensures { result ≡ bytes_from s.now b 8 }
 {
     let high = four(s[b], s[b + 1], s[b + 2], s[b + 3]);
     let low = four(s[b + 4], s[b + 5], s[b + 6], s[b + 7]);
@@ -71,14 +71,14 @@ fn eight_at(s: &[u8], b: usize) -> u64
 // 32 bits out of a word of eight bytes. Shifted to the right: to the left the compiler would load five bytes in two parts.
 fn by_eight(s: &[u8], at: usize) -> u64
     requires { EightRemain s.now at }
-    ensures { result ≡ byEight s.now at 32 }
+    ensures { result ≡ by_eight s.now at 32 }
 {
     (eight_at(s, at / 8) >> (32 - at % 8)) % 4294967296
 }
 
 // 32 bits out of the single bytes that hold them.
 fn by_bytes(s: &[u8], at: usize) -> u64
-    ensures { result ≡ byBytes s.now at 32 }
+    ensures { result ≡ by_bytes s.now at 32 }
 {
     let m = (at % 8 + 32 + 7) / 8;
     (bytes_at(s, at / 8, m) >> (8 * m - at % 8 - 32)) % 4294967296
@@ -86,7 +86,7 @@ fn by_bytes(s: &[u8], at: usize) -> u64
 
 // The 32 bits from a place on, by eight bytes where eight remain. The rare way is asked for first, which keeps it out of the loops that read.
 fn bits_32(s: &[u8], at: usize) -> u64
-    ensures { result ≡ num_at (bitAt s.now) at 32 }
+    ensures { result ≡ num_at (bit_at s.now) at 32 }
 {
     if s.len() < at / 8 + 8 {
         return by_bytes(s, at);
@@ -96,7 +96,7 @@ fn bits_32(s: &[u8], at: usize) -> u64
 
 // The bit at a place, out of its byte; past the end it is 0.
 fn bit_at(s: &[u8], at: usize) -> u32
-    ensures { result ≡ bitAt s.now at }
+    ensures { result ≡ bit_at s.now at }
 {
     let b = at / 8;
     if s.len() <= b {
@@ -108,7 +108,7 @@ fn bit_at(s: &[u8], at: usize) -> u32
 // The leaf that gathers bits: everything reads through it. Always 32 bits are gathered, of which the first w are kept:
 // one width keeps it short enough for the compiler to inline.
 pub fn bits_at(s: &[u8], at: usize, k: usize) -> u32
-    ensures { result ≡ num_at (bitAt s.now) at (bitsRead k) }
+    ensures { result ≡ num_at (bit_at s.now) at (bits_read k) }
 {
     let w = bits_read(k);
     // A search for single bits is twice as fast by single bytes.
@@ -155,7 +155,7 @@ fn mirror_32(x: u32) -> u32
 
 // The lowest k digits of x, at most 32, in reverse: the one turns into the other of the two numbers that k bits make.
 pub fn mirror(x: u32, k: usize) -> u32
-    ensures { result ≡ mirrored (bitsRead k) x }
+    ensures { result ≡ mirrored (bits_read k) x }
 {
     let w = bits_read(k);
     let all = mirror_32(x) as u64;
@@ -176,7 +176,7 @@ pub fn new<'a>(bytes: &'a [u8], at: usize) -> Reader<'a>
 
 // Reads k bits, at most 32, and moves on past them.
 pub fn take<'s, 'a>(r: &'s mut Reader<'a>, k: usize) -> u32
-    ensures { (result ≡ num_at (bitAt r.old.bytes.now) r.old.at (bitsRead k)) × (r.new ≡ movedBy r.old k) }
+    ensures { (result ≡ num_at (bit_at r.old.bytes.now) r.old.at (bits_read k)) × (r.new ≡ moved_by r.old k) }
 {
     let at = r.at;
     let v = bits_at(r.bytes, at, k);
@@ -187,7 +187,7 @@ pub fn take<'s, 'a>(r: &'s mut Reader<'a>, k: usize) -> u32
 
 // A reader in a local: what is read at a place of its own, on plain parameters, is read by this one.
 pub fn read_at(s: &[u8], at: usize, k: usize) -> u32
-    ensures { result ≡ num_at (bitAt s.now) at (bitsRead k) }
+    ensures { result ≡ num_at (bit_at s.now) at (bits_read k) }
 {
     let mut r = new(s, at);
     take(&mut r, k)
@@ -195,7 +195,7 @@ pub fn read_at(s: &[u8], at: usize, k: usize) -> u32
 
 // The same bits as a word of plain form, out of the word of 32 bits: a fixed number of them is faster to gather and to turn.
 pub fn row_at(s: &[u8], at: usize, k: usize) -> u32
-    ensures { result ≡ row_at (bitAt s.now) at (bitsRead k) }
+    ensures { result ≡ row_at (bit_at s.now) at (bits_read k) }
 {
     let all = mirror(read_at(s, at, 32), 32) as u64;
     low_bits(all, bits_read(k)) as u32

@@ -1,25 +1,25 @@
 -- Every row of the table holds, computed from the definitions.
 use mathlib.Core.Path.{◌≡◌, refl}
 use mathlib.Core.List.{map}
-use Rattle.basics.specs.Lists.{tabFrom, tab, filled, all_below, who, first, someBelow, sumBelow}
-use Rattle.radio.specs.Radio.{sent, hears, heardBy, heard, misses, missesAny, judged, complete, majorityComplete, zeroComplete, accurate, firstBreak}
-use Rattle.radio.specs.Runs.{stateAt}
-use Rattle.recording.specs.Packed.{bitAt, num_at, row_at, trucksOf, roundsOf, openingAt, openingsOf, word_at, words_of, roundAt, bitsFor, bytesFor, pack, packBit, roundBit, openingBit, packed}
-use Rattle.recording.specs.Checks.{tooShort, badTrucks, badRounds, badLength, endBit, badOpenings, highBit, badWords, ownBit, ownIn, ownLoss, ownRound, ownTruck, ownLossCheck, frameCheck, ownCheck, checkOf, roundsCheck, roundCheck, plainCheck}
-use Rattle.protocol.specs.Cycles.{radioIn, valuesIn, playsIn, afterIn}
-use Rattle.protocol.specs.Rules.{allSame, different, leastOr}
-use Rattle.protocol.specs.Runs.{openedIn, trucksIn, radiosIn, gradesFor}
-use Rattle.protocol.specs.Fleets.{blank, startCheck, started, goodTruckIn, goodFleetIn, stepCheckIn, nextFleetIn, steppedIn, fleetIn, ranIn, gradedIn}
-use Rattle.plain.specs.Forms.{shortBuffers, readCheck, readPlain, writeCheck, writePlain}
-use Rattle.recordbytes.specs.Layout.{recordByte, placeByte, truckAt, damagedAt, damaged, recordOf, unpacked}
-use Rattle.fleet.specs.Bytes.{bytesCheckIn, bytesStepIn}
-use Rattle.listing.specs.Listed.{textIn, listed}
-use Rattle.listing.specs.Text.{decimalIn, decimal, stateText, sentText, truckLine, truckLines, totalsLine, listingOf, locationText, refusalText, printed}
-use Rattle.panel.specs.Panel.{manyTrucks, manyRounds, panelCheck, panelRan, panelListed, panelPrinted}
-use Rattle.roads.specs.Opening.{least, openingCheck, openingOf}
+use Rattle.basics.specs.Lists.{tab_from, tab, filled, all_below, who, first, some_below, sum_below}
+use Rattle.radio.specs.Radio.{sent, hears, heard_by, heard, misses, misses_any, judged, complete, majority_complete, zero_complete, accurate, first_break}
+use Rattle.radio.specs.Runs.{state_at}
+use Rattle.recording.specs.Packed.{bit_at, num_at, row_at, trucks_of, rounds_of, opening_at, openings_of, word_at, words_of, round_at, bits_for, bytes_for, pack, pack_bit, round_bit, opening_bit, packed}
+use Rattle.recording.specs.Checks.{too_short, bad_trucks, bad_rounds, bad_length, end_bit, bad_openings, high_bit, bad_words, own_bit, own_in, own_loss, own_round, own_truck, own_loss_check, frame_check, own_check, check_of, rounds_check, round_check, plain_check}
+use Rattle.protocol.specs.Cycles.{radio_in, values_in, plays_in, after_in}
+use Rattle.protocol.specs.Rules.{all_same, different, least_or}
+use Rattle.protocol.specs.Runs.{opened_in, trucks_in, radios_in, grades_for}
+use Rattle.protocol.specs.Fleets.{blank, start_check, started, good_truck_in, good_fleet_in, step_check_in, next_fleet_in, stepped_in, fleet_in, ran_in, graded_in}
+use Rattle.plain.specs.Forms.{short_buffers, read_check, read_plain, write_check, write_plain}
+use Rattle.recordbytes.specs.Layout.{record_byte, place_byte, truck_at, damaged_at, damaged, record_of, unpacked}
+use Rattle.fleet.specs.Bytes.{bytes_check_in, bytes_step_in}
+use Rattle.listing.specs.Listed.{text_in, listed}
+use Rattle.listing.specs.Text.{decimal_in, decimal, state_text, sent_text, truck_line, truck_lines, totals_line, listing_of, location_text, refusal_text, printed}
+use Rattle.panel.specs.Panel.{many_trucks, many_rounds, panel_check, panel_ran, panel_listed, panel_printed}
+use Rattle.roads.specs.Opening.{least, opening_check, opening_of}
 use Rattle.cases.specs.Questions.{reply}
 use Rattle.cases.specs.Table.{Row, table}
 
 pub starred : map (λ (r : Row). reply r.asks) table ≡ map (λ (r : Row). r.gets) table
-unfolding table reply tabFrom tab filled all_below who first someBelow sumBelow sent hears heardBy heard misses missesAny judged complete majorityComplete zeroComplete accurate firstBreak stateAt bitAt num_at row_at trucksOf roundsOf openingAt openingsOf word_at words_of roundAt bitsFor bytesFor pack packBit roundBit openingBit packed tooShort badTrucks badRounds badLength endBit badOpenings highBit badWords ownBit ownIn ownLoss ownRound ownTruck ownLossCheck frameCheck ownCheck checkOf roundsCheck roundCheck plainCheck goodTruckIn goodFleetIn stepCheckIn nextFleetIn steppedIn allSame different leastOr radioIn valuesIn playsIn afterIn openedIn trucksIn radiosIn blank fleetIn ranIn gradedIn decimalIn decimal stateText sentText truckLine truckLines totalsLine listingOf locationText refusalText printed least openingCheck openingOf gradesFor startCheck started shortBuffers readCheck readPlain writeCheck writePlain recordByte placeByte truckAt damagedAt damaged recordOf unpacked bytesCheckIn bytesStepIn textIn listed manyTrucks manyRounds panelCheck panelRan panelListed panelPrinted
+unfolding table reply tab_from tab filled all_below who first some_below sum_below sent hears heard_by heard misses misses_any judged complete majority_complete zero_complete accurate first_break state_at bit_at num_at row_at trucks_of rounds_of opening_at openings_of word_at words_of round_at bits_for bytes_for pack pack_bit round_bit opening_bit packed too_short bad_trucks bad_rounds bad_length end_bit bad_openings high_bit bad_words own_bit own_in own_loss own_round own_truck own_loss_check frame_check own_check check_of rounds_check round_check plain_check good_truck_in good_fleet_in step_check_in next_fleet_in stepped_in all_same different least_or radio_in values_in plays_in after_in opened_in trucks_in radios_in blank fleet_in ran_in graded_in decimal_in decimal state_text sent_text truck_line truck_lines totals_line listing_of location_text refusal_text printed least opening_check opening_of grades_for start_check started short_buffers read_check read_plain write_check write_plain record_byte place_byte truck_at damaged_at damaged record_of unpacked bytes_check_in bytes_step_in text_in listed many_trucks many_rounds panel_check panel_ran panel_listed panel_printed
 starred = refl

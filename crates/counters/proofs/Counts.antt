@@ -15,23 +15,23 @@ use lib.Seq.{get_or-set_same, get_or-set_other, set-get_or}
 use Rattle.basics.specs.Bits.{digit, bit}
 use Rattle.basics.proofs.Bits.{bit-and, bit-xor, one_of}
 use Rattle.sets.proofs.Words.{bit-zero}
-use Rattle.counters.specs.Counters.{digitOf, tally, carried, raised, countedUp, inUse}
+use Rattle.counters.specs.Counters.{digit_of, tally, carried, raised, counted_up, in_use}
 
 module _ (words : List ℕ) (who : ℕ) where
   -- what is not raised yet
-  pub raised-later : (i j : ℕ) → i ≤ j → get_or (raised words who i) j 0 ≡ get_or words j 0
+  pub raised_later : (i j : ℕ) → i ≤ j → get_or (raised words who i) j 0 ≡ get_or words j 0
   unfolding raised
-  raised-later zero j l = refl
-  raised-later (suc i) j l =
-      get_or-set_other (raised words who i) i j (bit_xor (get_or words i 0) (carried words who i)) 0 (λ e. omega arith) ∙ raised-later i j (omega arith)
+  raised_later zero j l = refl
+  raised_later (suc i) j l =
+      get_or-set_other (raised words who i) i j (bit_xor (get_or words i 0) (carried words who i)) 0 (λ e. omega arith) ∙ raised_later i j (omega arith)
 
   pub raised-next : (i : ℕ) → raised words who (suc i) ≡ set (raised words who i) i (bit_xor (get_or (raised words who i) i 0) (carried words who i))
   unfolding raised
-  raised-next i = ap (λ (x : ℕ). set (raised words who i) i (bit_xor x (carried words who i))) (sym (raised-later i i (omega arith)))
+  raised-next i = ap (λ (x : ℕ). set (raised words who i) i (bit_xor x (carried words who i))) (sym (raised_later i i (omega arith)))
 
   pub carried-next : (i : ℕ) → carried words who (suc i) ≡ bit_and (get_or (raised words who i) i 0) (carried words who i)
   unfolding carried
-  carried-next i = ap (λ (x : ℕ). bit_and x (carried words who i)) (sym (raised-later i i (omega arith)))
+  carried-next i = ap (λ (x : ℕ). bit_and x (carried words who i)) (sym (raised_later i i (omega arith)))
 
   -- nothing more changes where nothing is carried
   pub raised-done : (i d : ℕ) → carried words who i ≡ 0 → (carried words who (i + d) ≡ 0) × (raised words who (i + d) ≡ raised words who i)
@@ -56,15 +56,15 @@ module _ (words : List ℕ) (who : ℕ) where
 tally-same : (a b : List ℕ) (p m : ℕ) → ((k : ℕ) → k < m → get_or a k 0 ≡ get_or b k 0) → tally a m p ≡ tally b m p
 unfolding tally
 tally-same a b p zero h = refl
-tally-same a b p (suc m) h = ap₂ (λ (x y : ℕ). x + digitOf (bit y p) * 2 ^ m) (tally-same a b p m (λ k l. h k (omega arith))) (h m (omega arith))
+tally-same a b p (suc m) h = ap₂ (λ (x y : ℕ). x + digit_of (bit y p) * 2 ^ m) (tally-same a b p m (λ k l. h k (omega arith))) (h m (omega arith))
 
-half-adder : (x y : Bool) (P : ℕ) → digitOf (one_of x y) * P + digitOf (x && y) * (P * 2) ≡ digitOf x * P + digitOf y * P
-half-adder true true P = omega arith
-half-adder true false P = omega arith
-half-adder false true P = omega arith
-half-adder false false P = omega arith
+half_adder : (x y : Bool) (P : ℕ) → digit_of (one_of x y) * P + digit_of (x && y) * (P * 2) ≡ digit_of x * P + digit_of y * P
+half_adder true true P = omega arith
+half_adder true false P = omega arith
+half_adder false true P = omega arith
+half_adder false false P = omega arith
 
-digit-most : (b : Bool) → digitOf b ≤ 1
+digit-most : (b : Bool) → digit_of b ≤ 1
 digit-most true = omega arith
 digit-most false = omega arith
 
@@ -77,32 +77,32 @@ tally-lt words (suc m) p =
 
 module _ (words : List ℕ) (who p : ℕ) (long : length words ≡ 8) where
   -- the digits raised so far, and what is carried to the next
-  raised-sum : (i : ℕ) → i ≤ 8 → tally (raised words who i) i p + digitOf (bit (carried words who i) p) * 2 ^ i ≡ tally words i p + digitOf (bit who p)
+  raised_sum : (i : ℕ) → i ≤ 8 → tally (raised words who i) i p + digit_of (bit (carried words who i) p) * 2 ^ i ≡ tally words i p + digit_of (bit who p)
   unfolding tally carried raised
-  raised-sum zero l = omega arith
-  raised-sum (suc i) l =
+  raised_sum zero l = omega arith
+  raised_sum (suc i) l =
       let x : Bool = bit (get_or words i 0) p in
       let y : Bool = bit (carried words who i) p in
-      let a : digitOf (bit (get_or (raised words who (suc i)) i 0) p) ≡ digitOf (one_of x y) =
-      ap digitOf (ap (λ (w : ℕ). bit w p) (get_or-set_same (raised words who i) i (bit_xor (get_or words i 0) (carried words who i)) 0 (omega (arith, long, length-raised words who i))) ∙ bit-xor (get_or words i 0) (carried words who i) p) in
-      let b : digitOf (bit (carried words who (suc i)) p) ≡ digitOf (x && y) = ap digitOf (bit-and (get_or words i 0) (carried words who i) p) in
+      let a : digit_of (bit (get_or (raised words who (suc i)) i 0) p) ≡ digit_of (one_of x y) =
+      ap digit_of (ap (λ (w : ℕ). bit w p) (get_or-set_same (raised words who i) i (bit_xor (get_or words i 0) (carried words who i)) 0 (omega (arith, long, length-raised words who i))) ∙ bit-xor (get_or words i 0) (carried words who i) p) in
+      let b : digit_of (bit (carried words who (suc i)) p) ≡ digit_of (x && y) = ap digit_of (bit-and (get_or words i 0) (carried words who i) p) in
       let t : tally (raised words who (suc i)) i p ≡ tally (raised words who i) i p =
       tally-same (raised words who (suc i)) (raised words who i) p i (λ k lk. get_or-set_other (raised words who i) i k (bit_xor (get_or words i 0) (carried words who i)) 0 (λ e. omega arith)) in
-      rw (t, a, b, pow-suc 2 i) (omega (arith, half-adder x y (2 ^ i), raised-sum i (omega arith)))
+      rw (t, a, b, pow-suc 2 i) (omega (arith, half_adder x y (2 ^ i), raised_sum i (omega arith)))
 
   -- one more at the places of a set; of 255, 0
-  pub tally-up : tally (countedUp words who) 8 p ≡ (tally words 8 p + digitOf (bit who p)) % 256
-  tally-up = omega (arith, raised-sum 8 (omega arith), tally-lt (countedUp words who) 8 p)
+  pub tally_up : tally (counted_up words who) 8 p ≡ (tally words 8 p + digit_of (bit who p)) % 256
+  tally_up = omega (arith, raised_sum 8 (omega arith), tally-lt (counted_up words who) 8 p)
 
-  pub tally-more : tally words 8 p < 255 → tally (countedUp words who) 8 p ≡ tally words 8 p + digitOf (bit who p)
-  tally-more h = omega (arith, tally-up, h, digit-most (bit who p))
+  pub tally_more : tally words 8 p < 255 → tally (counted_up words who) 8 p ≡ tally words 8 p + digit_of (bit who p)
+  tally_more h = omega (arith, tally_up, h, digit-most (bit who p))
 
-pub length_up : (words : List ℕ) (who : ℕ) → length words ≡ 8 → length (countedUp words who) ≡ 8
+pub length_up : (words : List ℕ) (who : ℕ) → length words ≡ 8 → length (counted_up words who) ≡ 8
 length_up words who long = length-raised words who 8 ∙ long
 
 -- a word that is 0 counts nothing
-no_digit : (w p P : ℕ) → w ≡ 0 → digitOf (bit w p) * P ≡ 0
-no_digit w p P e = ap (λ (b : Bool). digitOf b * P) (ap (λ (x : ℕ). bit x p) e ∙ bit-zero p) ∙ let z : 0 * P ≡ 0 = omega arith in z
+no_digit : (w p P : ℕ) → w ≡ 0 → digit_of (bit w p) * P ≡ 0
+no_digit w p P e = ap (λ (b : Bool). digit_of b * P) (ap (λ (x : ℕ). bit x p) e ∙ bit-zero p) ∙ let z : 0 * P ≡ 0 = omega arith in z
 
 pub tally-none : (words : List ℕ) (m p : ℕ) → ((k : ℕ) → get_or words k 0 ≡ 0) → tally words m p ≡ 0
 unfolding tally
@@ -110,45 +110,45 @@ tally-none words zero p h = refl
 tally-none words (suc m) p h = omega (arith, tally-none words m p h, no_digit (get_or words m 0) p (2 ^ m) (h m))
 
 -- the words in use hold every digit
-pub tally-used : (words : List ℕ) (m p : ℕ) → tally words (inUse words m) p ≡ tally words m p
-unfolding tally inUse
-tally-used words zero p = refl
-tally-used words (suc m) p = go (eqb (get_or words m 0) 0) refl (tally-used words m p)
+pub tally_used : (words : List ℕ) (m p : ℕ) → tally words (in_use words m) p ≡ tally words m p
+unfolding tally in_use
+tally_used words zero p = refl
+tally_used words (suc m) p = go (eqb (get_or words m 0) 0) refl (tally_used words m p)
   where
-    go : (b : Bool) → eqb (get_or words m 0) 0 ≡ b → tally words (inUse words m) p ≡ tally words m p
-        → tally words (cond b (inUse words m) (suc m)) p ≡ tally words m p + digitOf (bit (get_or words m 0) p) * 2 ^ m
+    go : (b : Bool) → eqb (get_or words m 0) 0 ≡ b → tally words (in_use words m) p ≡ tally words m p
+        → tally words (cond b (in_use words m) (suc m)) p ≡ tally words m p + digit_of (bit (get_or words m 0) p) * 2 ^ m
     go true e h = omega (arith, h, no_digit (get_or words m 0) p (2 ^ m) (eqb-true (get_or words m 0) 0 e))
     go false e h = refl
 
-pub in-use-most : (words : List ℕ) (m : ℕ) → inUse words m ≤ m
-unfolding inUse
-in-use-most words zero = omega arith
-in-use-most words (suc m) = go (eqb (get_or words m 0) 0) (in-use-most words m)
+pub in_use_most : (words : List ℕ) (m : ℕ) → in_use words m ≤ m
+unfolding in_use
+in_use_most words zero = omega arith
+in_use_most words (suc m) = go (eqb (get_or words m 0) 0) (in_use_most words m)
   where
-    go : (b : Bool) → inUse words m ≤ m → cond b (inUse words m) (suc m) ≤ suc m
+    go : (b : Bool) → in_use words m ≤ m → cond b (in_use words m) (suc m) ≤ suc m
     go true h = omega arith
     go false h = omega arith
 
 -- a bit as a number is the digit
-pub digit-of : (w j : ℕ) → digitOf (bit w j) ≡ digit w j
-digit-of w j = go (digit w j) (mod-lt (w / 2 ^ j) (lit< tt))
+pub digit_of_lem : (w j : ℕ) → digit_of (bit w j) ≡ digit w j
+digit_of_lem w j = go (digit w j) (mod-lt (w / 2 ^ j) (lit< tt))
   where
-    go : (d : ℕ) → d < 2 → digitOf (eqb d 1) ≡ d
+    go : (d : ℕ) → d < 2 → digit_of (eqb d 1) ≡ d
     go zero l = refl
     go (suc zero) l = refl
     go (suc (suc d)) l = absurd (omega arith)
 
 -- the bits at place 0 and at place 32, taken out of a word at once
-pub and-pair : (x : ℕ) → bit_and x 4294967297 ≡ digitOf (bit x 0) + digitOf (bit x 32) * 4294967296
-and-pair x =
+pub and_pair : (x : ℕ) → bit_and x 4294967297 ≡ digit_of (bit x 0) + digit_of (bit x 32) * 4294967296
+and_pair x =
     ap (λ (y : ℕ). bit_and y 4294967297) (sym (split x 32))
     ∙ and_block 32 (x / 2 ^ 32) 1 (x % 2 ^ 32) 1 (mod-lt x (pow_pos 32)) (lit< tt)
-    ∙ omega (arith, and_mask (x / 2 ^ 32) 1, and_mask (x % 2 ^ 32) 1, digit-of x 0, digit-of x 32)
+    ∙ omega (arith, and_mask (x / 2 ^ 32) 1, and_mask (x % 2 ^ 32) 1, digit_of_lem x 0, digit_of_lem x 32)
 
 -- computed: places 0 and 1, then 0 alone, then 0 and 63
 abbrev three : List ℕ
-three = countedUp (countedUp (countedUp (replicate 8 0) 3) 1) 9223372036854775809
+three = counted_up (counted_up (counted_up (replicate 8 0) 3) 1) 9223372036854775809
 
-pub count-cases : (tally three 8 0 ≡ 3) × (tally three 8 1 ≡ 1) × (tally three 8 2 ≡ 0) × (tally three 8 63 ≡ 1) × (inUse three 8 ≡ 2)
-unfolding tally carried raised inUse
-count-cases = (refl, refl, refl, refl, refl)
+pub count_cases : (tally three 8 0 ≡ 3) × (tally three 8 1 ≡ 1) × (tally three 8 2 ≡ 0) × (tally three 8 63 ≡ 1) × (in_use three 8 ≡ 2)
+unfolding tally carried raised in_use
+count_cases = (refl, refl, refl, refl, refl)

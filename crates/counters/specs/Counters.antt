@@ -4,13 +4,13 @@ use Rattle.std.specs.Int.Bits.{bit_and, bit_xor}
 use Rattle.basics.specs.Bits.{bit}
 
 -- a digit as a number
-abbrev pub digitOf : Bool → ℕ
-digitOf b = cond b 1 0
+abbrev pub digit_of : Bool → ℕ
+digit_of b = cond b 1 0
 
 -- the count at place p, by the first m words
 unfoldable pub tally : List ℕ → ℕ → ℕ → ℕ
 tally words zero p = 0
-tally words (suc m) p = tally words m p + digitOf (bit (get_or words m 0) p) * 2 ^ m
+tally words (suc m) p = tally words m p + digit_of (bit (get_or words m 0) p) * 2 ^ m
 
 -- where one more at the places of a set is carried to digit i: the digits below it are all 1
 unfoldable pub carried : List ℕ → ℕ → ℕ → ℕ
@@ -23,10 +23,10 @@ raised words who zero = words
 raised words who (suc i) = set (raised words who i) i (bit_xor (get_or words i 0) (carried words who i))
 
 -- all eight of them
-abbrev pub countedUp : List ℕ → ℕ → List ℕ
-countedUp words who = raised words who 8
+abbrev pub counted_up : List ℕ → ℕ → List ℕ
+counted_up words who = raised words who 8
 
 -- of the first m words, how many there are up to the last that isn't 0
-unfoldable pub inUse : List ℕ → ℕ → ℕ
-inUse words zero = 0
-inUse words (suc m) = cond (eqb (get_or words m 0) 0) (inUse words m) (suc m)
+unfoldable pub in_use : List ℕ → ℕ → ℕ
+in_use words zero = 0
+in_use words (suc m) = cond (eqb (get_or words m 0) 0) (in_use words m) (suc m)

@@ -9,17 +9,17 @@ use native.Mathlib.Omega.{arith}
 use borrow.Author.Tests.{lt-ltb, ne_eqb}
 use Rattle.refusals.specs.declared.Refusal.TheVariants.{TruckCount, RoundCount}
 use Rattle.refusals.specs.declared.Outcome.TheVariants.{Refused}
-use Rattle.recording.specs.Checks.{badTrucks, badRounds, plainCheck}
+use Rattle.recording.specs.Checks.{bad_trucks, bad_rounds, plain_check}
 use Rattle.plain.specs.declared.WriteOutcome.TheVariants as write
-use Rattle.plain.specs.Forms.{afterWrite, writeCheck, writePlain}
+use Rattle.plain.specs.Forms.{after_write, write_check, write_plain}
 
-pub many-trucks : (n : ℕ) → 32 < n → badTrucks n ≡ true
-unfolding badTrucks
-many-trucks n h = rw (ne_eqb n 0 (λ e. omega arith), lt-ltb 32 n h)
+pub many_trucks_lem : (n : ℕ) → 32 < n → bad_trucks n ≡ true
+unfolding bad_trucks
+many_trucks_lem n h = rw (ne_eqb n 0 (λ e. omega arith), lt-ltb 32 n h)
 
-many-rounds : (R : ℕ) → 400 < R → badRounds R ≡ true
-unfolding badRounds
-many-rounds R h = lt-ltb 400 R h
+many_rounds_lem : (R : ℕ) → 400 < R → bad_rounds R ≡ true
+unfolding bad_rounds
+many_rounds_lem R h = lt-ltb 400 R h
 
 -- two counts that are both refused, where one of them is handed on for the other, or one and the same count
 pub narrowed {ℓ} : {A : Type ℓ} (f : ℕ → A) (bad : ℕ → Bool) (x : A) (n m most : ℕ)
@@ -31,25 +31,25 @@ narrowed f bad x n m most e top above same = go (dec_lt most n)
     go (no l) = ap f (e ∙ min-eq_left (omega arith))
 
 -- what two counts make, where 2 asks for the one and 3 for the other before anything else
-module _ {ℓ} {A : Type ℓ} (f : ℕ → ℕ → A) (x y : A) (two : (n R : ℕ) → badTrucks n ≡ true → f n R ≡ x) (three : (n R : ℕ) → badTrucks n ≡ false → badRounds R ≡ true → f n R ≡ y) where
-  narrow-rounds : (n R S : ℕ) → S ≡ min R 65535 → (b : Bool) → badTrucks n ≡ b → f n S ≡ f n R
-  narrow-rounds n R S e true h = two n S h ∙ sym (two n R h)
-  narrow-rounds n R S e false h =
-      narrowed (f n) badRounds y R S 65535 e (many-rounds 65535 (omega arith)) (λ l. many-rounds R (omega arith)) (λ k g. three n k h g)
+module _ {ℓ} {A : Type ℓ} (f : ℕ → ℕ → A) (x y : A) (two : (n R : ℕ) → bad_trucks n ≡ true → f n R ≡ x) (three : (n R : ℕ) → bad_trucks n ≡ false → bad_rounds R ≡ true → f n R ≡ y) where
+  narrow_rounds : (n R S : ℕ) → S ≡ min R 65535 → (b : Bool) → bad_trucks n ≡ b → f n S ≡ f n R
+  narrow_rounds n R S e true h = two n S h ∙ sym (two n R h)
+  narrow_rounds n R S e false h =
+      narrowed (f n) bad_rounds y R S 65535 e (many_rounds_lem 65535 (omega arith)) (λ l. many_rounds_lem R (omega arith)) (λ k g. three n k h g)
 
-  narrow-counts : (n R m S : ℕ) → m ≡ min n 255 → S ≡ min R 65535 → f m S ≡ f n R
-  narrow-counts n R m S e h =
-      narrow-rounds m R S h (badTrucks m) refl
-      ∙ narrowed (λ k. f k R) badTrucks x n m 255 e (many-trucks 255 (omega arith)) (λ l. many-trucks n (omega arith)) (λ k g. two k R g)
+  narrow_counts : (n R m S : ℕ) → m ≡ min n 255 → S ≡ min R 65535 → f m S ≡ f n R
+  narrow_counts n R m S e h =
+      narrow_rounds m R S h (bad_trucks m) refl
+      ∙ narrowed (λ k. f k R) bad_trucks x n m 255 e (many_trucks_lem 255 (omega arith)) (λ l. many_trucks_lem n (omega arith)) (λ k g. two k R g)
 
-pub narrow-check : (openings words : List ℕ) (n R m S : ℕ) → m ≡ min n 255 → S ≡ min R 65535 → plainCheck m S openings words ≡ plainCheck n R openings words
-unfolding plainCheck
-narrow-check openings words =
-    narrow-counts (λ n R. plainCheck n R openings words) (Refused TruckCount) (Refused RoundCount) (λ n R h. rw h) (λ n R g h. rw (g, h))
+pub narrow_check : (openings words : List ℕ) (n R m S : ℕ) → m ≡ min n 255 → S ≡ min R 65535 → plain_check m S openings words ≡ plain_check n R openings words
+unfolding plain_check
+narrow_check openings words =
+    narrow_counts (λ n R. plain_check n R openings words) (Refused TruckCount) (Refused RoundCount) (λ n R h. rw h) (λ n R g h. rw (g, h))
 
-pub narrow-write : (openings words buffer : List ℕ) (n R m S : ℕ) → m ≡ min n 255 → S ≡ min R 65535
-    → writePlain m S openings words buffer ≡ writePlain n R openings words buffer
-unfolding writePlain writeCheck plainCheck
-narrow-write openings words buffer =
-    narrow-counts (λ n R. writePlain n R openings words buffer) (afterWrite (write.Refused TruckCount) buffer) (afterWrite (write.Refused RoundCount) buffer)
+pub narrow_write : (openings words buffer : List ℕ) (n R m S : ℕ) → m ≡ min n 255 → S ≡ min R 65535
+    → write_plain m S openings words buffer ≡ write_plain n R openings words buffer
+unfolding write_plain write_check plain_check
+narrow_write openings words buffer =
+    narrow_counts (λ n R. write_plain n R openings words buffer) (after_write (write.Refused TruckCount) buffer) (after_write (write.Refused RoundCount) buffer)
     (λ n R h. rw h) (λ n R g h. rw (g, h))

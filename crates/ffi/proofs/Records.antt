@@ -8,53 +8,53 @@ use lib.Dec.{eqb, ltb}
 use lib.ListN.{length}
 use borrow.Author.Tests.{le-ltb, ltb-false, not-false}
 use Rattle.basics.specs.Lists.{filled}
-use Rattle.refusals.specs.Numbers.{number_of, outcomeNumber}
+use Rattle.refusals.specs.Numbers.{number_of, outcome_number}
 use Rattle.refusals.specs.declared.Refusal.{Refusal}
 use Rattle.refusals.specs.declared.Refusal.TheVariants.{TruckCount, Record, ShortBuffer, RoundsDone}
 use Rattle.refusals.specs.declared.Outcome.{Outcome}
 use Rattle.refusals.specs.declared.Outcome.TheVariants.{Accepted, Refused}
 use Rattle.refusals.specs.Outcomes.{refuse, and_then}
-use Rattle.refusals.proofs.Outcomes.{refuse-false, then-first, then-second}
-use Rattle.refusals.proofs.Numbers.{outcome-0}
-use Rattle.recording.specs.Packed.{trucksOf, roundsOf, openingsOf, roundAt}
-use Rattle.recording.specs.Checks.{checkOf, badTrucks, roundCheck}
-use Rattle.recording.proofs.Accepted.{in-trucks, bytes_good}
+use Rattle.refusals.proofs.Outcomes.{refuse-false, then-first, then_second}
+use Rattle.refusals.proofs.Numbers.{outcome_0}
+use Rattle.recording.specs.Packed.{trucks_of, rounds_of, openings_of, round_at}
+use Rattle.recording.specs.Checks.{check_of, bad_trucks, round_check}
+use Rattle.recording.proofs.Accepted.{in_trucks, bytes_good}
 use Rattle.protocol.specs.declared.Fleet.{Fleet}
 use Rattle.protocol.specs.declared.Answer.{Answer}
-use Rattle.protocol.specs.Runs.{openedTrucks}
-use Rattle.protocol.specs.Fleets.{Protocol, blank, startCheck, started, goodFleetIn, stepCheckIn, steppedIn, nextFleetIn, ranIn, fleetIn}
-use Rattle.protocol.proofs.Good.{record-parts}
-use Rattle.protocol.proofs.Steps.{accepted-by, start-by}
-use Rattle.recordbytes.specs.Layout.{size_for, recordByte, packCheck, packFor, packedWhole, unpacked}
-use Rattle.playback.specs.Bytes.{runCheckIn, runBytesIn}
-use Rattle.panel.specs.Panel.{panelRan, panelRunCheck, panelRunBytes}
-use Rattle.fleet.specs.Bytes.{bytesCheckIn, bytesStepIn}
-use Rattle.ffi.specs.Calls.{Result, result, recordAs, storeCall, runCallIn, startCall, stepCallIn, panelRunCall}
-use Rattle.ffi.proofs.Narrow.{many-trucks, narrowed}
+use Rattle.protocol.specs.Runs.{opened_trucks}
+use Rattle.protocol.specs.Fleets.{Protocol, blank, start_check, started, good_fleet_in, step_check_in, stepped_in, next_fleet_in, ran_in, fleet_in}
+use Rattle.protocol.proofs.Good.{record_parts}
+use Rattle.protocol.proofs.Steps.{accepted_by, start_by}
+use Rattle.recordbytes.specs.Layout.{size_for, record_byte, pack_check, pack_for, packed_whole, unpacked}
+use Rattle.playback.specs.Bytes.{run_check_in, run_bytes_in}
+use Rattle.panel.specs.Panel.{panel_ran, panel_run_check, panel_run_bytes}
+use Rattle.fleet.specs.Bytes.{bytes_check_in, bytes_step_in}
+use Rattle.ffi.specs.Calls.{Result, result, record_as, store_call, run_call_in, start_call, step_call_in, panel_run_call}
+use Rattle.ffi.proofs.Narrow.{many_trucks_lem, narrowed}
 
 -- the record of an accepted step has an n in range
-pub step-trucks : (p : Protocol) (f : Fleet) (w : List ℕ) → stepCheckIn p f w ≡ Accepted → badTrucks f.n ≡ false
-unfolding stepCheckIn
-step-trucks p f w h =
-    (record-parts p f
-    (not-false (goodFleetIn p f) (refuse-false (not (goodFleetIn p f)) Record (refuse (eqb f.done 400) RoundsDone (roundCheck f.n (f.done + 1) w)) h))
+pub step_trucks : (p : Protocol) (f : Fleet) (w : List ℕ) → step_check_in p f w ≡ Accepted → bad_trucks f.n ≡ false
+unfolding step_check_in
+step_trucks p f w h =
+    (record_parts p f
+    (not-false (good_fleet_in p f) (refuse-false (not (good_fleet_in p f)) Record (refuse (eqb f.done 400) RoundsDone (round_check f.n (f.done + 1) w)) h))
     ).trucks
 
 -- a buffer with room for a record of n trucks
-pub room_for : (n : ℕ) (d : List ℕ) → badTrucks n ≡ false → size_for 32 ≤ length d → packCheck n (length d) ≡ Accepted
-unfolding packCheck
+pub room_for : (n : ℕ) (d : List ℕ) → bad_trucks n ≡ false → size_for 32 ≤ length d → pack_check n (length d) ≡ Accepted
+unfolding pack_check
 room_for n d range room = rw (range, le-ltb (length d) (size_for 32) room)
 
 -- the number that is answered
-pub record-number : (o : Outcome) (m : ℕ) (f : Fleet) (d : List ℕ) → (recordAs o m f d).number ≡ outcomeNumber o
-record-number Accepted m f d = refl
-record-number (Refused r) m f d = refl
+pub record_number : (o : Outcome) (m : ℕ) (f : Fleet) (d : List ℕ) → (record_as o m f d).number ≡ outcome_number o
+record_number Accepted m f d = refl
+record_number (Refused r) m f d = refl
 
 -- the number of an outcome, and the buffer with m places put by it
-pub packed-as : (f : Fleet) (m : ℕ) (d l : List ℕ) (c o : Outcome) (k : ℕ) → o ≡ c → l ≡ packFor c m f d → k ≡ outcomeNumber o → result k (l ∷ []) [] ≡ recordAs c m f d
-packed-as f m d l c o k p q e = rw (e, p, q) (both c)
+pub packed_as : (f : Fleet) (m : ℕ) (d l : List ℕ) (c o : Outcome) (k : ℕ) → o ≡ c → l ≡ pack_for c m f d → k ≡ outcome_number o → result k (l ∷ []) [] ≡ record_as c m f d
+packed_as f m d l c o k p q e = rw (e, p, q) (both c)
   where
-    both : (o : Outcome) → result (outcomeNumber o) (packFor o m f d ∷ []) [] ≡ recordAs o m f d
+    both : (o : Outcome) → result (outcome_number o) (pack_for o m f d ∷ []) [] ≡ record_as o m f d
     both Accepted = refl
     both (Refused r) = refl
 
@@ -62,88 +62,88 @@ packed-as f m d l c o k p q e = rw (e, p, q) (both c)
 
 module _ (a : Answer) (d : List ℕ) where
   -- the number that is answered
-  pub store-number : (storeCall a d).number ≡ outcomeNumber (and_then a.outcome (refuse (ltb (length d) (size_for 32)) ShortBuffer Accepted))
-  unfolding storeCall
-  store-number = record-number (and_then a.outcome (refuse (ltb (length d) (size_for 32)) ShortBuffer Accepted)) 32 a.fleet d
+  pub store_number : (store_call a d).number ≡ outcome_number (and_then a.outcome (refuse (ltb (length d) (size_for 32)) ShortBuffer Accepted))
+  unfolding store_call
+  store_number = record_number (and_then a.outcome (refuse (ltb (length d) (size_for 32)) ShortBuffer Accepted)) 32 a.fleet d
 
-  pub store-refused : (r : Refusal) (k : ℕ) → a.outcome ≡ Refused r → k ≡ number_of r → result k (d ∷ []) [] ≡ storeCall a d
-  unfolding storeCall
-  store-refused r k h e = rw (e, h)
+  pub store_refused : (r : Refusal) (k : ℕ) → a.outcome ≡ Refused r → k ≡ number_of r → result k (d ∷ []) [] ≡ store_call a d
+  unfolding store_call
+  store_refused r k h e = rw (e, h)
 
-  pub store-0 : (a.outcome ≡ Accepted → badTrucks a.fleet.n ≡ false) → a.outcome ≡ Accepted → (o : Outcome) (l : List ℕ) (k : ℕ)
-      → o ≡ packCheck a.fleet.n (length d) → l ≡ packedWhole a.fleet d → k ≡ outcomeNumber o → result k (l ∷ []) [] ≡ storeCall a d
-  unfolding storeCall packedWhole packCheck
-  store-0 range h o l k p q e = packed-as a.fleet 32 d l (packCheck a.fleet.n (length d)) o k p q e ∙ rw (range h, h)
+  pub store_0 : (a.outcome ≡ Accepted → bad_trucks a.fleet.n ≡ false) → a.outcome ≡ Accepted → (o : Outcome) (l : List ℕ) (k : ℕ)
+      → o ≡ pack_check a.fleet.n (length d) → l ≡ packed_whole a.fleet d → k ≡ outcome_number o → result k (l ∷ []) [] ≡ store_call a d
+  unfolding store_call packed_whole pack_check
+  store_0 range h o l k p q e = packed_as a.fleet 32 d l (pack_check a.fleet.n (length d)) o k p q e ∙ rw (range h, h)
 
   -- an accepted answer in a buffer with room, and the number 0 by which a caller knows of both
-  pub store-whole : a.outcome ≡ Accepted → size_for 32 ≤ length d → storeCall a d ≡ result 0 (filled (recordByte a.fleet) (size_for 32) d ∷ []) []
-  unfolding storeCall
-  store-whole h room = rw (h, le-ltb (length d) (size_for 32) room)
+  pub store_whole : a.outcome ≡ Accepted → size_for 32 ≤ length d → store_call a d ≡ result 0 (filled (record_byte a.fleet) (size_for 32) d ∷ []) []
+  unfolding store_call
+  store_whole h room = rw (h, le-ltb (length d) (size_for 32) room)
 
-  pub store-accepted : (storeCall a d).number ≡ 0 → (a.outcome ≡ Accepted) × (size_for 32 ≤ length d)
-  store-accepted z =
+  pub store_accepted : (store_call a d).number ≡ 0 → (a.outcome ≡ Accepted) × (size_for 32 ≤ length d)
+  store_accepted z =
       let fits = refuse (ltb (length d) (size_for 32)) ShortBuffer Accepted in
-      let o = outcome-0 (and_then a.outcome fits) (sym store-number ∙ z) in (
+      let o = outcome_0 (and_then a.outcome fits) (sym store_number ∙ z) in (
         then-first a.outcome fits o,
-        ltb-false (length d) (size_for 32) (refuse-false (ltb (length d) (size_for 32)) ShortBuffer Accepted (then-second a.outcome fits o)),
+        ltb-false (length d) (size_for 32) (refuse-false (ltb (length d) (size_for 32)) ShortBuffer Accepted (then_second a.outcome fits o)),
       )
 
 -- ---- a start
 
-pub start-range : (n : ℕ) (openings : List ℕ) (a : Answer) → a ≡ started n openings → a.outcome ≡ Accepted → badTrucks a.fleet.n ≡ false
+pub start_range : (n : ℕ) (openings : List ℕ) (a : Answer) → a ≡ started n openings → a.outcome ≡ Accepted → bad_trucks a.fleet.n ≡ false
 unfolding started
-start-range n openings a s h =
-    let o = accepted-by (startCheck n openings) (record { n = n; done = 0; trucks = openedTrucks openings }) blank (rw s at h) in
-    rw (s, o.1) (start-by n openings o.0).trucks
+start_range n openings a s h =
+    let o = accepted_by (start_check n openings) (record { n = n; done = 0; trucks = opened_trucks openings }) blank (rw s at h) in
+    rw (s, o.1) (start_by n openings o.0).trucks
 
-start-2 : (n : ℕ) (openings : List ℕ) → badTrucks n ≡ true → started n openings ≡ record { outcome = Refused TruckCount; fleet = blank }
-unfolding started startCheck
-start-2 n openings h = rw h
+start_2 : (n : ℕ) (openings : List ℕ) → bad_trucks n ≡ true → started n openings ≡ record { outcome = Refused TruckCount; fleet = blank }
+unfolding started start_check
+start_2 n openings h = rw h
 
 narrow_start : (n m : ℕ) (openings : List ℕ) → m ≡ min n 255 → started m openings ≡ started n openings
 narrow_start n m openings e =
-    narrowed (λ k. started k openings) badTrucks (record { outcome = Refused TruckCount; fleet = blank }) n m 255 e
-    (many-trucks 255 (omega arith))
-    (λ l. many-trucks n (omega arith))
-    (λ k h. start-2 k openings h)
+    narrowed (λ k. started k openings) bad_trucks (record { outcome = Refused TruckCount; fleet = blank }) n m 255 e
+    (many_trucks_lem 255 (omega arith))
+    (λ l. many_trucks_lem n (omega arith))
+    (λ k h. start_2 k openings h)
 
-pub start-stored : (n m : ℕ) (openings d : List ℕ) (a : Answer) (x : Result) → m ≡ min n 255 → a ≡ started m openings → x ≡ storeCall a d → x ≡ startCall n openings d
-unfolding startCall
-start-stored n m openings d a x e h s = s ∙ ap (λ (a : Answer). storeCall a d) (h ∙ narrow_start n m openings e)
+pub start_stored : (n m : ℕ) (openings d : List ℕ) (a : Answer) (x : Result) → m ≡ min n 255 → a ≡ started m openings → x ≡ store_call a d → x ≡ start_call n openings d
+unfolding start_call
+start_stored n m openings d a x e h s = s ∙ ap (λ (a : Answer). store_call a d) (h ∙ narrow_start n m openings e)
 
 -- ---- a step
 
-pub step_range : (p : Protocol) (f : Fleet) (w : List ℕ) → (steppedIn p f w).outcome ≡ Accepted → badTrucks (steppedIn p f w).fleet.n ≡ false
-unfolding steppedIn nextFleetIn
+pub step_range : (p : Protocol) (f : Fleet) (w : List ℕ) → (stepped_in p f w).outcome ≡ Accepted → bad_trucks (stepped_in p f w).fleet.n ≡ false
+unfolding stepped_in next_fleet_in
 step_range p f w h =
-    let o = accepted-by (stepCheckIn p f w) (nextFleetIn p f w) f h in
-    rw o.1 (step-trucks p f w o.0)
+    let o = accepted_by (step_check_in p f w) (next_fleet_in p f w) f h in
+    rw o.1 (step_trucks p f w o.0)
 
-pub step_left : (p : Protocol) (d w l : List ℕ) (o : Outcome) (k : ℕ) → o ≡ bytesCheckIn p d w → l ≡ bytesStepIn p d w → k ≡ outcomeNumber o → result k (l ∷ []) [] ≡ stepCallIn p d w
-unfolding stepCallIn bytesCheckIn bytesStepIn
+pub step_left : (p : Protocol) (d w l : List ℕ) (o : Outcome) (k : ℕ) → o ≡ bytes_check_in p d w → l ≡ bytes_step_in p d w → k ≡ outcome_number o → result k (l ∷ []) [] ≡ step_call_in p d w
+unfolding step_call_in bytes_check_in bytes_step_in
 step_left p d w l o k eo el ek =
-    let a = steppedIn p (unpacked d).fleet w in
-    packed-as a.fleet a.fleet.n d l (and_then (unpacked d).outcome a.outcome) o k eo el ek
+    let a = stepped_in p (unpacked d).fleet w in
+    packed_as a.fleet a.fleet.n d l (and_then (unpacked d).outcome a.outcome) o k eo el ek
 
 -- ---- a run
 
-pub run-range : (p : Protocol) (s : List ℕ) (a : Answer) → a ≡ ranIn p s → a.outcome ≡ Accepted → badTrucks a.fleet.n ≡ false
-unfolding ranIn fleetIn
-run-range p s a e h =
-    let o = accepted-by (checkOf s) (fleetIn p (trucksOf s) (openingsOf s) (roundAt s) (roundsOf s)) blank (rw e at h) in
+pub run_range : (p : Protocol) (s : List ℕ) (a : Answer) → a ≡ ran_in p s → a.outcome ≡ Accepted → bad_trucks a.fleet.n ≡ false
+unfolding ran_in fleet_in
+run_range p s a e h =
+    let o = accepted_by (check_of s) (fleet_in p (trucks_of s) (openings_of s) (round_at s) (rounds_of s)) blank (rw e at h) in
     let g = (bytes_good s o.0).frame in
-    rw (e, o.1) (in-trucks (trucksOf s) g.some g.most)
+    rw (e, o.1) (in_trucks (trucks_of s) g.some g.most)
 
 -- of any answer
 whole-left : (a : Answer) (d l : List ℕ) (o : Outcome) (k : ℕ) → let c = and_then a.outcome (refuse (ltb (length d) (size_for 32)) ShortBuffer Accepted) in
-    o ≡ c → l ≡ packFor c 32 a.fleet d → k ≡ outcomeNumber o → result k (l ∷ []) [] ≡ storeCall a d
-unfolding storeCall
-whole-left a d l o k eo el ek = packed-as a.fleet 32 d l (and_then a.outcome (refuse (ltb (length d) (size_for 32)) ShortBuffer Accepted)) o k eo el ek
+    o ≡ c → l ≡ pack_for c 32 a.fleet d → k ≡ outcome_number o → result k (l ∷ []) [] ≡ store_call a d
+unfolding store_call
+whole-left a d l o k eo el ek = packed_as a.fleet 32 d l (and_then a.outcome (refuse (ltb (length d) (size_for 32)) ShortBuffer Accepted)) o k eo el ek
 
-pub run-left : (p : Protocol) (s d l : List ℕ) (o : Outcome) (k : ℕ) → o ≡ runCheckIn p s d → l ≡ runBytesIn p s d → k ≡ outcomeNumber o → result k (l ∷ []) [] ≡ runCallIn p s d
-unfolding runCallIn runCheckIn runBytesIn
-run-left p s d l o k eo el ek = whole-left (ranIn p s) d l o k eo el ek
+pub run-left : (p : Protocol) (s d l : List ℕ) (o : Outcome) (k : ℕ) → o ≡ run_check_in p s d → l ≡ run_bytes_in p s d → k ≡ outcome_number o → result k (l ∷ []) [] ≡ run_call_in p s d
+unfolding run_call_in run_check_in run_bytes_in
+run-left p s d l o k eo el ek = whole-left (ran_in p s) d l o k eo el ek
 
-pub panel-run-left : (s d l : List ℕ) (o : Outcome) (k : ℕ) → o ≡ panelRunCheck s d → l ≡ panelRunBytes s d → k ≡ outcomeNumber o → result k (l ∷ []) [] ≡ panelRunCall s d
-unfolding panelRunCall panelRunCheck panelRunBytes
-panel-run-left s d l o k eo el ek = whole-left (panelRan s) d l o k eo el ek
+pub panel_run-left : (s d l : List ℕ) (o : Outcome) (k : ℕ) → o ≡ panel_run_check s d → l ≡ panel_run_bytes s d → k ≡ outcome_number o → result k (l ∷ []) [] ≡ panel_run_call s d
+unfolding panel_run_call panel_run_check panel_run_bytes
+panel_run-left s d l o k eo el ek = whole-left (panel_ran s) d l o k eo el ek

@@ -2,19 +2,19 @@
 -- buffer had room.
 use Rattle.std.specs.Prelude.{◌≡◌, List, [], ◌∷◌, ℕ, ◌+◌, ◌≤◌, eqb, length, get_or}
 use Rattle.basics.specs.Lists.{filled}
-use Rattle.refusals.specs.Numbers.{outcomeNumber}
+use Rattle.refusals.specs.Numbers.{outcome_number}
 use Rattle.refusals.specs.declared.Refusal.TheVariants.{RoundsDone}
 use Rattle.refusals.specs.declared.Outcome.TheVariants.{Accepted}
 use Rattle.refusals.specs.Outcomes.{refuse}
-use Rattle.recording.specs.Packed.{trucksOf, roundsOf, openingsOf, roundAt}
-use Rattle.recording.specs.Checks.{roundCheck}
+use Rattle.recording.specs.Packed.{trucks_of, rounds_of, openings_of, round_at}
+use Rattle.recording.specs.Checks.{round_check}
 use Rattle.protocol.specs.declared.Fleet.{Fleet}
-use Rattle.protocol.specs.Fleets.{Protocol, twoRound, sixRound}
-use Rattle.protocol.specs.Steps.{taken, roundIn, recordingOf}
-use Rattle.protocol.specs.Claims.{Agreed, Marks, Claim, agreesWith, decidesIn, MajorityMarks, MixedMarks, ZeroMarks, countsSent}
+use Rattle.protocol.specs.Fleets.{Protocol, two_round, six_round}
+use Rattle.protocol.specs.Steps.{taken, round_in, recording_of}
+use Rattle.protocol.specs.Claims.{Agreed, Marks, Claim, agrees_with, decides_in, MajorityMarks, MixedMarks, ZeroMarks, counts_sent}
 use Rattle.protocol.specs.Claims.{Class, Complete, MajorityComplete, ZeroComplete, Accurate}
 use Rattle.recordbytes.specs.Layout.{size_for, unpacked}
-use Rattle.ffi.specs.Calls.{result, bufferOf, listCall, gradeCallIn, startCall, stepCallIn, runCallIn, runCall, bytesAfterIn, panelRunCall, panelListCall}
+use Rattle.ffi.specs.Calls.{result, buffer_of, list_call, grade_call_in, start_call, step_call_in, run_call_in, run_call, bytes_after_in, panel_run_call, panel_list_call}
 
 -- the bytes are a record, of which this is claimed
 pub record RecordWith (claimed : Fleet → Type 0) (bytes : List ℕ) : Type 0 where
@@ -24,76 +24,76 @@ pub record RecordWith (claimed : Fleet → Type 0) (bytes : List ℕ) : Type 0 w
 module _ (p : Protocol) where
   -- the bytes that a start in the buffer d and a list of steps leave, refused ones included
   abbrev pub bytes_of : ℕ → List ℕ → List ℕ → List (List ℕ) → List ℕ
-  bytes_of n openings d steps = bytesAfterIn p (bufferOf (startCall n openings d)) steps
+  bytes_of n openings d steps = bytes_after_in p (buffer_of (start_call n openings d)) steps
 
   -- a claim holds of every list of steps on bytes after a start that answers 0, that is of the rounds taken and the record that the bytes are; and of every run that
   -- answers 0
   pub record HoldsOnBytes (claim : Claim) : Type 0 where
-    pub steps : (n : ℕ) (openings d : List ℕ) (steps : List (List ℕ)) → (startCall n openings d).number ≡ 0
-        → RecordWith (claim n openings (roundIn (taken n steps)) (length (taken n steps))) (bytes_of n openings d steps)
-    pub run : (s d : List ℕ) → (runCallIn p s d).number ≡ 0
-        → RecordWith (claim (trucksOf s) (openingsOf s) (roundAt s) (roundsOf s)) (bufferOf (runCallIn p s d))
+    pub steps : (n : ℕ) (openings d : List ℕ) (steps : List (List ℕ)) → (start_call n openings d).number ≡ 0
+        → RecordWith (claim n openings (round_in (taken n steps)) (length (taken n steps))) (bytes_of n openings d steps)
+    pub run : (s d : List ℕ) → (run_call_in p s d).number ≡ 0
+        → RecordWith (claim (trucks_of s) (openings_of s) (round_at s) (rounds_of s)) (buffer_of (run_call_in p s d))
 
   -- stepped or run on bytes
   pub record SameOnBytes (n : ℕ) (openings d : List ℕ) (steps : List (List ℕ)) : Type 0 where
     -- the next step answers 14, 8, 6 or 0, and never 7
-    pub nextStep : (w : List ℕ) → (stepCallIn p (bytes_of n openings d steps) w).number
-        ≡ outcomeNumber (refuse (eqb (length (taken n steps)) 400) RoundsDone (roundCheck n (length (taken n steps) + 1) w))
+    pub next_step : (w : List ℕ) → (step_call_in p (bytes_of n openings d steps) w).number
+        ≡ outcome_number (refuse (eqb (length (taken n steps)) 400) RoundsDone (round_check n (length (taken n steps) + 1) w))
     -- running the list's recording into any buffer with room answers 0 and puts there the 323 bytes that the steps left; everything past them stays
-    pub asRun : (e : List ℕ) → size_for 32 ≤ length e
-        → runCallIn p (recordingOf n openings steps) e ≡ result 0 (filled (λ k. get_or (bytes_of n openings d steps) k 0) (size_for 32) e ∷ []) []
+    pub as_run : (e : List ℕ) → size_for 32 ≤ length e
+        → run_call_in p (recording_of n openings steps) e ≡ result 0 (filled (λ k. get_or (bytes_of n openings d steps) k 0) (size_for 32) e ∷ []) []
     -- so they are the same record
-    pub sameRecord : (e : List ℕ) → size_for 32 ≤ length e
-        → unpacked (bufferOf (runCallIn p (recordingOf n openings steps) e)) ≡ unpacked (bytes_of n openings d steps)
+    pub same_record : (e : List ℕ) → size_for 32 ≤ length e
+        → unpacked (buffer_of (run_call_in p (recording_of n openings steps) e)) ≡ unpacked (bytes_of n openings d steps)
 
   -- the whole of demand 3 on bytes, where agreement is promised with such marks
   pub record DemandOnBytes (marks : Marks) : Type 0 where
-    pub agreement : HoldsOnBytes (agreesWith marks)
-    pub deciding : HoldsOnBytes (decidesIn p)
-    pub same : (n : ℕ) (openings d : List ℕ) (steps : List (List ℕ)) → (startCall n openings d).number ≡ 0 → SameOnBytes n openings d steps
+    pub agreement : HoldsOnBytes (agrees_with marks)
+    pub deciding : HoldsOnBytes (decides_in p)
+    pub same : (n : ℕ) (openings d : List ℕ) (steps : List (List ℕ)) → (start_call n openings d).number ≡ 0 → SameOnBytes n openings d steps
 
 -- of document 01's protocol and of the six-round cycle
 abbrev pub BytesDemand : Type 0
-BytesDemand = DemandOnBytes twoRound MajorityMarks
+BytesDemand = DemandOnBytes two_round MajorityMarks
 
 abbrev pub SixBytesDemand : Type 0
-SixBytesDemand = DemandOnBytes sixRound ZeroMarks
+SixBytesDemand = DemandOnBytes six_round ZeroMarks
 
 -- agreement with cheaper marks in even rounds (document 02, F-12), and what the counts are from a fresh start (F-5)
 abbrev pub MixedBytesAgreement : Type 0
-MixedBytesAgreement = HoldsOnBytes twoRound (agreesWith MixedMarks)
+MixedBytesAgreement = HoldsOnBytes two_round (agrees_with MixedMarks)
 
 abbrev pub BytesSentCounts : Type 0
-BytesSentCounts = HoldsOnBytes twoRound countsSent
+BytesSentCounts = HoldsOnBytes two_round counts_sent
 
 -- a claim holds of every run of the panel that answers 0 (document 02, F-10)
 abbrev pub HoldsOfPanelBytes : Claim → Type 0
 HoldsOfPanelBytes claim =
-    (s d : List ℕ) → (panelRunCall s d).number ≡ 0
-    → RecordWith (claim (trucksOf s) (openingsOf s) (roundAt s) (roundsOf s)) (bufferOf (panelRunCall s d))
+    (s d : List ℕ) → (panel_run_call s d).number ≡ 0
+    → RecordWith (claim (trucks_of s) (openings_of s) (round_at s) (rounds_of s)) (buffer_of (panel_run_call s d))
 
 -- what is shown of the panel, on bytes: where a call of it answers 0, so does the desk's, and both leave the same; with the facts on agreement and deciding
 pub record PanelBytesDemand : Type 0 where
-  pub sameRecord : (s d : List ℕ) → (panelRunCall s d).number ≡ 0 → panelRunCall s d ≡ runCall s d
-  pub sameListing : (s d : List ℕ) (written : ℕ) → (panelListCall s d written).number ≡ 0 → panelListCall s d written ≡ listCall s d written
-  pub agreement : HoldsOfPanelBytes (agreesWith MixedMarks)
-  pub deciding : HoldsOfPanelBytes (decidesIn twoRound)
+  pub same_record : (s d : List ℕ) → (panel_run_call s d).number ≡ 0 → panel_run_call s d ≡ run_call s d
+  pub same_listing : (s d : List ℕ) (written : ℕ) → (panel_list_call s d written).number ≡ 0 → panel_list_call s d written ≡ list_call s d written
+  pub agreement : HoldsOfPanelBytes (agrees_with MixedMarks)
+  pub deciding : HoldsOfPanelBytes (decides_in two_round)
 
 -- where the grade of a class stands among the four numbers of a grading
-abbrev pub gradePlace : Class → ℕ
-gradePlace Complete = 0
-gradePlace MajorityComplete = 1
-gradePlace ZeroComplete = 2
-gradePlace Accurate = 3
+abbrev pub grade_place : Class → ℕ
+grade_place Complete = 0
+grade_place MajorityComplete = 1
+grade_place ZeroComplete = 2
+grade_place Accurate = 3
 
 module _ (p : Protocol) (c : Class) where
   -- grading a recording into a buffer answers 0 and puts there a grade of 0 for the class
   abbrev pub GradedZero : List ℕ → List ℕ → Type 0
-  GradedZero s grades = ((gradeCallIn p s grades).number ≡ 0) × (get_or (bufferOf (gradeCallIn p s grades)) (gradePlace c) 0 ≡ 0)
+  GradedZero s grades = ((grade_call_in p s grades).number ≡ 0) × (get_or (buffer_of (grade_call_in p s grades)) (grade_place c) 0 ≡ 0)
 
   -- a grade of 0 gives agreement, and decisions being openings, to the bytes of a run; and to those of a list of steps whose recording has it
   pub record BytesAgreeByGrade : Type 0 where
-    pub steps : (n : ℕ) (openings d grades : List ℕ) (steps : List (List ℕ)) → (startCall n openings d).number ≡ 0
-        → GradedZero (recordingOf n openings steps) grades → RecordWith (Agreed n openings) (bytes_of p n openings d steps)
-    pub run : (s d grades : List ℕ) → (runCallIn p s d).number ≡ 0
-        → GradedZero s grades → RecordWith (Agreed (trucksOf s) (openingsOf s)) (bufferOf (runCallIn p s d))
+    pub steps : (n : ℕ) (openings d grades : List ℕ) (steps : List (List ℕ)) → (start_call n openings d).number ≡ 0
+        → GradedZero (recording_of n openings steps) grades → RecordWith (Agreed n openings) (bytes_of p n openings d steps)
+    pub run : (s d grades : List ℕ) → (run_call_in p s d).number ≡ 0
+        → GradedZero s grades → RecordWith (Agreed (trucks_of s) (openings_of s)) (buffer_of (run_call_in p s d))

@@ -1,17 +1,17 @@
 // The library for callers in other languages: functions on numbers and slices. A slice is passed as a pointer and then a length.
 // Each answers the papers' number of the refusal, or 0; a refusal changes nothing that was lent. What refusal 6 names besides is asked for by the last three.
 ghost use Rattle.std.specs.Prelude.{◌≡◌, [], ◌∷◌, false, min, get_or};
-ghost use Rattle.refusals.specs.Numbers.{number_of, outcomeNumber};
-ghost use Rattle.refusals.specs.Locations.{outcomeLocation, locationNumber};
+ghost use Rattle.refusals.specs.Numbers.{number_of, outcome_number};
+ghost use Rattle.refusals.specs.Locations.{outcome_location, location_number};
 ghost use Rattle.refusals.specs.declared.Outcome.TheVariants.{Accepted};
-ghost use Rattle.recording.specs.Checks.{badTrucks};
-ghost use Rattle.ffi.specs.Calls.{result, openingCall, readCall, writeCall};
-ghost use Rattle.ffi.specs.Calls.{storeCall, runCallIn, runCall, startCall, stepCallIn, stepCall, listCall};
-ghost use Rattle.ffi.specs.Calls.{panelRunCall, panelListCall};
-ghost use Rattle.listing.specs.Listed.{listAnswer};
-ghost use Rattle.ffi.specs.Calls.{gradeResult, gradeCallIn, gradeCall};
-ghost use Rattle.protocol.specs.Fleets.{sixRound, chosen, gradeAnswer};
-ghost use Rattle.ffi.specs.Calls.{recordingOwnLoss, writeOwnLoss, roundOwnLoss};
+ghost use Rattle.recording.specs.Checks.{bad_trucks};
+ghost use Rattle.ffi.specs.Calls.{result, opening_call, read_call, write_call};
+ghost use Rattle.ffi.specs.Calls.{store_call, run_call_in, run_call, start_call, step_call_in, step_call, list_call};
+ghost use Rattle.ffi.specs.Calls.{panel_run_call, panel_list_call};
+ghost use Rattle.listing.specs.Listed.{list_answer};
+ghost use Rattle.ffi.specs.Calls.{grade_result, grade_call_in, grade_call};
+ghost use Rattle.protocol.specs.Fleets.{six_round, chosen, grade_answer};
+ghost use Rattle.ffi.specs.Calls.{recording_own_loss, write_own_loss, round_own_loss};
 
 use listing::Listed;
 use plain::{ReadOutcome, WriteOutcome};
@@ -26,13 +26,13 @@ fn number(r: Refusal) -> u32
 }
 
 fn outcome_number(o: Outcome) -> u32
-    ensures* { λ k. ⌜ k ≡ outcomeNumber o ⌝ }
+    ensures* { λ k. ⌜ k ≡ outcome_number o ⌝ }
 {
     refusals::outcome_number(o) as u32
 }
 
 fn own_loss(o: Outcome) -> u32
-    ensures* { λ k. ⌜ k ≡ locationNumber (outcomeLocation o) ⌝ }
+    ensures* { λ k. ⌜ k ≡ location_number (outcome_location o) ⌝ }
 {
     refusals::location_number(refusals::outcome_location(o))
 }
@@ -46,7 +46,7 @@ pub extern "C" fn rajvokshul_opening(
     crusher: &mut u8,
 ) -> u32
     ensures* { λ r. ⌜ result r [] (crusher.new ∷ [])
-        ≡ openingCall lengths.now metres.now seconds.now crusher.old ⌝ }
+        ≡ opening_call lengths.now metres.now seconds.now crusher.old ⌝ }
 {
     let o = roads::opening_crusher(lengths, metres, seconds);
     match o {
@@ -68,7 +68,7 @@ pub extern "C" fn rajvokshul_read(
     rounds: &mut u32,
 ) -> u32
     ensures* { λ r. ⌜ result r (openings.new ∷ words.new ∷ []) (trucks.new ∷ rounds.new ∷ [])
-        ≡ readCall bytes.now openings.old words.old trucks.old rounds.old ⌝ }
+        ≡ read_call bytes.now openings.old words.old trucks.old rounds.old ⌝ }
 {
     let o = plain::read(bytes, openings, words);
     match o {
@@ -108,7 +108,7 @@ pub extern "C" fn rajvokshul_write(
     written: &mut usize,
 ) -> u32
     ensures* { λ r. ⌜ result r (bytes.new ∷ []) (written.new ∷ [])
-        ≡ writeCall trucks rounds openings.now words.now bytes.old written.old ⌝ }
+        ≡ write_call trucks rounds openings.now words.now bytes.old written.old ⌝ }
 {
     let n = narrow_trucks(trucks);
     let k = narrow_rounds(rounds);
@@ -124,8 +124,8 @@ pub extern "C" fn rajvokshul_write(
 
 // Puts the record of an answer into a lent buffer, all 32 places.
 fn store(a: Answer, d: &mut [u8]) -> u32
-    requires { a.outcome ≡ Accepted → badTrucks a.fleet.n ≡ false }
-    ensures* { λ r. ⌜ result r (d.new ∷ []) [] ≡ storeCall a d.old ⌝ }
+    requires { a.outcome ≡ Accepted → bad_trucks a.fleet.n ≡ false }
+    ensures* { λ r. ⌜ result r (d.new ∷ []) [] ≡ store_call a d.old ⌝ }
 {
     let o = a.outcome;
     let f = a.fleet;
@@ -138,7 +138,7 @@ fn store(a: Answer, d: &mut [u8]) -> u32
 // Runs a recording to its states.
 #[unsafe(no_mangle)]
 pub extern "C" fn rajvokshul_run(bytes: &[u8], fleet: &mut [u8]) -> u32
-    ensures* { λ r. ⌜ result r (fleet.new ∷ []) [] ≡ runCall bytes.now fleet.old ⌝ }
+    ensures* { λ r. ⌜ result r (fleet.new ∷ []) [] ≡ run_call bytes.now fleet.old ⌝ }
 {
     outcome_number(fleet::run_bytes(Cycle::TwoRound, bytes, fleet))
 }
@@ -146,14 +146,14 @@ pub extern "C" fn rajvokshul_run(bytes: &[u8], fleet: &mut [u8]) -> u32
 // The same in the six-round cycle.
 #[unsafe(no_mangle)]
 pub extern "C" fn rajvokshul_run_six(bytes: &[u8], fleet: &mut [u8]) -> u32
-    ensures* { λ r. ⌜ result r (fleet.new ∷ []) [] ≡ runCallIn sixRound bytes.now fleet.old ⌝ }
+    ensures* { λ r. ⌜ result r (fleet.new ∷ []) [] ≡ run_call_in six_round bytes.now fleet.old ⌝ }
 {
     outcome_number(fleet::run_bytes(Cycle::SixRound, bytes, fleet))
 }
 
 // Answers the number of a listing, and puts that of its bytes where the caller said.
 fn put_length(l: Listed, written: &mut usize) -> u32
-    ensures* { λ r. ⌜ (r ≡ (listAnswer l).0) × (written.new ≡ get_or (listAnswer l).1 0 written.old) ⌝ }
+    ensures* { λ r. ⌜ (r ≡ (list_answer l).0) × (written.new ≡ get_or (list_answer l).1 0 written.old) ⌝ }
 {
     match l {
         Listed::Text(k) => {
@@ -167,7 +167,7 @@ fn put_length(l: Listed, written: &mut usize) -> u32
 // Runs a recording to its listing.
 #[unsafe(no_mangle)]
 pub extern "C" fn rajvokshul_list(bytes: &[u8], text: &mut [u8], written: &mut usize) -> u32
-    ensures* { λ r. ⌜ result r (text.new ∷ []) (written.new ∷ []) ≡ listCall bytes.now text.old written.old ⌝ }
+    ensures* { λ r. ⌜ result r (text.new ∷ []) (written.new ∷ []) ≡ list_call bytes.now text.old written.old ⌝ }
 {
     let l = listing::list(bytes, text);
     put_length(l, written)
@@ -175,7 +175,7 @@ pub extern "C" fn rajvokshul_list(bytes: &[u8], text: &mut [u8], written: &mut u
 
 // Puts the grades of an answer into a lent buffer.
 fn put_grades(g: Grading, grades: &mut [u16]) -> u32
-    ensures* { λ r. ⌜ result r (grades.new ∷ []) [] ≡ gradeResult (gradeAnswer g) grades.old ⌝ }
+    ensures* { λ r. ⌜ result r (grades.new ∷ []) [] ≡ grade_result (grade_answer g) grades.old ⌝ }
 {
     match g {
         Grading::Refused(r) => number(r),
@@ -195,7 +195,7 @@ fn put_grades(g: Grading, grades: &mut [u16]) -> u32
 // Grades a recording's marks.
 #[unsafe(no_mangle)]
 pub extern "C" fn rajvokshul_grade(bytes: &[u8], grades: &mut [u16]) -> u32
-    ensures* { λ r. ⌜ result r (grades.new ∷ []) [] ≡ gradeCall bytes.now grades.old ⌝ }
+    ensures* { λ r. ⌜ result r (grades.new ∷ []) [] ≡ grade_call bytes.now grades.old ⌝ }
 {
     let g = fleet::grade(bytes);
     put_grades(g, grades)
@@ -204,7 +204,7 @@ pub extern "C" fn rajvokshul_grade(bytes: &[u8], grades: &mut [u16]) -> u32
 // The same in the six-round cycle.
 #[unsafe(no_mangle)]
 pub extern "C" fn rajvokshul_grade_six(bytes: &[u8], grades: &mut [u16]) -> u32
-    ensures* { λ r. ⌜ result r (grades.new ∷ []) [] ≡ gradeCallIn sixRound bytes.now grades.old ⌝ }
+    ensures* { λ r. ⌜ result r (grades.new ∷ []) [] ≡ grade_call_in six_round bytes.now grades.old ⌝ }
 {
     let g = fleet::grade_in(Cycle::SixRound, bytes);
     put_grades(g, grades)
@@ -213,7 +213,7 @@ pub extern "C" fn rajvokshul_grade_six(bytes: &[u8], grades: &mut [u16]) -> u32
 // Starts a fleet.
 #[unsafe(no_mangle)]
 pub extern "C" fn rajvokshul_start(trucks: u32, openings: &[u8], fleet: &mut [u8]) -> u32
-    ensures* { λ r. ⌜ result r (fleet.new ∷ []) [] ≡ startCall trucks openings.now fleet.old ⌝ }
+    ensures* { λ r. ⌜ result r (fleet.new ∷ []) [] ≡ start_call trucks openings.now fleet.old ⌝ }
 {
     let a = fleet::start(narrow_trucks(trucks), openings);
     store(a, fleet)
@@ -221,7 +221,7 @@ pub extern "C" fn rajvokshul_start(trucks: u32, openings: &[u8], fleet: &mut [u8
 
 // A step of a record as bytes, in a cycle. Both exported steps go through it, so that the compiler makes one piece of it.
 fn step_bytes(cycle: Cycle, fleet: &mut [u8], words: &[u32]) -> u32
-    ensures* { λ r. ⌜ result r (fleet.new ∷ []) [] ≡ stepCallIn (chosen cycle) fleet.old words.now ⌝ }
+    ensures* { λ r. ⌜ result r (fleet.new ∷ []) [] ≡ step_call_in (chosen cycle) fleet.old words.now ⌝ }
 {
     outcome_number(fleet::step_bytes(cycle, fleet, words))
 }
@@ -229,7 +229,7 @@ fn step_bytes(cycle: Cycle, fleet: &mut [u8], words: &[u32]) -> u32
 // Steps a fleet by a round in plain form.
 #[unsafe(no_mangle)]
 pub extern "C" fn rajvokshul_step(fleet: &mut [u8], words: &[u32]) -> u32
-    ensures* { λ r. ⌜ result r (fleet.new ∷ []) [] ≡ stepCall fleet.old words.now ⌝ }
+    ensures* { λ r. ⌜ result r (fleet.new ∷ []) [] ≡ step_call fleet.old words.now ⌝ }
 {
     step_bytes(Cycle::TwoRound, fleet, words)
 }
@@ -237,7 +237,7 @@ pub extern "C" fn rajvokshul_step(fleet: &mut [u8], words: &[u32]) -> u32
 // The same in the six-round cycle.
 #[unsafe(no_mangle)]
 pub extern "C" fn rajvokshul_step_six(fleet: &mut [u8], words: &[u32]) -> u32
-    ensures* { λ r. ⌜ result r (fleet.new ∷ []) [] ≡ stepCallIn sixRound fleet.old words.now ⌝ }
+    ensures* { λ r. ⌜ result r (fleet.new ∷ []) [] ≡ step_call_in six_round fleet.old words.now ⌝ }
 {
     step_bytes(Cycle::SixRound, fleet, words)
 }
@@ -245,7 +245,7 @@ pub extern "C" fn rajvokshul_step_six(fleet: &mut [u8], words: &[u32]) -> u32
 // Runs a recording to its states for the panel.
 #[unsafe(no_mangle)]
 pub extern "C" fn rajvokshul_panel_run(bytes: &[u8], fleet: &mut [u8]) -> u32
-    ensures* { λ r. ⌜ result r (fleet.new ∷ []) [] ≡ panelRunCall bytes.now fleet.old ⌝ }
+    ensures* { λ r. ⌜ result r (fleet.new ∷ []) [] ≡ panel_run_call bytes.now fleet.old ⌝ }
 {
     outcome_number(panel::run_bytes(bytes, fleet))
 }
@@ -253,7 +253,7 @@ pub extern "C" fn rajvokshul_panel_run(bytes: &[u8], fleet: &mut [u8]) -> u32
 // Runs a recording to its listing for the panel.
 #[unsafe(no_mangle)]
 pub extern "C" fn rajvokshul_panel_list(bytes: &[u8], text: &mut [u8], written: &mut usize) -> u32
-    ensures* { λ r. ⌜ result r (text.new ∷ []) (written.new ∷ []) ≡ panelListCall bytes.now text.old written.old ⌝ }
+    ensures* { λ r. ⌜ result r (text.new ∷ []) (written.new ∷ []) ≡ panel_list_call bytes.now text.old written.old ⌝ }
 {
     let l = panel::list(bytes, text);
     put_length(l, written)
@@ -262,7 +262,7 @@ pub extern "C" fn rajvokshul_panel_list(bytes: &[u8], text: &mut [u8], written: 
 // Where the own loss bit is for which a recording is refused.
 #[unsafe(no_mangle)]
 pub extern "C" fn rajvokshul_recording_own_loss(bytes: &[u8]) -> u32
-    ensures* { λ r. ⌜ r ≡ recordingOwnLoss bytes.now ⌝ }
+    ensures* { λ r. ⌜ r ≡ recording_own_loss bytes.now ⌝ }
 {
     own_loss(recording::check(bytes))
 }
@@ -275,7 +275,7 @@ pub extern "C" fn rajvokshul_write_own_loss(
     openings: &[u8],
     words: &[u32],
 ) -> u32
-    ensures* { λ r. ⌜ r ≡ writeOwnLoss trucks rounds openings.now words.now ⌝ }
+    ensures* { λ r. ⌜ r ≡ write_own_loss trucks rounds openings.now words.now ⌝ }
 {
     let n = narrow_trucks(trucks);
     let k = narrow_rounds(rounds);
@@ -285,7 +285,7 @@ pub extern "C" fn rajvokshul_write_own_loss(
 // Where an own loss bit of one round is, for which a step by that round is refused.
 #[unsafe(no_mangle)]
 pub extern "C" fn rajvokshul_round_own_loss(trucks: u32, round: u32, words: &[u32]) -> u32
-    ensures* { λ r. ⌜ r ≡ roundOwnLoss trucks round words.now ⌝ }
+    ensures* { λ r. ⌜ r ≡ round_own_loss trucks round words.now ⌝ }
 {
     let n = narrow_trucks(trucks);
     if recording::bad_trucks(n) | (round == 0) | (400 < round) {

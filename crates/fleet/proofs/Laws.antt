@@ -16,10 +16,10 @@ use Rattle.protocol.specs.declared.Cycle.TheVariants.{TwoRound, SixRound}
 use Rattle.protocol.specs.declared.Truck.{Truck}
 use Rattle.protocol.specs.Fleets.{chosen}
 use Rattle.protocol.proofs.SixRound.{sends-prepare, sends-bit, sends-accept}
-use Rattle.sets.proofs.Words.{bit-power, bit-zero, no_bits}
+use Rattle.sets.proofs.Words.{bit_power, bit-zero, no_bits}
 use Rattle.fleet.specs.declared.round.Phase.{Phase}
 use Rattle.fleet.specs.declared.round.Phase.TheVariants.{Proposals, Vetoes, Prepare, Bit, Accept}
-use Rattle.fleet.specs.Rounds.{phaseOf, messageIn}
+use Rattle.fleet.specs.Rounds.{phase_of, message_in}
 
 -- the kind of the next round of the two-round cycle
 pub next-kind : (d : ℕ) → odd (d + 1) ≡ eqb (d % 2) 0
@@ -34,7 +34,7 @@ pub bit-worth : (x p : ℕ) → not (eqb (bit_and x (2 ^ p)) 0) ≡ bit x p
 bit-worth x p = go (bit x p) refl
   where
     there : bit (bit_and x (2 ^ p)) p ≡ bit x p
-    there = bit-and x (2 ^ p) p ∙ ap (λ (y : Bool). bit x p && y) (bit-power p p ∙ eq-eqb p p refl) ∙ and-true (bit x p)
+    there = bit-and x (2 ^ p) p ∙ ap (λ (y : Bool). bit x p && y) (bit_power p p ∙ eq-eqb p p refl) ∙ and-true (bit x p)
 
     other : (j : ℕ) → bit x p ≡ false → Dec (p ≡ j) → (bit x j && eqb p j) ≡ false
     other j e (yes h) = ap (λ (y : Bool). y && eqb p j) (ap (bit x) (sym h) ∙ e)
@@ -44,14 +44,14 @@ bit-worth x p = go (bit x p) refl
     go true e = ap not (ne_eqb (bit_and x (2 ^ p)) 0 (λ z. true≢false (sym (there ∙ e) ∙ ap (λ (y : ℕ). bit y p) z ∙ bit-zero p)))
     go false e =
         ap not (eq-eqb (bit_and x (2 ^ p)) 0 (no_bits (bit_and x (2 ^ p)) (p + 1) (omega (arith, and_le_r x (2 ^ p), pow-lt (let l : p < p + 1 = omega arith in l)))
-        (λ j l. bit-and x (2 ^ p) j ∙ ap (λ (y : Bool). bit x j && y) (bit-power p j) ∙ other j e (ℕ_discrete p j))))
+        (λ j l. bit-and x (2 ^ p) j ∙ ap (λ (y : Bool). bit x j && y) (bit_power p j) ∙ other j e (ℕ_discrete p j))))
 
 -- the next round of the six-round cycle, by the rounds of the cycle that are done
-pub six-phases : (P : Phase → Type 0) (d : ℕ) → ((d + 1) % 6 ≡ 1 → P Prepare)
-    → (((d + 1) % 6 ≡ 1 → ⊥) → ((d + 1) % 6 ≡ 0 → ⊥) → P (Bit (2 ^ (5 - (d + 1) % 6)))) → ((d + 1) % 6 ≡ 0 → P Accept) → P (phaseOf SixRound d)
-six-phases P d prepare bit accept = go (ℕ_discrete (d % 6) 0) (ℕ_discrete (d % 6) 5)
+pub six_phases : (P : Phase → Type 0) (d : ℕ) → ((d + 1) % 6 ≡ 1 → P Prepare)
+    → (((d + 1) % 6 ≡ 1 → ⊥) → ((d + 1) % 6 ≡ 0 → ⊥) → P (Bit (2 ^ (5 - (d + 1) % 6)))) → ((d + 1) % 6 ≡ 0 → P Accept) → P (phase_of SixRound d)
+six_phases P d prepare bit accept = go (ℕ_discrete (d % 6) 0) (ℕ_discrete (d % 6) 5)
   where
-    go : Dec (d % 6 ≡ 0) → Dec (d % 6 ≡ 5) → P (phaseOf SixRound d)
+    go : Dec (d % 6 ≡ 0) → Dec (d % 6 ≡ 5) → P (phase_of SixRound d)
     go (yes e) f = rw (eq-eqb (d % 6) 0 e) (prepare (omega arith))
     go (no e) (yes f) = rw (ne_eqb (d % 6) 0 e, eq-eqb (d % 6) 5 f) (accept (omega arith))
     go (no e) (no f) =
@@ -60,14 +60,14 @@ six-phases P d prepare bit accept = go (ℕ_discrete (d % 6) 0) (ℕ_discrete (d
         rw (ne_eqb (d % 6) 0 e, ne_eqb (d % 6) 5 f, same) (bit (λ q. omega arith) (λ q. omega arith))
 
 -- a truck has something to send exactly if the rules of the cycle say so
-pub message-right : (c : Cycle) (d : ℕ) (active : Bool) (t : Truck) → messageIn (phaseOf c d) active t ≡ (chosen c).rules.sends (d + 1) active t
-message-right TwoRound d active t = rw (next-kind d) (go (eqb (d % 2) 0))
+pub message_right : (c : Cycle) (d : ℕ) (active : Bool) (t : Truck) → message_in (phase_of c d) active t ≡ (chosen c).rules.sends (d + 1) active t
+message_right TwoRound d active t = rw (next-kind d) (go (eqb (d % 2) 0))
   where
-    go : (b : Bool) → messageIn (cond b Proposals Vetoes) active t ≡ cond b (messageIn Proposals active t) (messageIn Vetoes active t)
+    go : (b : Bool) → message_in (cond b Proposals Vetoes) active t ≡ cond b (message_in Proposals active t) (message_in Vetoes active t)
     go true = refl
     go false = refl
-message-right SixRound d active t =
-    six-phases (λ (p : Phase). messageIn p active t ≡ (chosen SixRound).rules.sends (d + 1) active t) d
+message_right SixRound d active t =
+    six_phases (λ (p : Phase). message_in p active t ≡ (chosen SixRound).rules.sends (d + 1) active t) d
     (λ e. sym (sends-prepare (d + 1) active t e))
     (λ e f. bit-worth t.estimate (5 - (d + 1) % 6) ∙ sym (sends-bit (d + 1) active t e f))
     (λ e. sym (sends-accept (d + 1) active t e))

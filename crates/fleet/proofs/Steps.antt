@@ -12,16 +12,16 @@ use Rattle.refusals.specs.declared.Outcome.{Outcome}
 use Rattle.refusals.specs.declared.Outcome.TheVariants.{Accepted, Refused}
 use Rattle.refusals.specs.Outcomes.{refuse}
 use Rattle.refusals.proofs.Outcomes.{refuse-false, refuse-rest}
-use Rattle.recording.specs.Checks.{roundCheck}
-use Rattle.recording.proofs.Accepted.{trucks-in}
+use Rattle.recording.specs.Checks.{round_check}
+use Rattle.recording.proofs.Accepted.{trucks_in_lem}
 use Rattle.recording.proofs.Rounds.{round-good}
 use Rattle.protocol.specs.declared.Cycle.{Cycle}
 use Rattle.protocol.specs.declared.Cycle.TheVariants.{TwoRound, SixRound}
 use Rattle.protocol.specs.declared.Sent.{Sent}
 use Rattle.protocol.specs.declared.Fleet.{Fleet}
 use Rattle.protocol.specs.Rules.{truck}
-use Rattle.protocol.specs.Fleets.{Protocol, chosen, goodFleetIn, stepCheckIn}
-use Rattle.protocol.proofs.Good.{record-parts}
+use Rattle.protocol.specs.Fleets.{Protocol, chosen, good_fleet_in, step_check_in}
+use Rattle.protocol.proofs.Good.{record_parts}
 use Rattle.protocol.proofs.Rules.{counts-few}
 
 -- the counts of a truck have room for one more, where the cycle counts
@@ -29,7 +29,7 @@ abbrev pub Room : Cycle → Sent → Type 0
 Room TwoRound sent = (sent.proposals < 255) × (sent.vetoes < 255)
 Room SixRound sent = Unit {0}
 
-few-sent : (c : Cycle) (done : ℕ) (sent : Sent) → done ≤ 400 → (chosen c).goodCounts done sent ≡ true → Room c sent
+few-sent : (c : Cycle) (done : ℕ) (sent : Sent) → done ≤ 400 → (chosen c).good_counts done sent ≡ true → Room c sent
 few-sent TwoRound done sent l h = let g = counts-few done sent l h in (omega (arith, g.0), omega (arith, g.1))
 few-sent SixRound done sent l h = tt
 
@@ -41,33 +41,33 @@ pub record StepGood (c : Cycle) (f : Fleet) (w : List ℕ) : Type 0 where
   pub counts : (j : ℕ) → j < f.n → Room c (truck f.trucks j).sent
   pub count : length w ≡ 3 + f.n
 
-pub step-good : (c : Cycle) (f : Fleet) (w : List ℕ) → stepCheckIn (chosen c) f w ≡ Accepted → StepGood c f w
-unfolding stepCheckIn
-step-good c f w h =
-    let later : Outcome = refuse (eqb f.done 400) RoundsDone (roundCheck f.n (f.done + 1) w) in
-    let passes : Bool = goodFleetIn (chosen c) f in
-    let good = record-parts (chosen c) f (not-false passes (refuse-false (not passes) Record later h)) in
+pub step_good : (c : Cycle) (f : Fleet) (w : List ℕ) → step_check_in (chosen c) f w ≡ Accepted → StepGood c f w
+unfolding step_check_in
+step_good c f w h =
+    let later : Outcome = refuse (eqb f.done 400) RoundsDone (round_check f.n (f.done + 1) w) in
+    let passes : Bool = good_fleet_in (chosen c) f in
+    let good = record_parts (chosen c) f (not-false passes (refuse-false (not passes) Record later h)) in
     let rest : later ≡ Accepted = refuse-rest (not passes) Record later h in
-    let full : f.done ≡ 400 → ⊥ = eqb-false f.done 400 (refuse-false (eqb f.done 400) RoundsDone (roundCheck f.n (f.done + 1) w) rest) in
+    let full : f.done ≡ 400 → ⊥ = eqb-false f.done 400 (refuse-false (eqb f.done 400) RoundsDone (round_check f.n (f.done + 1) w) rest) in
     record {
-      most = (trucks-in f.n good.trucks).1;
+      most = (trucks_in_lem f.n good.trucks).1;
       room = omega (arith, good.done);
       small = λ j l. omega (arith, leb-true (truck f.trucks j).estimate 15 (good.each j l).estimate);
       counts = λ j l. few-sent c f.done (truck f.trucks j).sent good.done (good.each j l).counts;
-      count = (round-good f.n (f.done + 1) w (refuse-rest (eqb f.done 400) RoundsDone (roundCheck f.n (f.done + 1) w) rest)).count;
+      count = (round-good f.n (f.done + 1) w (refuse-rest (eqb f.done 400) RoundsDone (round_check f.n (f.done + 1) w) rest)).count;
     }
 
 -- what a step answers, test by test, in any protocol
 module _ (p : Protocol) (f : Fleet) (w : List ℕ) where
-  pub step-7 : goodFleetIn p f ≡ false → Refused Record ≡ stepCheckIn p f w
-  unfolding stepCheckIn
-  step-7 h = rw h
+  pub step_7 : good_fleet_in p f ≡ false → Refused Record ≡ step_check_in p f w
+  unfolding step_check_in
+  step_7 h = rw h
 
-  module _ (good : goodFleetIn p f ≡ true) where
-    pub step-14 : f.done ≡ 400 → Refused RoundsDone ≡ stepCheckIn p f w
-    unfolding stepCheckIn
-    step-14 h = rw (good, eq-eqb f.done 400 h)
+  module _ (good : good_fleet_in p f ≡ true) where
+    pub step_14 : f.done ≡ 400 → Refused RoundsDone ≡ step_check_in p f w
+    unfolding step_check_in
+    step_14 h = rw (good, eq-eqb f.done 400 h)
 
-    pub step-rest : (f.done ≡ 400 → ⊥) → roundCheck f.n (f.done + 1) w ≡ stepCheckIn p f w
-    unfolding stepCheckIn
-    step-rest h = rw (good, ne_eqb f.done 400 h)
+    pub step_rest : (f.done ≡ 400 → ⊥) → round_check f.n (f.done + 1) w ≡ step_check_in p f w
+    unfolding step_check_in
+    step_rest h = rw (good, ne_eqb f.done 400 h)

@@ -3,13 +3,13 @@ ghost use Rattle.std.specs.Prelude.{◌≡◌, false, ℕ, ◌<◌, ◌+◌, len
 ghost use Rattle.refusals.specs.declared.Outcome.TheVariants.{Accepted};
 ghost use Rattle.basics.specs.Lists.{all_below, filled};
 ghost use Rattle.protocol.specs.Rules.{truck};
-ghost use Rattle.protocol.specs.Fleets.{chosen, goodTruckIn, goodFleetIn, stepCheckIn, nextFleetIn};
+ghost use Rattle.protocol.specs.Fleets.{chosen, good_truck_in, good_fleet_in, step_check_in, next_fleet_in};
 ghost use Rattle.sets.specs.Sets.{Members};
-ghost use Rattle.recordbytes.specs.Layout.{size_for, recordByte, damaged, recordOf};
+ghost use Rattle.recordbytes.specs.Layout.{size_for, record_byte, damaged, record_of};
 ghost use Rattle.playback.specs.Sets.{Sorted};
-ghost use Rattle.fleet.specs.Rounds.{sendsIn, turnedFleet};
+ghost use Rattle.fleet.specs.Rounds.{sends_in, turned_fleet};
 ghost use Rattle.playback.specs.Sets.{estimates};
-ghost use Rattle.fleet.specs.Bytes.{bytesCheckIn};
+ghost use Rattle.fleet.specs.Bytes.{bytes_check_in};
 
 use crate::round::{Phase, event_by, phase_of, places, sends};
 use protocol::Cycle;
@@ -18,7 +18,7 @@ use refusals::{Outcome, Refusal};
 // Refusal 7 lets every truck pass, with so many rounds done.
 fn good_places(cycle: Cycle, d: &[u8], done: u16) -> bool
     requires { damaged d.now ≡ false }
-    ensures { result ≡ all_below (λ i. goodTruckIn (chosen cycle) done (truck (recordOf d.now).trucks i)) (recordOf d.now).n }
+    ensures { result ≡ all_below (λ i. good_truck_in (chosen cycle) done (truck (record_of d.now).trucks i)) (record_of d.now).n }
 {
     let end = places(d[0]);
     let mut ok = true;
@@ -34,7 +34,7 @@ fn good_places(cycle: Cycle, d: &[u8], done: u16) -> bool
 // Refusal 7 lets the record pass.
 fn good_record(cycle: Cycle, d: &[u8]) -> bool
     requires { damaged d.now ≡ false }
-    ensures { result ≡ goodFleetIn (chosen cycle) (recordOf d.now) }
+    ensures { result ≡ good_fleet_in (chosen cycle) (record_of d.now) }
 {
     let done = recordbytes::pair(d[1], d[2]);
     if 400 < done {
@@ -45,7 +45,7 @@ fn good_record(cycle: Cycle, d: &[u8]) -> bool
 
 // What a step of the bytes answers.
 pub(crate) fn check(cycle: Cycle, d: &[u8], words: &[u32]) -> Outcome
-    ensures { result ≡ bytesCheckIn (chosen cycle) d.now words.now }
+    ensures { result ≡ bytes_check_in (chosen cycle) d.now words.now }
 {
     if recordbytes::damaged(d) {
         return Outcome::Refused(Refusal::Record);
@@ -62,10 +62,10 @@ pub(crate) fn check(cycle: Cycle, d: &[u8], words: &[u32]) -> Outcome
 
 // The senders of the next round, in one pass with the senders of each crusher.
 fn senders_at(phase: Phase, d: &[u8], words: &[u32], values: &mut [u32; 16]) -> u32
-    requires { (damaged d.now ≡ false) × (length words.now ≡ 3 + (recordOf d.now).n)
-        × ((j : ℕ) → j < (recordOf d.now).n → estimates (recordOf d.now).trucks j < 16) × (values.old ≡ replicate 16 0) }
-    ensures senders { Members result (recordOf d.now).n (sendsIn phase words.now (recordOf d.now).trucks) }
-    ensures sorted { Sorted values.new (recordOf d.now).n result (estimates (recordOf d.now).trucks) }
+    requires { (damaged d.now ≡ false) × (length words.now ≡ 3 + (record_of d.now).n)
+        × ((j : ℕ) → j < (record_of d.now).n → estimates (record_of d.now).trucks j < 16) × (values.old ≡ replicate 16 0) }
+    ensures senders { Members result (record_of d.now).n (sends_in phase words.now (record_of d.now).trucks) }
+    ensures sorted { Sorted values.new (record_of d.now).n result (estimates (record_of d.now).trucks) }
 {
     let end = places(d[0]);
     let stop = words[0];
@@ -92,10 +92,10 @@ fn turn_places(
     senders: u32,
     values: &[u32; 16],
 )
-    requires { (damaged d.old ≡ false) × (length words.now ≡ 3 + (recordOf d.old).n) }
+    requires { (damaged d.old ≡ false) × (length words.now ≡ 3 + (record_of d.old).n) }
     ensures { d.new
-        ≡ filled (recordByte (turnedFleet phase words.now senders values.now round (recordOf d.old)))
-        (size_for (recordOf d.old).n) d.old }
+        ≡ filled (record_byte (turned_fleet phase words.now senders values.now round (record_of d.old)))
+        (size_for (record_of d.old).n) d.old }
 {
     let n = d[0];
     d[0] = n;
@@ -114,10 +114,10 @@ fn turn_places(
 
 // The bytes after an accepted step.
 pub(crate) fn next_bytes(cycle: Cycle, d: &mut [u8], words: &[u32])
-    requires { (damaged d.old ≡ false) × (stepCheckIn (chosen cycle) (recordOf d.old) words.now ≡ Accepted) }
+    requires { (damaged d.old ≡ false) × (step_check_in (chosen cycle) (record_of d.old) words.now ≡ Accepted) }
     ensures { d.new
-        ≡ filled (recordByte (nextFleetIn (chosen cycle) (recordOf d.old) words.now))
-        (size_for (recordOf d.old).n) d.old }
+        ≡ filled (record_byte (next_fleet_in (chosen cycle) (record_of d.old) words.now))
+        (size_for (record_of d.old).n) d.old }
 {
     let done = recordbytes::pair(d[1], d[2]);
     let phase = phase_of(cycle, done);

@@ -1,7 +1,7 @@
 // Fleets of trucks: started, stepped, run through a recording, and graded.
 ghost use Rattle.std.specs.Prelude.{◌≡◌};
-ghost use Rattle.protocol.specs.Fleets.{chosen, stepCheckIn, steppedIn, stepped};
-ghost use Rattle.fleet.specs.Bytes.{bytesCheckIn, bytesStepIn};
+ghost use Rattle.protocol.specs.Fleets.{chosen, step_check_in, stepped_in, stepped};
+ghost use Rattle.fleet.specs.Bytes.{bytes_check_in, bytes_step_in};
 
 use protocol::{Answer, Cycle, Fleet};
 use refusals::{Outcome, Refusal};
@@ -16,7 +16,7 @@ pub use fleetrecord::start;
 pub use playback::{grade, grade_in, run, run_bytes, run_in};
 
 fn check_step(cycle: Cycle, f: Fleet, words: &[u32]) -> Outcome
-    ensures { result ≡ stepCheckIn (chosen cycle) f words.now }
+    ensures { result ≡ step_check_in (chosen cycle) f words.now }
 {
     if !fleetrecord::good_fleet(cycle, f) {
         return Outcome::Refused(Refusal::Record);
@@ -29,7 +29,7 @@ fn check_step(cycle: Cycle, f: Fleet, words: &[u32]) -> Outcome
 
 // A step in a cycle by a round in plain form.
 pub fn step_in(cycle: Cycle, f: Fleet, words: &[u32]) -> Answer
-    ensures { result ≡ steppedIn (chosen cycle) f words.now }
+    ensures { result ≡ stepped_in (chosen cycle) f words.now }
 {
     let outcome = check_step(cycle, f, words);
     match outcome {
@@ -53,8 +53,8 @@ pub fn step(f: Fleet, words: &[u32]) -> Answer
 
 // A step of a record as bytes, in a cycle, by a round in plain form.
 pub fn step_bytes(cycle: Cycle, d: &mut [u8], words: &[u32]) -> Outcome
-    ensures answer { result ≡ bytesCheckIn (chosen cycle) d.old words.now }
-    ensures buffer { d.new ≡ bytesStepIn (chosen cycle) d.old words.now }
+    ensures answer { result ≡ bytes_check_in (chosen cycle) d.old words.now }
+    ensures buffer { d.new ≡ bytes_step_in (chosen cycle) d.old words.now }
 {
     let outcome = bytes::check(cycle, d, words);
     match outcome {

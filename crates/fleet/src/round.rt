@@ -3,10 +3,10 @@ ghost use Rattle.std.specs.Prelude.{◌≡◌, not, ◌&&◌, ℕ, ◌<◌, ◌�
 ghost use Rattle.refusals.specs.declared.Outcome.TheVariants.{Accepted};
 ghost use Rattle.basics.specs.Lists.{filled};
 ghost use Rattle.protocol.specs.Rules.{runs};
-ghost use Rattle.protocol.specs.Fleets.{chosen, stepCheckIn, nextFleetIn};
+ghost use Rattle.protocol.specs.Fleets.{chosen, step_check_in, next_fleet_in};
 ghost use Rattle.sets.specs.Sets.{Members};
 ghost use Rattle.playback.specs.Sets.{Sorted};
-ghost use Rattle.fleet.specs.Rounds.{sixPhase, phaseOf, messageIn, sendsIn, stopEvent, eventOf, eventBy, eventAt, noEvents};
+ghost use Rattle.fleet.specs.Rounds.{six_phase, phase_of, message_in, sends_in, stop_event, event_of, event_by, event_at, no_events};
 ghost use Rattle.playback.specs.Sets.{estimates};
 
 use playback::hearing::{heard_by, values_of};
@@ -26,7 +26,7 @@ pub enum Phase {
 // The next round of the six-round cycle, with so many of its rounds done.
 fn six_phase(done: u16) -> Phase
     requires { done < 6 }
-    ensures { result ≡ sixPhase done }
+    ensures { result ≡ six_phase done }
 {
     if done == 0 {
         return Phase::Prepare;
@@ -39,7 +39,7 @@ fn six_phase(done: u16) -> Phase
 
 // The next round, with so many done.
 pub(crate) fn phase_of(cycle: Cycle, done: u16) -> Phase
-    ensures { result ≡ phaseOf cycle done }
+    ensures { result ≡ phase_of cycle done }
 {
     match cycle {
         Cycle::TwoRound => {
@@ -54,7 +54,7 @@ pub(crate) fn phase_of(cycle: Cycle, done: u16) -> Phase
 
 // Whether a truck that runs has something to send.
 fn message(phase: Phase, t: Truck, active: bool) -> bool
-    ensures { result ≡ messageIn phase active t }
+    ensures { result ≡ message_in phase active t }
 {
     match phase {
         Phase::Proposals => active,
@@ -67,7 +67,7 @@ fn message(phase: Phase, t: Truck, active: bool) -> bool
 
 // Whether a truck sends.
 pub(crate) fn sends(phase: Phase, t: Truck, stop: bool, active: bool) -> bool
-    ensures { result ≡ ((runs t && not stop) && messageIn phase active t) }
+    ensures { result ≡ ((runs t && not stop) && message_in phase active t) }
 {
     let has = message(phase, t, active);
     truck::runs(t) & !stop & has
@@ -84,7 +84,7 @@ fn senders_of(
 ) -> u32
     requires { (f.n ≤ 32) × (length words.now ≡ 3 + f.n) × ((j : ℕ) → j < f.n → estimates f.trucks j < 16)
         × (values.old ≡ replicate 16 0) × (length held.old ≡ 32) }
-    ensures senders { Members result f.n (sendsIn phase words.now f.trucks) }
+    ensures senders { Members result f.n (sends_in phase words.now f.trucks) }
     ensures sorted { Sorted values.new f.n result (estimates f.trucks) }
     ensures kept { held.new ≡ filled (estimates f.trucks) f.n held.old }
 {
@@ -107,7 +107,7 @@ fn senders_of(
 
 // A stop in a round.
 fn stop_event(phase: Phase) -> Event
-    ensures { result ≡ stopEvent phase }
+    ensures { result ≡ stop_event phase }
 {
     match phase {
         Phase::Proposals => Event::Stop,
@@ -128,7 +128,7 @@ fn event_of(
     values: &[u32; 16],
     estimate: u8,
 ) -> Event
-    ensures { result ≡ eventOf phase stop sends mark heard values.now estimate }
+    ensures { result ≡ event_of phase stop sends mark heard values.now estimate }
 {
     if stop {
         return stop_event(phase);
@@ -179,7 +179,7 @@ pub(crate) fn event_by(
     i: usize,
 ) -> Event
     requires { (i < 32) × (3 + i < length words.now) }
-    ensures { result ≡ eventBy phase words.now senders values.now estimate i }
+    ensures { result ≡ event_by phase words.now senders values.now estimate i }
 {
     let heard = heard_by(senders, words[3 + i], sets::only(i));
     event_of(
@@ -203,7 +203,7 @@ fn events_of(
     held: &[u8; 32],
 ) -> [Event; 32]
     requires { (n ≤ 32) × (length words.now ≡ 3 + n) }
-    ensures { result ≡ filled (eventAt phase words.now senders values.now held.now) n noEvents }
+    ensures { result ≡ filled (event_at phase words.now senders values.now held.now) n no_events }
 {
     let end = places(n);
     let mut events = [Event::Stop; 32];
@@ -218,8 +218,8 @@ fn events_of(
 
 // The record after an accepted step.
 pub(crate) fn next_fleet(cycle: Cycle, f: Fleet, words: &[u32]) -> Fleet
-    requires { stepCheckIn (chosen cycle) f words.now ≡ Accepted }
-    ensures { result ≡ nextFleetIn (chosen cycle) f words.now }
+    requires { step_check_in (chosen cycle) f words.now ≡ Accepted }
+    ensures { result ≡ next_fleet_in (chosen cycle) f words.now }
 {
     let phase = phase_of(cycle, f.done);
     let mut values = [0u32; 16];

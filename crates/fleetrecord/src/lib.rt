@@ -5,8 +5,8 @@ ghost use Rattle.protocol.specs.declared.State.TheVariants.{Running};
 ghost use Rattle.basics.specs.Bits.{odd};
 ghost use Rattle.basics.specs.Lists.{all_below};
 ghost use Rattle.protocol.specs.Rules.{opened, truck};
-ghost use Rattle.protocol.specs.Fleets.{blank, started, is_empty, twoMemory, sixMemory, twoCounts, chosen, goodStateIn, goodTruckIn, goodFleetIn};
-ghost use Rattle.fleetrecord.specs.Opens.{openFleet};
+ghost use Rattle.protocol.specs.Fleets.{blank, started, is_empty, two_memory, six_memory, two_counts, chosen, good_state_in, good_truck_in, good_fleet_in};
+ghost use Rattle.fleetrecord.specs.Opens.{open_fleet};
 
 use protocol::{Answer, Cycle, Fleet, Heard, Sent, State, Truck};
 use refusals::{Outcome, Refusal};
@@ -52,7 +52,7 @@ pub fn blank() -> Fleet
 // A fleet of n trucks before round 1.
 fn open_fleet(n: u8, openings: &[u8]) -> Fleet
     requires { (length openings.now ≡ n) × (n ≤ 32) }
-    ensures { result ≡ openFleet n openings.now }
+    ensures { result ≡ open_fleet n openings.now }
 {
     let mut f = blank();
     f.n = n;
@@ -91,7 +91,7 @@ fn decides_in(cycle: Cycle, k: u16) -> bool
 }
 
 fn good_state(cycle: Cycle, done: u16, state: State) -> bool
-    ensures { result ≡ goodStateIn (chosen cycle) done state }
+    ensures { result ≡ good_state_in (chosen cycle) done state }
 {
     match state {
         State::Running => true,
@@ -102,7 +102,7 @@ fn good_state(cycle: Cycle, done: u16, state: State) -> bool
 
 // The memory is empty where the rounds done are even or the truck isn't running.
 fn two_memory(done: u16, t: Truck) -> bool
-    ensures { result ≡ twoMemory done t }
+    ensures { result ≡ two_memory done t }
 {
     let heard = t.heard;
     !(!is_odd(done) | !truck::runs(t)) | is_empty(t.mark, heard)
@@ -110,21 +110,21 @@ fn two_memory(done: u16, t: Truck) -> bool
 
 // A truck is unwilling only while it runs and 2 to 5 rounds of the cycle are done.
 fn six_memory(done: u16, t: Truck) -> bool
-    ensures { result ≡ sixMemory done t }
+    ensures { result ≡ six_memory done t }
 {
     !t.unwilling | (truck::runs(t) & (2 <= done % 6))
 }
 
 // No more proposals than odd rounds done, and no more vetoes than even ones.
 fn two_counts(done: u16, sent: Sent) -> bool
-    ensures { result ≡ twoCounts done sent }
+    ensures { result ≡ two_counts done sent }
 {
     (sent.proposals as u16 <= done / 2 + done % 2) & (sent.vetoes as u16 <= done / 2)
 }
 
 // What the cycle asks of a truck's memory and counts.
 fn good_rest(cycle: Cycle, done: u16, t: Truck) -> bool
-    ensures { result ≡ ((chosen cycle).goodMemory done t && (chosen cycle).goodCounts done t.sent) }
+    ensures { result ≡ ((chosen cycle).good_memory done t && (chosen cycle).good_counts done t.sent) }
 {
     match cycle {
         Cycle::TwoRound => {
@@ -137,7 +137,7 @@ fn good_rest(cycle: Cycle, done: u16, t: Truck) -> bool
 
 // What refusal 7 asks of one truck.
 pub fn good_truck(cycle: Cycle, done: u16, t: Truck) -> bool
-    ensures { result ≡ goodTruckIn (chosen cycle) done t }
+    ensures { result ≡ good_truck_in (chosen cycle) done t }
 {
     let state = t.state;
     (t.opening <= 15)
@@ -148,7 +148,7 @@ pub fn good_truck(cycle: Cycle, done: u16, t: Truck) -> bool
 
 fn good_trucks(cycle: Cycle, f: Fleet) -> bool
     requires { f.n ≤ 32 }
-    ensures { result ≡ all_below (λ i. goodTruckIn (chosen cycle) f.done (truck f.trucks i)) f.n }
+    ensures { result ≡ all_below (λ i. good_truck_in (chosen cycle) f.done (truck f.trucks i)) f.n }
 {
     let n = f.n as usize;
     let done = f.done;
@@ -164,7 +164,7 @@ fn good_trucks(cycle: Cycle, f: Fleet) -> bool
 
 // Refusal 7 lets the record pass, in this cycle.
 pub fn good_fleet(cycle: Cycle, f: Fleet) -> bool
-    ensures { result ≡ goodFleetIn (chosen cycle) f }
+    ensures { result ≡ good_fleet_in (chosen cycle) f }
 {
     let n = f.n;
     if recording::bad_trucks(n) {

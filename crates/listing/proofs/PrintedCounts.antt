@@ -5,74 +5,74 @@ use mathlib.Core.Bool.{not}
 use mathlib.Core.List.{List, ◌++◌}
 use Prim.Native.Nat.{ℕ, ◌<◌}
 use Rattle.basics.specs.Bits.{odd}
-use Rattle.basics.specs.Lists.{sumBelow}
-use Rattle.basics.proofs.Laws.{sum-ext}
-use Rattle.radio.specs.Radio.{timesSent}
+use Rattle.basics.specs.Lists.{sum_below}
+use Rattle.basics.proofs.Laws.{sum_ext}
+use Rattle.radio.specs.Radio.{times_sent}
 use Rattle.refusals.specs.declared.Outcome.{Outcome}
 use Rattle.refusals.specs.declared.Outcome.TheVariants.{Accepted}
-use Rattle.recording.specs.Packed.{trucksOf, roundsOf, openingsOf, roundAt}
-use Rattle.recording.specs.Checks.{checkOf}
+use Rattle.recording.specs.Packed.{trucks_of, rounds_of, openings_of, round_at}
+use Rattle.recording.specs.Checks.{check_of}
 use Rattle.protocol.specs.declared.Fleet.{Fleet}
 use Rattle.protocol.specs.Rules.{truck}
-use Rattle.protocol.specs.Runs.{radioAt}
-use Rattle.protocol.specs.Fleets.{twoRound, ran, ranIn, fleetIn}
+use Rattle.protocol.specs.Runs.{radio_at}
+use Rattle.protocol.specs.Fleets.{two_round, ran, ran_in, fleet_in}
 use Rattle.protocol.proofs.Ran.{ran-fleet}
 use Rattle.protocol.proofs.Counts.{sent-counts}
-use Rattle.listing.specs.Text.{text, stateText, truckLine, truckLines, totalsLine, listingOf, printedFor, printed}
-use Rattle.listing.specs.Writing.{openingText, spaced, sentLine, headerText}
-use Rattle.listing.proofs.Laws.{line-text}
+use Rattle.listing.specs.Text.{text, state_text, truck_line, truck_lines, totals_line, listing_of, printed_for, printed}
+use Rattle.listing.specs.Writing.{opening_text, spaced, sent_line, header_text}
+use Rattle.listing.proofs.Laws.{line_text}
 
 -- a listing: its first line, the trucks' lines, and a last line with the sums over the records
-pub listing-totals : (f : Fleet)
-    → listingOf f
-    ≡ headerText f.n f.done ++ truckLines f.trucks f.n
-    ++ sentLine (sumBelow (λ i. (truck f.trucks i).sent.proposals) f.n) (sumBelow (λ i. (truck f.trucks i).sent.vetoes) f.n)
-unfolding listingOf totalsLine
-listing-totals f = refl
+pub listing_totals : (f : Fleet)
+    → listing_of f
+    ≡ header_text f.n f.done ++ truck_lines f.trucks f.n
+    ++ sent_line (sum_below (λ i. (truck f.trucks i).sent.proposals) f.n) (sum_below (λ i. (truck f.trucks i).sent.vetoes) f.n)
+unfolding listing_of totals_line
+listing_totals f = refl
 
 -- of an accepted recording
-module _ (s : List ℕ) (h : checkOf s ≡ Accepted) where
+module _ (s : List ℕ) (h : check_of s ≡ Accepted) where
   abbrev n : ℕ
-  n = trucksOf s
+  n = trucks_of s
 
   abbrev R : ℕ
-  R = roundsOf s
+  R = rounds_of s
 
   abbrev f : Fleet
   f = (ran s).fleet
 
   -- in how many proposal rounds, and in how many veto rounds, the rules make truck i send
   abbrev proposed : ℕ → ℕ
-  proposed i = timesSent odd (radioAt n (openingsOf s) (roundAt s)) i R
+  proposed i = times_sent odd (radio_at n (openings_of s) (round_at s)) i R
 
   abbrev vetoed : ℕ → ℕ
-  vetoed i = timesSent (λ k. not (odd k)) (radioAt n (openingsOf s) (roundAt s)) i R
+  vetoed i = times_sent (λ k. not (odd k)) (radio_at n (openings_of s) (round_at s)) i R
 
   accepted : (ran s).outcome ≡ Accepted
-  unfolding ranIn
+  unfolding ran_in
   accepted = rw h
 
   counted : (i : ℕ) → i < n → ((truck f.trucks i).sent.proposals ≡ proposed i) × ((truck f.trucks i).sent.vetoes ≡ vetoed i)
   counted = sent-counts.run s accepted
 
   -- the totals that are printed are the sums of those numbers over the trucks below n
-  pub printed-totals : printed s ≡ headerText n R ++ truckLines f.trucks n ++ sentLine (sumBelow proposed n) (sumBelow vetoed n)
-  unfolding printed fleetIn
-  printed-totals =
+  pub printed_totals : printed s ≡ header_text n R ++ truck_lines f.trucks n ++ sent_line (sum_below proposed n) (sum_below vetoed n)
+  unfolding printed fleet_in
+  printed_totals =
       let p : ℕ → ℕ = λ i. (truck f.trucks i).sent.proposals in
       let v : ℕ → ℕ = λ i. (truck f.trucks i).sent.vetoes in
-      ap (λ (o : Outcome). printedFor o f) accepted
-      ∙ listing-totals f
-      ∙ ap (λ (g : Fleet). headerText g.n g.done ++ truckLines f.trucks g.n ++ sentLine (sumBelow p g.n) (sumBelow v g.n)) (ran-fleet twoRound s h)
-      ∙ ap₂ (λ (a b : ℕ). headerText n R ++ truckLines f.trucks n ++ sentLine a b)
-      (sum-ext p proposed n (λ i l. (counted i l).0)) (sum-ext v vetoed n (λ i l. (counted i l).1))
+      ap (λ (o : Outcome). printed_for o f) accepted
+      ∙ listing_totals f
+      ∙ ap (λ (g : Fleet). header_text g.n g.done ++ truck_lines f.trucks g.n ++ sent_line (sum_below p g.n) (sum_below v g.n)) (ran-fleet two_round s h)
+      ∙ ap₂ (λ (a b : ℕ). header_text n R ++ truck_lines f.trucks n ++ sent_line a b)
+      (sum_ext p proposed n (λ i l. (counted i l).0)) (sum_ext v vetoed n (λ i l. (counted i l).1))
 
   -- and the line of a truck has its own
   pub printed-counts : (i : ℕ) → i < n
-      → truckLine i (truck f.trucks i)
-      ≡ openingText i (truck f.trucks i).opening ++ spaced (stateText (truck f.trucks i).state (truck f.trucks i).estimate) ++ text " "
-      ++ sentLine (proposed i) (vetoed i)
+      → truck_line i (truck f.trucks i)
+      ≡ opening_text i (truck f.trucks i).opening ++ spaced (state_text (truck f.trucks i).state (truck f.trucks i).estimate) ++ text " "
+      ++ sent_line (proposed i) (vetoed i)
   printed-counts i l =
       let t = truck f.trucks i in
-      sym (line-text i t)
-      ∙ ap₂ (λ (a b : ℕ). openingText i t.opening ++ spaced (stateText t.state t.estimate) ++ text " " ++ sentLine a b) (counted i l).0 (counted i l).1
+      sym (line_text i t)
+      ∙ ap₂ (λ (a b : ℕ). opening_text i t.opening ++ spaced (state_text t.state t.estimate) ++ text " " ++ sent_line a b) (counted i l).0 (counted i l).1

@@ -9,49 +9,49 @@ use native.Mathlib.Omega.{arith}
 use borrow.Author.Tests.{ltb-false, leb-true}
 use lib.Dec.{ltb}
 use lib.ListN.{length, length-append, replicate}
-use Rattle.basics.specs.Lists.{all_below, sumBelow}
-use Rattle.basics.proofs.Laws.{sum-most}
+use Rattle.basics.specs.Lists.{all_below, sum_below}
+use Rattle.basics.proofs.Laws.{sum_most}
 use Rattle.refusals.specs.declared.Refusal.{Refusal}
 use Rattle.refusals.specs.declared.Refusal.TheVariants.{OwnLoss}
 use Rattle.refusals.specs.declared.Location.{Location}
 use Rattle.refusals.specs.declared.Location.TheVariants.{Unnamed, At}
 use Rattle.refusals.specs.declared.Outcome.TheVariants.{Accepted, Refused}
 use Rattle.refusals.specs.Numbers.{number_of}
-use Rattle.refusals.specs.Locations.{locationOf}
-use Rattle.refusals.proofs.Numbers.{number-range}
-use Rattle.refusals.proofs.Locations.{named-6}
-use Rattle.recording.specs.Packed.{trucksOf, roundsOf, openingsOf, roundAt}
-use Rattle.recording.specs.Checks.{badTrucks, checkOf}
+use Rattle.refusals.specs.Locations.{location_of}
+use Rattle.refusals.proofs.Numbers.{number_range}
+use Rattle.refusals.proofs.Locations.{named_6}
+use Rattle.recording.specs.Packed.{trucks_of, rounds_of, openings_of, round_at}
+use Rattle.recording.specs.Checks.{bad_trucks, check_of}
 use Rattle.recording.proofs.Accepted.{bytes_good}
-use Rattle.recording.proofs.Named.{check-in}
+use Rattle.recording.proofs.Named.{check_in}
 use Rattle.protocol.specs.declared.Heard.TheVariants.{Nothing}
 use Rattle.protocol.specs.declared.State.{State}
 use Rattle.protocol.specs.declared.State.TheVariants.{Running, Stopped, Decided}
 use Rattle.protocol.specs.declared.Truck.{Truck}
 use Rattle.protocol.specs.declared.Fleet.{Fleet}
 use Rattle.protocol.specs.Rules.{truck}
-use Rattle.protocol.specs.Fleets.{twoRound, goodState, goodTruckIn, goodFleetIn, goodFleet, fleetIn, fleetAt, ran}
-use Rattle.protocol.proofs.Good.{Good, state-ended}
-use Rattle.protocol.proofs.OneRound.{sound-two}
-use Rattle.protocol.proofs.Rules.{counts-parts}
+use Rattle.protocol.specs.Fleets.{two_round, good_state, good_truck_in, good_fleet_in, good_fleet, fleet_in, fleet_at, ran}
+use Rattle.protocol.proofs.Good.{Good, state_ended}
+use Rattle.protocol.proofs.OneRound.{sound_two}
+use Rattle.protocol.proofs.Rules.{counts_parts}
 use Rattle.protocol.proofs.Ran.{ran-fleet, ran-good}
-use Rattle.listing.specs.Text.{text, decimalIn, decimal, stateText, sentText, truckLine, truckLines, totalsLine, listingOf, locationText, refusalText}
-use Rattle.listing.specs.Program.{longestListing, longestRefusal}
+use Rattle.listing.specs.Text.{text, decimal_in, decimal, state_text, sent_text, truck_line, truck_lines, totals_line, listing_of, location_text, refusal_text}
+use Rattle.listing.specs.Program.{longest_listing, longest_refusal}
 
 -- a number below 10 to the m + 1 has at most m + 1 digits
-digits_in : (f m k : ℕ) → k < 10 ^ suc m → length (decimalIn f k) ≤ suc m
-unfolding decimalIn
+digits_in : (f m k : ℕ) → k < 10 ^ suc m → length (decimal_in f k) ≤ suc m
+unfolding decimal_in
 digits_in zero m k h = omega arith
 digits_in (suc f) m k h = go m (ltb k 10) refl h (λ j. digits_in f j (k / 10))
   where
-    go : (m : ℕ) (b : Bool) → ltb k 10 ≡ b → k < 10 ^ suc m → ((j : ℕ) → k / 10 < 10 ^ suc j → length (decimalIn f (k / 10)) ≤ suc j)
-        → length (cond b ((48 + k) ∷ []) (decimalIn f (k / 10) ++ ((48 + k % 10) ∷ []))) ≤ suc m
+    go : (m : ℕ) (b : Bool) → ltb k 10 ≡ b → k < 10 ^ suc m → ((j : ℕ) → k / 10 < 10 ^ suc j → length (decimal_in f (k / 10)) ≤ suc j)
+        → length (cond b ((48 + k) ∷ []) (decimal_in f (k / 10) ++ ((48 + k % 10) ∷ []))) ≤ suc m
     go m true e h ih = omega arith
     go zero false e h ih = absurd (omega (arith, ltb-false k 10 e))
     go (suc m) false e h ih =
         omega (
           arith,
-          length-append (decimalIn f (k / 10)) ((48 + k % 10) ∷ []),
+          length-append (decimal_in f (k / 10)) ((48 + k % 10) ∷ []),
           ih m ((div-lt_iff_lt-mul (let z : 0 < 10 = omega arith in z)).1 (rw (← pow-suc 10 (suc m)) h)),
         )
 
@@ -60,8 +60,8 @@ unfolding decimal
 digits m k h = digits_in 5 m k h
 
 -- six texts one after the other
-six-parts : (a b c d e f : List ℕ) → length (a ++ b ++ c ++ d ++ e ++ f) ≡ length a + length b + length c + length d + length e + length f
-six-parts a b c d e f =
+six_parts : (a b c d e f : List ℕ) → length (a ++ b ++ c ++ d ++ e ++ f) ≡ length a + length b + length c + length d + length e + length f
+six_parts a b c d e f =
     omega (
       arith,
       length-append a b,
@@ -72,13 +72,13 @@ six-parts a b c d e f =
     )
 
 -- two digits for a crusher
-crusher-size : (v : ℕ) → v ≤ 15 → length (decimal v) ≤ 2
-crusher-size v h = digits 1 v (let o : v < 10 ^ 2 = omega arith in o)
+crusher_size : (v : ℕ) → v ≤ 15 → length (decimal v) ≤ 2
+crusher_size v h = digits 1 v (let o : v < 10 ^ 2 = omega arith in o)
 
 -- what two numbers of m + 1 digits take
-sent-size : (m p v : ℕ) → p < 10 ^ suc m → v < 10 ^ suc m → length (sentText p v) ≤ 15 + 2 * m
-unfolding sentText
-sent-size m p v hp hv =
+sent_size : (m p v : ℕ) → p < 10 ^ suc m → v < 10 ^ suc m → length (sent_text p v) ≤ 15 + 2 * m
+unfolding sent_text
+sent_size m p v hp hv =
     let la : length (text "sent ") ≡ 5 = refl in
     let lc : length (text " vetoes ") ≡ 8 = refl in
     omega (
@@ -100,116 +100,116 @@ number_size i h = go (dec_lt i 10)
 
 -- with R rounds done, a number of m + 1 digits
 module _ (m R : ℕ) (few : R < 10 ^ suc m) where
-  ended-size : (word : List ℕ) (v k : ℕ) → length word ≡ 8 → v ≤ 15 → k ≤ R → length (word ++ decimal v ++ text " round " ++ decimal k) ≤ 18 + m
-  ended-size word v k w h l =
+  ended_size : (word : List ℕ) (v k : ℕ) → length word ≡ 8 → v ≤ 15 → k ≤ R → length (word ++ decimal v ++ text " round " ++ decimal k) ≤ 18 + m
+  ended_size word v k w h l =
       let e : length (text " round ") ≡ 7 = refl in
       omega (
         arith,
         length-append word (decimal v),
         length-append (word ++ decimal v) (text " round "),
         length-append (word ++ decimal v ++ text " round ") (decimal k),
-        crusher-size v h,
+        crusher_size v h,
         digits m k (omega arith),
       )
 
   -- the state of a truck that refusal 7 lets pass
-  state-size : (s : State) (v : ℕ) → v ≤ 15 → goodState R s ≡ true → length (stateText s v) ≤ 18 + m
-  unfolding stateText
-  state-size Running v h g =
+  state_size : (s : State) (v : ℕ) → v ≤ 15 → good_state R s ≡ true → length (state_text s v) ≤ 18 + m
+  unfolding state_text
+  state_size Running v h g =
       let e : length (text "running ") ≡ 8 = refl in
-      omega (arith, length-append (text "running ") (decimal v), crusher-size v h)
-  state-size (Stopped k) v h g = ended-size (text "stopped ") v k refl h (state-ended twoRound R (Stopped k) refl g)
-  state-size (Decided k) v h g = ended-size (text "decided ") v k refl h (state-ended twoRound R (Decided k) refl g)
+      omega (arith, length-append (text "running ") (decimal v), crusher_size v h)
+  state_size (Stopped k) v h g = ended_size (text "stopped ") v k refl h (state_ended two_round R (Stopped k) refl g)
+  state_size (Decided k) v h g = ended_size (text "decided ") v k refl h (state_ended two_round R (Decided k) refl g)
 
   -- the line of such a truck, besides its number
-  line-size : (i : ℕ) (t : Truck) → Good twoRound R t → length (truckLine i t) ≤ length (decimal i) + (46 + 3 * m)
-  unfolding truckLine
-  line-size i t g =
+  line_size : (i : ℕ) (t : Truck) → Good two_round R t → length (truck_line i t) ≤ length (decimal i) + (46 + 3 * m)
+  unfolding truck_line
+  line_size i t g =
       let lb : length (text " opened ") ≡ 8 = refl in
       let ld : length (text " ") ≡ 1 = refl in
       let lf : length (text "\n") ≡ 1 = refl in
-      let a = decimal i ++ text " opened " ++ decimal t.opening ++ text " " ++ stateText t.state t.estimate ++ text " " in
-      let b = sentText t.sent.proposals t.sent.vetoes in
-      let c = counts-parts R t.sent g.counts in
+      let a = decimal i ++ text " opened " ++ decimal t.opening ++ text " " ++ state_text t.state t.estimate ++ text " " in
+      let b = sent_text t.sent.proposals t.sent.vetoes in
+      let c = counts_parts R t.sent g.counts in
       omega (
         arith,
-        six-parts (decimal i) (text " opened ") (decimal t.opening) (text " ") (stateText t.state t.estimate) (text " "),
+        six_parts (decimal i) (text " opened ") (decimal t.opening) (text " ") (state_text t.state t.estimate) (text " "),
         length-append a b,
         length-append (a ++ b) (text "\n"),
-        crusher-size t.opening (leb-true t.opening 15 g.opening),
-        state-size t.state t.estimate (leb-true t.estimate 15 g.estimate) g.state,
-        sent-size m t.sent.proposals t.sent.vetoes (omega (arith, c.0)) (omega (arith, c.1)),
+        crusher_size t.opening (leb-true t.opening 15 g.opening),
+        state_size t.state t.estimate (leb-true t.estimate 15 g.estimate) g.state,
+        sent_size m t.sent.proposals t.sent.vetoes (omega (arith, c.0)) (omega (arith, c.1)),
       )
 
   module _ (ts : List Truck) where
-    lines-size : (n : ℕ) → n ≤ 100 → ((i : ℕ) → i < n → Good twoRound R (truck ts i)) → length (truckLines ts n) ≤ n * (47 + 3 * m) + (n - 10)
-    unfolding truckLines
-    lines-size zero h g = omega arith
-    lines-size (suc i) h g =
+    lines_size : (n : ℕ) → n ≤ 100 → ((i : ℕ) → i < n → Good two_round R (truck ts i)) → length (truck_lines ts n) ≤ n * (47 + 3 * m) + (n - 10)
+    unfolding truck_lines
+    lines_size zero h g = omega arith
+    lines_size (suc i) h g =
         omega (
           arith,
-          length-append (truckLines ts i) (truckLine i (truck ts i)),
-          lines-size i (omega arith) (λ j lj. g j (omega arith)),
-          line-size i (truck ts i) (g i (omega arith)),
+          length-append (truck_lines ts i) (truck_line i (truck ts i)),
+          lines_size i (omega arith) (λ j lj. g j (omega arith)),
+          line_size i (truck ts i) (g i (omega arith)),
           number_size i (omega arith),
           suc-mul i (47 + 3 * m),
         )
 
     -- the last line of such trucks, whose sums have w + 1 digits
-    totals-size : (w n : ℕ) → n * ((R + 1) / 2) < 10 ^ suc w → ((i : ℕ) → i < n → Good twoRound R (truck ts i)) → length (totalsLine ts n) ≤ 16 + 2 * w
-    unfolding totalsLine
-    totals-size w n h g =
-        let p = sumBelow (λ i. (truck ts i).sent.proposals) n in
-        let v = sumBelow (λ i. (truck ts i).sent.vetoes) n in
+    totals_size : (w n : ℕ) → n * ((R + 1) / 2) < 10 ^ suc w → ((i : ℕ) → i < n → Good two_round R (truck ts i)) → length (totals_line ts n) ≤ 16 + 2 * w
+    unfolding totals_line
+    totals_size w n h g =
+        let p = sum_below (λ i. (truck ts i).sent.proposals) n in
+        let v = sum_below (λ i. (truck ts i).sent.vetoes) n in
         let lf : length (text "\n") ≡ 1 = refl in
-        let c : (i : ℕ) → i < n → ((truck ts i).sent.proposals ≤ (R + 1) / 2) × ((truck ts i).sent.vetoes ≤ R / 2) = λ i li. counts-parts R (truck ts i).sent (g i li).counts in
-        let mp : p ≤ (R + 1) / 2 * n = sum-most (λ i. (truck ts i).sent.proposals) ((R + 1) / 2) n (λ i li. (c i li).0) in
-        let mv : v ≤ (R + 1) / 2 * n = sum-most (λ i. (truck ts i).sent.vetoes) ((R + 1) / 2) n (λ i li. omega (arith, (c i li).1)) in
-        omega (arith, length-append (sentText p v) (text "\n"), sent-size w p v (omega (arith, mul_comm n ((R + 1) / 2))) (omega (arith, mul_comm n ((R + 1) / 2))))
+        let c : (i : ℕ) → i < n → ((truck ts i).sent.proposals ≤ (R + 1) / 2) × ((truck ts i).sent.vetoes ≤ R / 2) = λ i li. counts_parts R (truck ts i).sent (g i li).counts in
+        let mp : p ≤ (R + 1) / 2 * n = sum_most (λ i. (truck ts i).sent.proposals) ((R + 1) / 2) n (λ i li. (c i li).0) in
+        let mv : v ≤ (R + 1) / 2 * n = sum_most (λ i. (truck ts i).sent.vetoes) ((R + 1) / 2) n (λ i li. omega (arith, (c i li).1)) in
+        omega (arith, length-append (sent_text p v) (text "\n"), sent_size w p v (omega (arith, mul_comm n ((R + 1) / 2))) (omega (arith, mul_comm n ((R + 1) / 2))))
 
 -- a listing, by the digits of n, of the rounds done and of the sums
-pub fleet-size : (d m w : ℕ) (f : Fleet) → f.n < 10 ^ suc d → f.done < 10 ^ suc m → f.n * ((f.done + 1) / 2) < 10 ^ suc w → f.n ≤ 100
-    → ((i : ℕ) → i < f.n → Good twoRound f.done (truck f.trucks i))
-    → length (listingOf f) ≤ 34 + d + m + 2 * w + f.n * (47 + 3 * m) + (f.n - 10)
-unfolding listingOf
-fleet-size d m w f ln ld ls h g =
+pub fleet_size : (d m w : ℕ) (f : Fleet) → f.n < 10 ^ suc d → f.done < 10 ^ suc m → f.n * ((f.done + 1) / 2) < 10 ^ suc w → f.n ≤ 100
+    → ((i : ℕ) → i < f.n → Good two_round f.done (truck f.trucks i))
+    → length (listing_of f) ≤ 34 + d + m + 2 * w + f.n * (47 + 3 * m) + (f.n - 10)
+unfolding listing_of
+fleet_size d m w f ln ld ls h g =
     let la : length (text "trucks ") ≡ 7 = refl in
     let lc : length (text " rounds ") ≡ 8 = refl in
     let le : length (text "\n") ≡ 1 = refl in
-    let a = text "trucks " ++ decimal f.n ++ text " rounds " ++ decimal f.done ++ text "\n" ++ truckLines f.trucks f.n in
+    let a = text "trucks " ++ decimal f.n ++ text " rounds " ++ decimal f.done ++ text "\n" ++ truck_lines f.trucks f.n in
     omega (
       arith,
-      six-parts (text "trucks ") (decimal f.n) (text " rounds ") (decimal f.done) (text "\n") (truckLines f.trucks f.n),
-      length-append a (totalsLine f.trucks f.n),
+      six_parts (text "trucks ") (decimal f.n) (text " rounds ") (decimal f.done) (text "\n") (truck_lines f.trucks f.n),
+      length-append a (totals_line f.trucks f.n),
       digits d f.n ln,
       digits m f.done ld,
-      lines-size m f.done ld f.trucks f.n h g,
-      totals-size m f.done ld f.trucks w f.n ls g,
+      lines_size m f.done ld f.trucks f.n h g,
+      totals_size m f.done ld f.trucks w f.n ls g,
     )
 
 -- of an accepted run
-module _ (s : List ℕ) (h : checkOf s ≡ Accepted) where
-  pub run-size : (d m w : ℕ) → trucksOf s < 10 ^ suc d → roundsOf s < 10 ^ suc m → trucksOf s * ((roundsOf s + 1) / 2) < 10 ^ suc w
-      → length (listingOf (ran s).fleet) ≤ 34 + d + m + 2 * w + trucksOf s * (47 + 3 * m) + (trucksOf s - 10)
-  unfolding fleetIn
-  run-size d m w ln ld ls =
-      rw (ran-fleet twoRound s h) (fleet-size d m w (fleetAt (trucksOf s) (openingsOf s) (roundAt s) (roundsOf s)) ln ld ls (omega (arith, (bytes_good s h).frame.most)) (λ i l. good i l))
+module _ (s : List ℕ) (h : check_of s ≡ Accepted) where
+  pub run_size : (d m w : ℕ) → trucks_of s < 10 ^ suc d → rounds_of s < 10 ^ suc m → trucks_of s * ((rounds_of s + 1) / 2) < 10 ^ suc w
+      → length (listing_of (ran s).fleet) ≤ 34 + d + m + 2 * w + trucks_of s * (47 + 3 * m) + (trucks_of s - 10)
+  unfolding fleet_in
+  run_size d m w ln ld ls =
+      rw (ran-fleet two_round s h) (fleet_size d m w (fleet_at (trucks_of s) (openings_of s) (round_at s) (rounds_of s)) ln ld ls (omega (arith, (bytes_good s h).frame.most)) (λ i l. good i l))
     where
-      good : (i : ℕ) → i < trucksOf s → Good twoRound (roundsOf s) (truck (fleetAt (trucksOf s) (openingsOf s) (roundAt s) (roundsOf s)).trucks i)
-      good i l = subst (λ (f : Fleet). Good twoRound (roundsOf s) (truck f.trucks i)) (ran-fleet twoRound s h) (ran-good twoRound s sound-two h i l)
+      good : (i : ℕ) → i < trucks_of s → Good two_round (rounds_of s) (truck (fleet_at (trucks_of s) (openings_of s) (round_at s) (rounds_of s)).trucks i)
+      good i l = subst (λ (f : Fleet). Good two_round (rounds_of s) (truck f.trucks i)) (ran-fleet two_round s h) (ran-good two_round s sound_two h i l)
 
-  pub listing-size : length (listingOf (ran s).fleet) ≤ longestListing
-  listing-size =
+  pub listing_size : length (listing_of (ran s).fleet) ≤ longest_listing
+  listing_size =
       let b = (bytes_good s h).frame in
-      let n : trucksOf s ≤ 32 = b.most in
-      let R : roundsOf s ≤ 400 = b.rounds in
-      let sums : trucksOf s * ((roundsOf s + 1) / 2) ≤ 32 * 200 = mul-le-mul n (let half : (roundsOf s + 1) / 2 ≤ 200 = omega arith in half) in
-      omega (arith, run-size 1 2 3 (omega arith) (omega arith) (omega arith))
+      let n : trucks_of s ≤ 32 = b.most in
+      let R : rounds_of s ≤ 400 = b.rounds in
+      let sums : trucks_of s * ((rounds_of s + 1) / 2) ≤ 32 * 200 = mul-le-mul n (let half : (rounds_of s + 1) / 2 ≤ 200 = omega arith in half) in
+      omega (arith, run_size 1 2 3 (omega arith) (omega arith) (omega arith))
 
 -- a round within the limits and a truck below 32
-location-size : (round truck : ℕ) → round ≤ 400 → truck < 32 → length (locationText (At round truck)) ≤ 19
-unfolding locationText
-location-size round truck h l =
+location_size : (round truck : ℕ) → round ≤ 400 → truck < 32 → length (location_text (At round truck)) ≤ 19
+unfolding location_text
+location_size round truck h l =
     let a = text " round " ++ decimal round in
     let lb : length (text " round ") ≡ 7 = refl in
     let lc : length (text " truck ") ≡ 7 = refl in
@@ -223,51 +223,51 @@ location-size round truck h l =
     )
 
 -- a line by its parts
-line-parts : (r : Refusal) → length (refusalText r) ≡ 9 + length (decimal (number_of r)) + length (locationText (locationOf r))
-unfolding refusalText
-line-parts r =
+line_parts : (r : Refusal) → length (refusal_text r) ≡ 9 + length (decimal (number_of r)) + length (location_text (location_of r))
+unfolding refusal_text
+line_parts r =
     let a = text "refused " ++ decimal (number_of r) in
-    let b = locationText (locationOf r) in
+    let b = location_text (location_of r) in
     let la : length (text "refused ") ≡ 8 = refl in
     let lc : length (text "\n") ≡ 1 = refl in
     omega (arith, length-append (text "refused ") (decimal (number_of r)), length-append a b, length-append (a ++ b) (text "\n"))
 
 -- the line of a refusal that names a round and a truck within the limits, or none
-pub refusal-size : (r : Refusal) → ((round truck : ℕ) → r ≡ OwnLoss round truck → (round ≤ 400) × (truck < 32)) → length (refusalText r) ≤ longestRefusal
-unfolding locationText
-refusal-size r within = go (locationOf r) refl
+pub refusal_size : (r : Refusal) → ((round truck : ℕ) → r ≡ OwnLoss round truck → (round ≤ 400) × (truck < 32)) → length (refusal_text r) ≤ longest_refusal
+unfolding location_text
+refusal_size r within = go (location_of r) refl
   where
-    go : (p : Location) → locationOf r ≡ p → length (refusalText r) ≤ longestRefusal
+    go : (p : Location) → location_of r ≡ p → length (refusal_text r) ≤ longest_refusal
     go Unnamed e =
         omega (
           arith,
-          line-parts r,
-          ap (λ (p : Location). length (locationText p)) e,
-          digits 1 (number_of r) (let o : number_of r < 10 ^ 2 = omega (arith, number-range r) in o),
+          line_parts r,
+          ap (λ (p : Location). length (location_text p)) e,
+          digits 1 (number_of r) (let o : number_of r < 10 ^ 2 = omega (arith, number_range r) in o),
         )
     go (At round truck) e =
-        let six : r ≡ OwnLoss round truck = named-6 r round truck e in
+        let six : r ≡ OwnLoss round truck = named_6 r round truck e in
         let l = within round truck six in
         omega (
           arith,
-          line-parts r,
-          ap (λ (p : Location). length (locationText p)) e,
-          location-size round truck l.0 l.1,
+          line_parts r,
+          ap (λ (p : Location). length (location_text p)) e,
+          location_size round truck l.0 l.1,
           digits 0 (number_of r) (let o : number_of r < 10 ^ 1 = omega (arith, ap number_of six) in o),
         )
 
 -- and so of a refused recording
-pub refused-size : (s : List ℕ) (r : Refusal) → checkOf s ≡ Refused r → length (refusalText r) ≤ longestRefusal
-refused-size s r h = refusal-size r (λ round truck e. check-in s round truck (h ∙ ap Refused e))
+pub refused_size : (s : List ℕ) (r : Refusal) → check_of s ≡ Refused r → length (refusal_text r) ≤ longest_refusal
+refused_size s r h = refusal_size r (λ round truck e. check_in s round truck (h ∙ ap Refused e))
 
 -- no size is larger than it has to be: a record that refusal 7 lets pass has the longest listing, and the last truck of the last round the longest line
 pub fullest : Fleet
 fullest = record { n = 32; done = 400; trucks = replicate 32 (record { opening = 15; estimate = 15; mark = false; heard = Nothing; unwilling = false; state = Decided 400; sent = record { proposals = 200; vetoes = 200 } }) }
 
-pub listing-longest : (goodFleet fullest ≡ true) × (length (listingOf fullest) ≡ longestListing)
-unfolding fullest goodTruckIn goodFleetIn badTrucks all_below sumBelow decimalIn decimal stateText sentText truckLine truckLines totalsLine listingOf
-listing-longest = (refl, refl)
+pub listing_longest : (good_fleet fullest ≡ true) × (length (listing_of fullest) ≡ longest_listing)
+unfolding fullest good_truck_in good_fleet_in bad_trucks all_below sum_below decimal_in decimal state_text sent_text truck_line truck_lines totals_line listing_of
+listing_longest = (refl, refl)
 
-pub refusal-longest : length (refusalText (OwnLoss 400 31)) ≡ longestRefusal
-unfolding decimalIn decimal locationText refusalText
-refusal-longest = refl
+pub refusal_longest : length (refusal_text (OwnLoss 400 31)) ≡ longest_refusal
+unfolding decimal_in decimal location_text refusal_text
+refusal_longest = refl

@@ -6,12 +6,12 @@ use Rattle.refusals.specs.declared.Refusal.TheVariants.{ShortBuffer}
 use Rattle.refusals.specs.declared.Outcome.{Outcome}
 use Rattle.refusals.specs.declared.Outcome.TheVariants as outcome
 use Rattle.refusals.specs.Outcomes.{refuse, and_then}
-use Rattle.recording.specs.Checks.{checkOf}
+use Rattle.recording.specs.Checks.{check_of}
 use Rattle.protocol.specs.declared.Fleet.{Fleet}
 use Rattle.protocol.specs.Fleets.{ran}
 use Rattle.listing.specs.declared.Listed.{Listed}
 use Rattle.listing.specs.declared.Listed.TheVariants.{Text, Refused}
-use Rattle.listing.specs.Text.{listingOf, refusalText}
+use Rattle.listing.specs.Text.{listing_of, refusal_text}
 
 pub record Left : Type 0 where
   pub answer : Listed
@@ -21,26 +21,26 @@ abbrev pub left : Listed → List ℕ → Left
 left r d = record { answer = r; buffer = d }
 
 -- an answer by document 01's number and values: the number of bytes of the text, where it is no refusal
-abbrev pub listAnswer : Listed → ℕ × List ℕ
-listAnswer (Text k) = (0, k ∷ [])
-listAnswer (Refused r) = (number_of r, [])
+abbrev pub list_answer : Listed → ℕ × List ℕ
+list_answer (Text k) = (0, k ∷ [])
+list_answer (Refused r) = (number_of r, [])
 
 -- a text in a lent buffer, which keeps everything past it; 9 where the buffer is too short
-unfoldable pub textIn : List ℕ → List ℕ → Left
-textIn t d = cond (leb (length t) (length d)) (left (Text (length t)) (t ++ drop (length t) d)) (left (Refused ShortBuffer) d)
+unfoldable pub text_in : List ℕ → List ℕ → Left
+text_in t d = cond (leb (length t) (length d)) (left (Text (length t)) (t ++ drop (length t) d)) (left (Refused ShortBuffer) d)
 
-abbrev pub listedFor : Outcome → Fleet → List ℕ → Left
-listedFor outcome.Accepted f d = textIn (listingOf f) d
-listedFor (outcome.Refused r) f d = left (Refused r) d
+abbrev pub listed_for : Outcome → Fleet → List ℕ → Left
+listed_for outcome.Accepted f d = text_in (listing_of f) d
+listed_for (outcome.Refused r) f d = left (Refused r) d
 
 -- the listing of a recording's run: 1 to 6, then 9; nothing is written on a refusal
 unfoldable pub listed : List ℕ → List ℕ → Left
-listed s d = let a = ran s in listedFor a.outcome a.fleet d
+listed s d = let a = ran s in listed_for a.outcome a.fleet d
 
 -- the same as a check: 1 to 6, then 9, for a buffer of this length
-unfoldable pub listCheck : List ℕ → ℕ → Outcome
-listCheck s m = and_then (checkOf s) (refuse (ltb m (length (listingOf (ran s).fleet))) ShortBuffer outcome.Accepted)
+unfoldable pub list_check : List ℕ → ℕ → Outcome
+list_check s m = and_then (check_of s) (refuse (ltb m (length (listing_of (ran s).fleet))) ShortBuffer outcome.Accepted)
 
 -- the line of a refused recording
-unfoldable pub refusalListed : Refusal → List ℕ → Left
-refusalListed r d = textIn (refusalText r) d
+unfoldable pub refusal_listed : Refusal → List ℕ → Left
+refusal_listed r d = text_in (refusal_text r) d

@@ -1,10 +1,10 @@
 // The text that is printed for a recording, in a lent buffer.
 ghost use Rattle.std.specs.Prelude.{◌≡◌, ◌∷◌, [], ◌+◌, ◌<◌, ◌≤◌, length};
-ghost use Rattle.basics.specs.Lists.{sumBelow};
+ghost use Rattle.basics.specs.Lists.{sum_below};
 ghost use Rattle.protocol.specs.Rules.{truck};
-ghost use Rattle.listing.specs.Text.{decimal, stateText, truckLine, truckLines, listingOf, locationText, refusalText};
-ghost use Rattle.listing.specs.Listed.{left, textIn, listed, refusalListed};
-ghost use Rattle.listing.specs.Writing.{Put, openingText, endedText, headerText, spaced, sentLine, twoText};
+ghost use Rattle.listing.specs.Text.{decimal, state_text, truck_line, truck_lines, listing_of, location_text, refusal_text};
+ghost use Rattle.listing.specs.Listed.{left, text_in, listed, refusal_listed};
+ghost use Rattle.listing.specs.Writing.{Put, opening_text, ended_text, header_text, spaced, sent_line, two_text};
 
 use protocol::{Fleet, State, Truck};
 use refusals::{Location, Outcome, Refusal};
@@ -63,7 +63,7 @@ fn put_number(buf: &mut [u8], at: usize, k: u16) -> usize
 // Puts a word, a number, another word, and another number.
 fn put_two(buf: &mut [u8], at: usize, first: &[u8], a: u16, second: &[u8], b: u16) -> usize
     requires { at + length first.now + length second.now + 10 ≤ length buf.old }
-    ensures placed { Put buf.old at (twoText first.now a second.now b) buf.new result }
+    ensures placed { Put buf.old at (two_text first.now a second.now b) buf.new result }
     ensures within { result ≤ at + length first.now + length second.now + 10 }
 {
     let p = put(buf, at, first);
@@ -75,7 +75,7 @@ fn put_two(buf: &mut [u8], at: usize, first: &[u8], a: u16, second: &[u8], b: u1
 // Puts a truck's number and opening.
 fn put_opening(buf: &mut [u8], at: usize, i: u16, opening: u8) -> usize
     requires { at + 18 ≤ length buf.old }
-    ensures placed { Put buf.old at (openingText i opening) buf.new result }
+    ensures placed { Put buf.old at (opening_text i opening) buf.new result }
     ensures within { result ≤ at + 18 }
 {
     let a = put_number(buf, at, i);
@@ -86,7 +86,7 @@ fn put_opening(buf: &mut [u8], at: usize, i: u16, opening: u8) -> usize
 // Puts a word, the truck's crusher, and the round of its stop or decision.
 fn put_ended(buf: &mut [u8], at: usize, word: &[u8], crusher: u8, round: u16) -> usize
     requires { (at + 26 ≤ length buf.old) × (length word.now ≡ 9) }
-    ensures placed { Put buf.old at (endedText word.now crusher round) buf.new result }
+    ensures placed { Put buf.old at (ended_text word.now crusher round) buf.new result }
     ensures within { result ≤ at + 26 }
 {
     put_two(buf, at, word, crusher as u16, b" round ", round)
@@ -95,7 +95,7 @@ fn put_ended(buf: &mut [u8], at: usize, word: &[u8], crusher: u8, round: u16) ->
 // Puts a truck's state, crusher and, where it has one, round.
 fn put_state(buf: &mut [u8], at: usize, state: State, crusher: u8) -> usize
     requires { at + 26 ≤ length buf.old }
-    ensures placed { Put buf.old at (spaced (stateText state crusher)) buf.new result }
+    ensures placed { Put buf.old at (spaced (state_text state crusher)) buf.new result }
     ensures within { result ≤ at + 26 }
 {
     match state {
@@ -111,7 +111,7 @@ fn put_state(buf: &mut [u8], at: usize, state: State, crusher: u8) -> usize
 // Puts how much was sent, and the end of the line.
 fn put_sent(buf: &mut [u8], at: usize, proposals: u16, vetoes: u16) -> usize
     requires { at + 24 ≤ length buf.old }
-    ensures placed { Put buf.old at (sentLine proposals vetoes) buf.new result }
+    ensures placed { Put buf.old at (sent_line proposals vetoes) buf.new result }
     ensures within { result ≤ at + 24 }
 {
     let end = put_two(buf, at, b"sent ", proposals, b" vetoes ", vetoes);
@@ -121,7 +121,7 @@ fn put_sent(buf: &mut [u8], at: usize, proposals: u16, vetoes: u16) -> usize
 // Puts the line of truck i.
 fn put_line(buf: &mut [u8], at: usize, i: u16, t: Truck) -> usize
     requires { at + 69 ≤ length buf.old }
-    ensures placed { Put buf.old at (truckLine i t) buf.new result }
+    ensures placed { Put buf.old at (truck_line i t) buf.new result }
     ensures within { result ≤ at + 69 }
 {
     let a = put_opening(buf, at, i, t.opening);
@@ -135,7 +135,7 @@ fn put_line(buf: &mut [u8], at: usize, i: u16, t: Truck) -> usize
 // Puts the first line: the two header counts.
 fn put_header(buf: &mut [u8], at: usize, n: u8, done: u16) -> usize
     requires { at + 26 ≤ length buf.old }
-    ensures placed { Put buf.old at (headerText n done) buf.new result }
+    ensures placed { Put buf.old at (header_text n done) buf.new result }
     ensures within { result ≤ at + 26 }
 {
     let end = put_two(buf, at, b"trucks ", n as u16, b" rounds ", done);
@@ -145,7 +145,7 @@ fn put_header(buf: &mut [u8], at: usize, n: u8, done: u16) -> usize
 // Puts the lines of the trucks below n.
 fn put_lines(buf: &mut [u8], at: usize, f: Fleet) -> usize
     requires { (at + 2208 ≤ length buf.old) × (f.n ≤ 32) }
-    ensures placed { Put buf.old at (truckLines f.trucks f.n) buf.new result }
+    ensures placed { Put buf.old at (truck_lines f.trucks f.n) buf.new result }
     ensures within { result ≤ at + 2208 }
 {
     let n = f.n as usize;
@@ -162,8 +162,8 @@ fn put_lines(buf: &mut [u8], at: usize, f: Fleet) -> usize
 // How much the trucks below n sent in total.
 fn sum_sent(f: Fleet) -> Totals
     requires { f.n ≤ 32 }
-    ensures proposals { result.proposals ≡ sumBelow (λ i. (truck f.trucks i).sent.proposals) f.n }
-    ensures vetoes { result.vetoes ≡ sumBelow (λ i. (truck f.trucks i).sent.vetoes) f.n }
+    ensures proposals { result.proposals ≡ sum_below (λ i. (truck f.trucks i).sent.proposals) f.n }
+    ensures vetoes { result.vetoes ≡ sum_below (λ i. (truck f.trucks i).sent.vetoes) f.n }
 {
     let below = f.n as usize;
     let mut proposals: u16 = 0;
@@ -182,7 +182,7 @@ fn sum_sent(f: Fleet) -> Totals
 // Puts the whole listing.
 fn put_listing(buf: &mut [u8], f: Fleet) -> usize
     requires { (2258 ≤ length buf.old) × (f.n ≤ 32) }
-    ensures placed { Put buf.old 0 (listingOf f) buf.new result }
+    ensures placed { Put buf.old 0 (listing_of f) buf.new result }
     ensures within { result ≤ 2258 }
 {
     let n = f.n;
@@ -195,7 +195,7 @@ fn put_listing(buf: &mut [u8], f: Fleet) -> usize
 
 // Copies a text to the lent buffer where it is long enough.
 fn lend_text(t: &[u8], buf: &mut [u8]) -> Listed
-    ensures { left result buf.new ≡ textIn t.now buf.old }
+    ensures { left result buf.new ≡ text_in t.now buf.old }
 {
     if t.len() <= buf.len() {
         let k = put(buf, 0, t);
@@ -208,7 +208,7 @@ fn lend_text(t: &[u8], buf: &mut [u8]) -> Listed
 // Puts the round and the truck that a refusal names.
 fn put_location(buf: &mut [u8], at: usize, p: Location) -> usize
     requires { at + 24 ≤ length buf.old }
-    ensures placed { Put buf.old at (locationText p) buf.new result }
+    ensures placed { Put buf.old at (location_text p) buf.new result }
     ensures within { result ≤ at + 24 }
 {
     match p {
@@ -222,7 +222,7 @@ fn put_location(buf: &mut [u8], at: usize, p: Location) -> usize
 // Puts the line of a refused recording.
 fn put_refusal(buf: &mut [u8], r: Refusal) -> usize
     requires { 38 ≤ length buf.old }
-    ensures placed { Put buf.old 0 (refusalText r) buf.new result }
+    ensures placed { Put buf.old 0 (refusal_text r) buf.new result }
     ensures within { result ≤ 38 }
 {
     let a = put(buf, 0, b"refused ");
@@ -233,7 +233,7 @@ fn put_refusal(buf: &mut [u8], r: Refusal) -> usize
 
 // The line that is printed for a refused recording.
 pub fn refusal_line(r: Refusal, buf: &mut [u8]) -> Listed
-    ensures { left result buf.new ≡ refusalListed r buf.old }
+    ensures { left result buf.new ≡ refusal_listed r buf.old }
 {
     let mut work = [0u8; 38];
     let k = put_refusal(&mut work, r);

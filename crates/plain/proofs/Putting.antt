@@ -9,8 +9,8 @@ use lib.Arith.{digits_lt}
 use lib.ListN.{length, set, length-set}
 use lib.Pow.{pow_pos, pow-add, mod-pow-add, mod-mod-pow, field, high, low, shl-shr, shr-shr}
 use Rattle.basics.specs.Lists.{filled}
-use Rattle.basics.proofs.Laws.{filled_none, filled_more, length-filled, filled-again}
-use Rattle.bitreader.proofs.Digits.{numAt-add, numAt-part, numAt-lt}
+use Rattle.basics.proofs.Laws.{filled_none, filled_more, length-filled, filled_again}
+use Rattle.bitreader.proofs.Digits.{num_at-add, num_at-part, num_at-lt}
 use Rattle.recording.specs.Packed.{num_at}
 use Rattle.plain.specs.Steps.{over, byte_of, added, BitsPut}
 
@@ -25,15 +25,15 @@ module _ (g : ℕ → ℕ) (i : ℕ) where
   unfolding over
   over_none d = refl
 
-  pub over-step : (m : ℕ) (d l : List ℕ) → l ≡ over g i m d → set l (i + m) (g m) ≡ over g i (m + 1) d
+  pub over_step : (m : ℕ) (d l : List ℕ) → l ≡ over g i m d → set l (i + m) (g m) ≡ over g i (m + 1) d
   unfolding over
-  over-step m d l e = ap (λ (x : List ℕ). set x (i + m) (g m)) e ∙ ap (λ (k : ℕ). over g i k d) (sym (add-one m))
+  over_step m d l e = ap (λ (x : List ℕ). set x (i + m) (g m)) e ∙ ap (λ (k : ℕ). over g i k d) (sym (add-one m))
 
   -- bytes that agree
-  pub over-ext : (g' : ℕ → ℕ) (m : ℕ) (d : List ℕ) → ((j : ℕ) → j < m → g j ≡ g' j) → over g i m d ≡ over g' i m d
+  pub over_ext : (g' : ℕ → ℕ) (m : ℕ) (d : List ℕ) → ((j : ℕ) → j < m → g j ≡ g' j) → over g i m d ≡ over g' i m d
   unfolding over
-  over-ext g' zero d e = refl
-  over-ext g' (suc m) d e = ap₂ (λ (l : List ℕ) (x : ℕ). set l (i + m) x) (over-ext g' m d (λ j l. e j (omega arith))) (e m (omega arith))
+  over_ext g' zero d e = refl
+  over_ext g' (suc m) d e = ap₂ (λ (l : List ℕ) (x : ℕ). set l (i + m) x) (over_ext g' m d (λ j l. e j (omega arith))) (e m (omega arith))
 
   -- bytes put behind a part that is filled
   over-filled : (G : ℕ → ℕ) (d : List ℕ) (m : ℕ) → i + m ≤ length d → ((j : ℕ) → j < m → g j ≡ G (i + j)) → over g i m (filled G i d) ≡ filled G (i + m) d
@@ -69,8 +69,8 @@ added-fits acc v k h l =
     omega (arith, shifted acc k h, digits_lt (mod-lt acc (pow_pos (64 - k))) l, e)
 
 -- the digits that count
-added-low : (acc have v k : ℕ) → have + k ≤ 64 → v < 2 ^ k → added acc v k % 2 ^ (have + k) ≡ acc % 2 ^ have * 2 ^ k + v
-added-low acc have v k h l =
+added_low : (acc have v k : ℕ) → have + k ≤ 64 → v < 2 ^ k → added acc v k % 2 ^ (have + k) ≡ acc % 2 ^ have * 2 ^ k + v
+added_low acc have v k h l =
     let top : ℕ = acc % 2 ^ (64 - k) in
     ap (λ (x : ℕ). (x + v) % 2 ^ (have + k)) (shifted acc k (omega arith))
     ∙ mod-pow-add (top * 2 ^ k + v) have k
@@ -94,12 +94,12 @@ four_bytes x h j g l =
 
 -- ---- digits that are bits of f, from byte `at` on
 module _ (f : ℕ → ℕ) (bits : (i : ℕ) → f i < 2) (at h x : ℕ) (digits : x % 2 ^ h ≡ num_at f (8 * at) h) where
-  byte-bits : (j : ℕ) → j < h / 8 → byte_of x h j ≡ num_at f (8 * (at + j)) 8
-  byte-bits j l =
+  byte_bits : (j : ℕ) → j < h / 8 → byte_of x h j ≡ num_at f (8 * (at + j)) 8
+  byte_bits j l =
       let past : ℕ = h - 8 * (j + 1) in
       sym (byte_low x h j l)
       ∙ ap (λ (y : ℕ). y / 2 ^ past % 256) (digits ∙ ap (num_at f (8 * at)) (let o : h ≡ 8 * j + 8 + past = omega arith in o))
-      ∙ numAt-part f bits (8 * at) (8 * j) 8 past
+      ∙ num_at-part f bits (8 * at) (8 * j) 8 past
       ∙ ap (λ (p : ℕ). num_at f p 8) (omega arith)
 
   -- the bytes that are put out
@@ -108,7 +108,7 @@ module _ (f : ℕ → ℕ) (bits : (i : ℕ) → f i < 2) (at h x : ℕ) (digits
   bytes_bits m d buf buf' l room b e =
       e
       ∙ ap (over (byte_of x h) at m) b
-      ∙ over-filled (byte_of x h) at (λ q. num_at f (8 * q) 8) d m room (λ j o. byte-bits j (omega arith))
+      ∙ over-filled (byte_of x h) at (λ q. num_at f (8 * q) 8) d m room (λ j o. byte_bits j (omega arith))
 
   -- and what is left
   rest-bits : x % 2 ^ (h % 32) ≡ num_at f (8 * (at + 4 * (h / 32))) (h % 32)
@@ -118,8 +118,8 @@ module _ (f : ℕ → ℕ) (bits : (i : ℕ) → f i < 2) (at h x : ℕ) (digits
       let o : h ≡ full + rest = omega arith in
       sym (mod-mod-pow x full rest)
       ∙ ap (λ (k : ℕ). x % 2 ^ k % 2 ^ rest) (sym o)
-      ∙ ap (λ (y : ℕ). y % 2 ^ rest) (digits ∙ ap (num_at f (8 * at)) o ∙ numAt-add f (8 * at) full rest)
-      ∙ low (num_at f (8 * at) full) rest (numAt-lt f bits (8 * at + full) rest)
+      ∙ ap (λ (y : ℕ). y % 2 ^ rest) (digits ∙ ap (num_at f (8 * at)) o ∙ num_at-add f (8 * at) full rest)
+      ∙ low (num_at f (8 * at) full) rest (num_at-lt f bits (8 * at + full) rest)
       ∙ ap (λ (p : ℕ). num_at f p rest) (omega arith)
 
 -- ---- the bits put out so far
@@ -128,7 +128,7 @@ bits-put-first f bits k v d h e =
     record {
       bytes = omega arith;
       left = omega arith;
-      number = mod-eq_of_lt (let o : v < 2 ^ k = omega (arith, numAt-lt f bits 0 k) in o) ∙ e;
+      number = mod-eq_of_lt (let o : v < 2 ^ k = omega (arith, num_at-lt f bits 0 k) in o) ∙ e;
       buffer = sym (filled_none (λ q. num_at f (8 * q) 8) d);
     }
 
@@ -138,25 +138,25 @@ bits-put-at f a b at have acc d buf e p = rw e at p
 
 module _ (f : ℕ → ℕ) (place at have acc : ℕ) (d buf : List ℕ) (sofar : BitsPut f place at have acc d buf) where
   -- seen from the buffer as it is
-  pub bits-put-anew : BitsPut f place at have acc buf buf
-  bits-put-anew =
+  pub bits-put_anew : BitsPut f place at have acc buf buf
+  bits-put_anew =
       let g : ℕ → ℕ = λ q. num_at f (8 * q) 8 in
       record {
         bytes = sofar.bytes;
         left = sofar.left;
         number = sofar.number;
-        buffer = sofar.buffer ∙ sym (ap (filled g at) sofar.buffer ∙ filled-again g g at at d (omega arith));
+        buffer = sofar.buffer ∙ sym (ap (filled g at) sofar.buffer ∙ filled_again g g at at d (omega arith));
       }
 
   -- and back
-  pub bits-put-since : (place' at' have' acc' : ℕ) (buf' : List ℕ) → place ≤ place' → BitsPut f place' at' have' acc' buf buf' → BitsPut f place' at' have' acc' d buf'
-  bits-put-since place' at' have' acc' buf' h p =
+  pub bits-put_since : (place' at' have' acc' : ℕ) (buf' : List ℕ) → place ≤ place' → BitsPut f place' at' have' acc' buf buf' → BitsPut f place' at' have' acc' d buf'
+  bits-put_since place' at' have' acc' buf' h p =
       let g : ℕ → ℕ = λ q. num_at f (8 * q) 8 in
       record {
         bytes = p.bytes;
         left = p.left;
         number = p.number;
-        buffer = p.buffer ∙ ap (filled g at') sofar.buffer ∙ filled-again g g at at' d (omega (arith, sofar.bytes, p.bytes));
+        buffer = p.buffer ∙ ap (filled g at') sofar.buffer ∙ filled_again g g at at' d (omega (arith, sofar.bytes, p.bytes));
       }
 
   pub bits-put-length : place ≤ 8 * length d → length buf ≡ length d
@@ -166,25 +166,25 @@ module _ (f : ℕ → ℕ) (place at have acc : ℕ) (d buf : List ℕ) (sofar :
     digits-added : k ≤ 32 → added acc v k % 2 ^ (have + k) ≡ num_at f (8 * at) (have + k)
     digits-added h =
         let e : place ≡ 8 * at + have = omega (arith, sofar.bytes, sofar.left) in
-        added-low acc have v k (omega (arith, sofar.left)) (omega (arith, numAt-lt f bits place k))
+        added_low acc have v k (omega (arith, sofar.left)) (omega (arith, num_at-lt f bits place k))
         ∙ ap₂ (λ (a b : ℕ). a * 2 ^ k + b) sofar.number (next ∙ ap (λ (p : ℕ). num_at f p k) e)
-        ∙ sym (numAt-add f (8 * at) have k)
+        ∙ sym (num_at-add f (8 * at) have k)
 
     -- the rest, up to the end of its last byte
-    pub bits-put-end : k ≤ 32 → at + (have + k) / 8 ≤ length d → (buf' : List ℕ) → buf' ≡ over (byte_of (added acc v k) (have + k)) at ((have + k) / 8) buf
+    pub bits-put_end : k ≤ 32 → at + (have + k) / 8 ≤ length d → (buf' : List ℕ) → buf' ≡ over (byte_of (added acc v k) (have + k)) at ((have + k) / 8) buf
         → buf' ≡ filled (λ q. num_at f (8 * q) 8) (at + (have + k) / 8) d
-    bits-put-end h room buf' e = bytes_bits f bits at (have + k) (added acc v k) (digits-added h) ((have + k) / 8) d buf buf' (omega arith) room sofar.buffer e
+    bits-put_end h room buf' e = bytes_bits f bits at (have + k) (added acc v k) (digits-added h) ((have + k) / 8) d buf buf' (omega arith) room sofar.buffer e
 
     module _ (room : place + k ≤ 8 * length d) (few : k ≤ 32) where
       -- what the next step asks
       pub bits-put-asks : (have < 32) × ((k ≤ 32) × ((v < 2 ^ k) × (at + 4 * ((have + k) / 32) ≤ length buf)))
       bits-put-asks =
-          (omega (arith, sofar.left), (few, (omega (arith, numAt-lt f bits place k), omega (arith, sofar.bytes, sofar.left, bits-put-length (omega arith)))))
+          (omega (arith, sofar.left), (few, (omega (arith, num_at-lt f bits place k), omega (arith, sofar.bytes, sofar.left, bits-put-length (omega arith)))))
 
       -- and what it makes
-      pub bits-put-more : (at' have' acc' : ℕ) (buf' : List ℕ) → buf' ≡ over (byte_of (added acc v k) (have + k)) at (4 * ((have + k) / 32)) buf
+      pub bits-put_more : (at' have' acc' : ℕ) (buf' : List ℕ) → buf' ≡ over (byte_of (added acc v k) (have + k)) at (4 * ((have + k) / 32)) buf
           → acc' ≡ added acc v k → have' ≡ (have + k) % 32 → at' ≡ at + 4 * ((have + k) / 32) → BitsPut f (place + k) at' have' acc' d buf'
-      bits-put-more at' have' acc' buf' b a h t =
+      bits-put_more at' have' acc' buf' b a h t =
           let x : ℕ = added acc v k in
           let m : ℕ = 4 * ((have + k) / 32) in
           record {

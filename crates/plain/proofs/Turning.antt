@@ -5,12 +5,12 @@ use Prim.Native.Nat.{ℕ, ◌+◌, ◌*◌, ◌<◌, ◌≤◌, ◌/◌, ◌%◌
 use native.Mathlib.Omega.{arith}
 use lib.ListN.{get_or}
 use Rattle.basics.specs.Lists.{filled}
-use Rattle.basics.proofs.Laws.{getD-filled, filled-again, filled-ext}
+use Rattle.basics.proofs.Laws.{get_or-filled, filled_again, filled_ext}
 use Rattle.bitreader.specs.Bits.{mirrored}
-use Rattle.bitreader.proofs.Digits.{bit_at_lt, numAt-lt, mirrored-num, rowAt-low}
-use Rattle.recording.specs.Packed.{bitAt, num_at, row_at, trucksOf, wordPlace, word_at}
-use Rattle.recording.proofs.Rounds.{word-there}
-use Rattle.plain.specs.Steps.{swapped, gatheredWord, turned_word}
+use Rattle.bitreader.proofs.Digits.{bit_at_lt, num_at-lt, mirrored_num, row_at_low}
+use Rattle.recording.specs.Packed.{bit_at, num_at, row_at, trucks_of, word_place, word_at}
+use Rattle.recording.proofs.Rounds.{word_there}
+use Rattle.plain.specs.Steps.{swapped, gathered_word, turned_word}
 
 -- four bytes in reverse
 swapped-four : (a b c d : ℕ) → a < 256 → b < 256 → c < 256 → d < 256 → swapped (a * 16777216 + b * 65536 + c * 256 + d) ≡ d * 16777216 + c * 65536 + b * 256 + a
@@ -22,26 +22,26 @@ swapped-four a b c d p q r t =
     let e₃ : x / 16777216 ≡ a = omega arith in
     ap₂ (λ (y z : ℕ). y * 16777216 + z * 65536 + x / 65536 % 256 * 256 + x / 16777216) e₀ e₁ ∙ ap₂ (λ (y z : ℕ). d * 16777216 + c * 65536 + y * 256 + z) e₂ e₃
 
-swapped-twice : (x : ℕ) → x < 4294967296 → swapped (swapped x) ≡ x
-swapped-twice x h =
+swapped_twice : (x : ℕ) → x < 4294967296 → swapped (swapped x) ≡ x
+swapped_twice x h =
     swapped-four (x % 256) (x / 256 % 256) (x / 65536 % 256) (x / 16777216) (omega arith) (omega arith) (omega arith) (omega arith) ∙ omega arith
 
-module _ (s : List ℕ) (n : ℕ) (counted : n ≡ trucksOf s) (few : n ≤ 32) where
+module _ (s : List ℕ) (n : ℕ) (counted : n ≡ trucks_of s) (few : n ≤ 32) where
   -- one word
-  turned-word : (w : ℕ) → turned_word n (gatheredWord s n w) ≡ word_at s w
-  turned-word w =
-      let p : ℕ = wordPlace n w in
-      ap (λ (x : ℕ). mirrored 32 x % 2 ^ n) (swapped-twice (num_at (bitAt s) p 32) (numAt-lt (bitAt s) (bit_at_lt s) p 32))
-      ∙ ap (λ (x : ℕ). x % 2 ^ n) (mirrored-num (bitAt s) (bit_at_lt s) p 32)
-      ∙ rowAt-low (bitAt s) (bit_at_lt s) p n 32 few
-      ∙ ap (row_at (bitAt s) p) (let e : n ≡ min n 32 = omega arith in e)
-      ∙ word-there s n w p (row_at (bitAt s) p (min n 32)) counted few refl refl
+  turned_word_lem : (w : ℕ) → turned_word n (gathered_word s n w) ≡ word_at s w
+  turned_word_lem w =
+      let p : ℕ = word_place n w in
+      ap (λ (x : ℕ). mirrored 32 x % 2 ^ n) (swapped_twice (num_at (bit_at s) p 32) (num_at-lt (bit_at s) (bit_at_lt s) p 32))
+      ∙ ap (λ (x : ℕ). x % 2 ^ n) (mirrored_num (bit_at s) (bit_at_lt s) p 32)
+      ∙ row_at_low (bit_at s) (bit_at_lt s) p n 32 few
+      ∙ ap (row_at (bit_at s) p) (let e : n ≡ min n 32 = omega arith in e)
+      ∙ word_there s n w p (row_at (bit_at s) p (min n 32)) counted few refl refl
 
   -- all words: d is filled to e, and e turned to d'
-  pub turned-all : (d e d' : List ℕ) (count : ℕ) → e ≡ filled (gatheredWord s n) count d → d' ≡ filled (λ w. turned_word n (get_or e w 0)) count e → d' ≡ filled (word_at s) count d
+  pub turned-all : (d e d' : List ℕ) (count : ℕ) → e ≡ filled (gathered_word s n) count d → d' ≡ filled (λ w. turned_word n (get_or e w 0)) count e → d' ≡ filled (word_at s) count d
   turned-all d e d' count h g =
-      let gathered : List ℕ = filled (gatheredWord s n) count d in
+      let gathered : List ℕ = filled (gathered_word s n) count d in
       let turned : ℕ → ℕ = λ w. turned_word n (get_or gathered w 0) in
       g ∙ ap (λ (l : List ℕ). filled (λ w. turned_word n (get_or l w 0)) count l) h
-      ∙ filled-again (gatheredWord s n) turned count count d (omega arith)
-      ∙ filled-ext turned (word_at s) count d (λ w l. ap (turned_word n) (getD-filled (gatheredWord s n) count d w 0 l) ∙ turned-word w)
+      ∙ filled_again (gathered_word s n) turned count count d (omega arith)
+      ∙ filled_ext turned (word_at s) count d (λ w l. ap (turned_word n) (get_or-filled (gathered_word s n) count d w 0 l) ∙ turned_word_lem w)

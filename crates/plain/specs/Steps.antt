@@ -1,7 +1,7 @@
 -- What the steps of reading and of writing do to their buffer. Only private functions cite these.
 use Rattle.std.specs.Prelude.{ℕ, zero, suc, ◌+◌, ◌*◌, ◌-◌, ◌/◌, ◌%◌, ◌^◌, ◌≡◌, List, set}
 use Rattle.basics.specs.Lists.{filled}
-use Rattle.recording.specs.Packed.{bitAt, num_at, wordPlace, packBit}
+use Rattle.recording.specs.Packed.{bit_at, num_at, word_place, pack_bit}
 use Rattle.bitreader.specs.Bits.{mirrored}
 
 -- the four bytes of a number of 32 bits in reverse
@@ -9,8 +9,8 @@ abbrev pub swapped : ℕ → ℕ
 swapped x = x % 256 * 16777216 + x / 256 % 256 * 65536 + x / 65536 % 256 * 256 + x / 16777216
 
 -- word w of the rounds of n trucks as it is gathered: the 32 bits from its place on, their bytes in reverse
-abbrev pub gatheredWord : List ℕ → ℕ → ℕ → ℕ
-gatheredWord s n w = swapped (num_at (bitAt s) (wordPlace n w) 32)
+abbrev pub gathered_word : List ℕ → ℕ → ℕ → ℕ
+gathered_word s n w = swapped (num_at (bit_at s) (word_place n w) 32)
 
 -- the word of plain form, of n bits, that was gathered so
 abbrev pub turned_word : ℕ → ℕ → ℕ
@@ -26,8 +26,8 @@ abbrev pub byte_of : ℕ → ℕ → ℕ → ℕ
 byte_of v h j = v / 2 ^ (h - 8 * (j + 1)) % 256
 
 -- byte q of the packed form
-abbrev pub packedByte : ℕ → ℕ → List ℕ → List ℕ → ℕ → ℕ
-packedByte n R openings words q = num_at (packBit n R openings words) (8 * q) 8
+abbrev pub packed_byte : ℕ → ℕ → List ℕ → List ℕ → ℕ → ℕ
+packed_byte n R openings words q = num_at (pack_bit n R openings words) (8 * q) 8
 
 -- k digits of v behind those of a word of 64 bits, whose highest are lost
 abbrev pub added : ℕ → ℕ → ℕ → ℕ

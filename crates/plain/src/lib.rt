@@ -2,11 +2,11 @@
 ghost use Rattle.std.specs.Prelude.{◌≡◌, false, List, ◌+◌, ◌*◌, ◌-◌, ◌<◌, ◌≤◌, ◌^◌, ◌/◌, ◌%◌, min, ℕ, length, get_or};
 ghost use Rattle.refusals.specs.declared.Outcome.TheVariants.{Accepted};
 ghost use Rattle.basics.specs.Bits.{bit};
-ghost use Rattle.basics.specs.Lists.{first, someBelow, filled};
-ghost use Rattle.recording.specs.Packed.{trucksOf, openingPlace, word_at, bytesFor, packBit};
-ghost use Rattle.recording.specs.Checks.{highBit, badOpenings, badWords, ownLossCheck, roundsCheck, roundCheck, plainCheck};
-ghost use Rattle.plain.specs.Forms.{afterRead, readPlain, afterWrite, writePlain};
-ghost use Rattle.plain.specs.Steps.{swapped, gatheredWord, turned_word, over, byte_of, packedByte, added, BitsPut};
+ghost use Rattle.basics.specs.Lists.{first, some_below, filled};
+ghost use Rattle.recording.specs.Packed.{trucks_of, opening_place, word_at, bytes_for, pack_bit};
+ghost use Rattle.recording.specs.Checks.{high_bit, bad_openings, bad_words, own_loss_check, rounds_check, round_check, plain_check};
+ghost use Rattle.plain.specs.Forms.{after_read, read_plain, after_write, write_plain};
+ghost use Rattle.plain.specs.Steps.{swapped, gathered_word, turned_word, over, byte_of, packed_byte, added, BitsPut};
 
 use refusals::{Outcome, Refusal};
 
@@ -26,7 +26,7 @@ pub enum WriteOutcome {
 
 // Refusal 7, of openings.
 pub fn bad_openings(n: u8, openings: &[u8]) -> bool
-    ensures { result ≡ badOpenings n openings.now }
+    ensures { result ≡ bad_openings n openings.now }
 {
     if openings.len() != n as usize {
         return true;
@@ -43,7 +43,7 @@ pub fn bad_openings(n: u8, openings: &[u8]) -> bool
 
 // Whether a word has a bit at or above n.
 pub fn high_bit(n: u8, w: u32) -> bool
-    ensures { result ≡ highBit n w }
+    ensures { result ≡ high_bit n w }
 {
     if n < 32 {
         return 1 <= (w >> n);
@@ -53,7 +53,7 @@ pub fn high_bit(n: u8, w: u32) -> bool
 
 // Refusal 8: the union of all words has a bit too high exactly where one of them has. A loop with no branch takes eight words at once.
 fn bad_words(n: u8, rounds: u16, words: &[u32]) -> bool
-    ensures { result ≡ badWords n rounds words.now }
+    ensures { result ≡ bad_words n rounds words.now }
 {
     if words.len() != rounds as usize * (3 + n as usize) {
         return true;
@@ -70,7 +70,7 @@ fn bad_words(n: u8, rounds: u16, words: &[u32]) -> bool
 // Whether an own loss bit of the first n trucks is 1 in the round whose words begin at `base`: a union too.
 fn own_any(words: &[u32], base: usize, n: usize) -> bool
     requires { (n ≤ 32) × ((base < 2 ^ 32) × (base + (3 + n) ≤ length words.now)) }
-    ensures { result ≡ someBelow (λ i. bit (get_or words.now (base + (3 + i)) 0) i) n }
+    ensures { result ≡ some_below (λ i. bit (get_or words.now (base + (3 + i)) 0) i) n }
 {
     let mut any: u32 = 0;
     let mut i = 0;
@@ -106,7 +106,7 @@ fn trucks_held(m: usize) -> usize
 // Refusal 6, of rounds of the right number of words, the first of which is round `k`.
 fn check_own(n: u8, k: u16, rounds: u16, words: &[u32]) -> Outcome
     requires { (length words.now ≡ rounds * (3 + n)) × (k + rounds ≤ 65536) }
-    ensures { result ≡ ownLossCheck (λ w. get_or words.now w 0) n k rounds }
+    ensures { result ≡ own_loss_check (λ w. get_or words.now w 0) n k rounds }
 {
     let m = n as usize;
     let held = trucks_held(m);
@@ -128,7 +128,7 @@ fn check_own(n: u8, k: u16, rounds: u16, words: &[u32]) -> Outcome
 // Refusals 8 and 6, of rounds one after the other, the first of which is round `k`.
 fn check_rounds(n: u8, k: u16, rounds: u16, words: &[u32]) -> Outcome
     requires { k + rounds ≤ 65536 }
-    ensures { result ≡ roundsCheck n k rounds words.now }
+    ensures { result ≡ rounds_check n k rounds words.now }
 {
     if bad_words(n, rounds, words) {
         return Outcome::Refused(Refusal::PlainRound);
@@ -138,14 +138,14 @@ fn check_rounds(n: u8, k: u16, rounds: u16, words: &[u32]) -> Outcome
 
 // Refusals 8 and 6, of round `k`.
 pub fn check_round(trucks: u8, k: u16, words: &[u32]) -> Outcome
-    ensures { result ≡ roundCheck trucks k words.now }
+    ensures { result ≡ round_check trucks k words.now }
 {
     check_rounds(trucks, k, 1, words)
 }
 
 // Refusals 2, 3, 7, 8 and 6.
 pub fn check_plain(trucks: u8, rounds: u16, openings: &[u8], words: &[u32]) -> Outcome
-    ensures { result ≡ plainCheck trucks rounds openings.now words.now }
+    ensures { result ≡ plain_check trucks rounds openings.now words.now }
 {
     if recording::bad_trucks(trucks) {
         return Outcome::Refused(Refusal::TruckCount);
@@ -168,7 +168,7 @@ fn swap_bytes(x: u32) -> u32
 // The words as they are packed, each with the bits that follow it, and with its bytes in reverse.
 fn gather_words(s: &[u8], words: &mut [u32], trucks: u8, count: usize)
     requires { (trucks ≤ 32) × ((count ≤ 16908030) × (count ≤ length words.old)) }
-    ensures { words.new ≡ filled (gatheredWord s.now trucks) count words.old }
+    ensures { words.new ≡ filled (gathered_word s.now trucks) count words.old }
 {
     let n = trucks as usize;
     let mut at = recording::word_place(trucks, 0);
@@ -202,7 +202,7 @@ fn turn_words(words: &mut [u32], n: usize, count: usize)
 // In two passes, since a loop that does nothing else turns four words round at once. To turn a word round is to reverse its bytes, and the bits within each.
 // The bytes are reversed when a word is gathered, by one instruction; for turning they are reversed back and again, which the compiler leaves out.
 fn fill_words(s: &[u8], words: &mut [u32], trucks: u8, count: usize)
-    requires { (trucks ≡ trucksOf s.now) × ((trucks ≤ 32) × ((count ≤ 16908030) × (count ≤ length words.old))) }
+    requires { (trucks ≡ trucks_of s.now) × ((trucks ≤ 32) × ((count ≤ 16908030) × (count ≤ length words.old))) }
     ensures { words.new ≡ filled (word_at s.now) count words.old }
 {
     gather_words(s, words, trucks, count);
@@ -211,7 +211,7 @@ fn fill_words(s: &[u8], words: &mut [u32], trucks: u8, count: usize)
 
 // Reading to plain form: refusals 1 to 6, then 9.
 pub fn read(s: &[u8], openings: &mut [u8], words: &mut [u32]) -> ReadOutcome
-    ensures { afterRead result openings.new words.new ≡ readPlain s.now openings.old words.old }
+    ensures { after_read result openings.new words.new ≡ read_plain s.now openings.old words.old }
 {
     let c = recording::check(s);
     match c {
@@ -287,8 +287,8 @@ fn put(buf: &mut [u8], p: Pending, v: u32, k: usize) -> Pending
 
 // Puts out the header and the openings: the bits of the packed form before the words, whatever these are.
 fn put_front(buf: &mut [u8], trucks: u8, rounds: u16, openings: &[u8]) -> Pending
-    requires { (trucks ≤ 32) × ((rounds ≤ 400) × ((badOpenings trucks openings.now ≡ false) × (openingPlace trucks ≤ 8 * length buf.old))) }
-    ensures { (words : List ℕ) → BitsPut (packBit trucks rounds openings.now words) (openingPlace trucks)
+    requires { (trucks ≤ 32) × ((rounds ≤ 400) × ((bad_openings trucks openings.now ≡ false) × (opening_place trucks ≤ 8 * length buf.old))) }
+    ensures { (words : List ℕ) → BitsPut (pack_bit trucks rounds openings.now words) (opening_place trucks)
         result.at result.have result.acc buf.old buf.new }
 {
     let mut p = Pending {
@@ -306,9 +306,9 @@ fn put_front(buf: &mut [u8], trucks: u8, rounds: u16, openings: &[u8]) -> Pendin
 
 // Puts out all fields; the first bit of a word is worth most here. Seven zeros behind the last word complete its last byte, and what they begin is not put out.
 fn put_all(buf: &mut [u8], trucks: u8, rounds: u16, openings: &[u8], words: &[u32])
-    requires { (plainCheck trucks rounds openings.now words.now ≡ Accepted) × (bytesFor trucks rounds ≤ length buf.old) }
+    requires { (plain_check trucks rounds openings.now words.now ≡ Accepted) × (bytes_for trucks rounds ≤ length buf.old) }
     ensures { buf.new
-        ≡ filled (packedByte trucks rounds openings.now words.now) (bytesFor trucks rounds) buf.old }
+        ≡ filled (packed_byte trucks rounds openings.now words.now) (bytes_for trucks rounds) buf.old }
 {
     let n = trucks as usize;
     let mut p = put_front(buf, trucks, rounds, openings);
@@ -328,7 +328,7 @@ pub fn write(
     words: &[u32],
     buf: &mut [u8],
 ) -> WriteOutcome
-    ensures { afterWrite result buf.new ≡ writePlain trucks rounds openings.now words.now buf.old }
+    ensures { after_write result buf.new ≡ write_plain trucks rounds openings.now words.now buf.old }
 {
     let c = check_plain(trucks, rounds, openings, words);
     match c {

@@ -9,15 +9,15 @@ use lib.Dec.{eqb}
 use lib.ListN.{get_or, set, replicate}
 use Rattle.basics.specs.Bits.{bit}
 use Rattle.basics.specs.Lists.{first}
-use Rattle.sets.specs.Sets.{Members, without, rest_of, lowestOnly}
+use Rattle.sets.specs.Sets.{Members, without, rest_of, lowest_only}
 use Rattle.protocol.specs.declared.Heard.{Heard}
 use Rattle.protocol.specs.declared.Heard.TheVariants.{Nothing, One, Several}
-use Rattle.protocol.specs.Rules.{isOne, isSeveral}
+use Rattle.protocol.specs.Rules.{is_one, is_several}
 use Rattle.playback.specs.declared.hearing.Values.{Values}
-use Rattle.playback.specs.Sets.{Sorted, heardSet, wasHeard, values_of}
-use Rattle.playback.specs.Listens.{rowFrom, heardFrom, someValue}
-use Rattle.sets.proofs.Members.{TakenOut, taken_out, own_out, within-removed, Picked, picked_none, picked-lowest, picked_all, members-ext, members-rest}
-use Rattle.playback.proofs.Radios.{heard-by-own}
+use Rattle.playback.specs.Sets.{Sorted, heard_set, was_heard, values_of}
+use Rattle.playback.specs.Listens.{row_from, heard_from, some_value}
+use Rattle.sets.proofs.Members.{TakenOut, taken_out, own_out, within-removed, Picked, picked_none, picked-lowest, picked_all, members_ext, members-rest}
+use Rattle.playback.proofs.Radios.{heard_by_own}
 use Rattle.playback.proofs.Sorting.{Sorting, sorting-starts, least-heard, none-heard, sorting-done}
 
 -- the truck at place p is the next of those left: `only` is its set, and left' are left after it
@@ -25,9 +25,9 @@ pub record Next (left p only left' : ℕ) : Type 0 where
   pub taken : TakenOut left p left'
   pub own : only ≡ 2 ^ p
 
-pub next-is : {left p only left' : ℕ} → (left ≡ 0 → ⊥) → (p ≡ count_trailing_zeros 32 left) × ((left ≡ 0 → ⊥) → (p < 32) × (bit left p ≡ true)) → only ≡ lowestOnly left → left' ≡ rest_of left
+pub next_is : {left p only left' : ℕ} → (left ≡ 0 → ⊥) → (p ≡ count_trailing_zeros 32 left) × ((left ≡ 0 → ⊥) → (p < 32) × (bit left p ≡ true)) → only ≡ lowest_only left → left' ≡ rest_of left
     → Next left p only left'
-next-is some lowest own rest = record { taken = taken_out some lowest rest; own = own_out some lowest.0 own }
+next_is some lowest own rest = record { taken = taken_out some lowest rest; own = own_out some lowest.0 own }
 
 -- `out` holds those wanted that were asked already and have f
 pub record Asking (wanted : ℕ) (f : ℕ → Bool) (left out : ℕ) : Type 0 where
@@ -39,8 +39,8 @@ module _ (wanted : ℕ) (f : ℕ → Bool) where
   asking-starts = record { within = λ j e. e; picked = picked_none 32 wanted f }
 
   -- the next one joins where it has f
-  pub asking-more : {left p only left' out out' : ℕ} → Next left p only left' → (b : Bool) → b ≡ f p → out' ≡ cond b (bit_or out only) out → Asking wanted f left out → Asking wanted f left' out'
-  asking-more {left} {p} x b e joined a =
+  pub asking_more : {left p only left' out out' : ℕ} → Next left p only left' → (b : Bool) → b ≡ f p → out' ≡ cond b (bit_or out only) out → Asking wanted f left out → Asking wanted f left' out'
+  asking_more {left} {p} x b e joined a =
       record {
         within = λ j h. a.within j (within-removed left p x.taken.held j (rw x.taken.rest at h));
         picked = picked-lowest wanted f x.taken x.own (a.within p x.taken.held) b e joined a.picked;
@@ -50,27 +50,27 @@ module _ (wanted : ℕ) (f : ℕ → Bool) where
   asking-done a none = picked_all 32 wanted f a.picked none
 
 -- what the truck at place p hears, of which w are the senders
-pub heard-at : (s : List ℕ) (at n senders : ℕ) (by : List ℕ) (p : ℕ) {own row w : ℕ} → own ≡ 2 ^ p → row ≡ rowFrom s at n p → w ≡ bit_or (without senders row) (bit_and senders own)
-    → heardFrom s at n senders by p ≡ values_of by w 16
+pub heard-at : (s : List ℕ) (at n senders : ℕ) (by : List ℕ) (p : ℕ) {own row w : ℕ} → own ≡ 2 ^ p → row ≡ row_from s at n p → w ≡ bit_or (without senders row) (bit_and senders own)
+    → heard_from s at n senders by p ≡ values_of by w 16
 heard-at s at n senders by p {own} {row} {w} q r e =
-    sym (ap (λ (x : ℕ). values_of by x 16) (heard-by-own senders row p own w e q ∙ ap (λ (x : ℕ). heardSet senders x p) r))
+    sym (ap (λ (x : ℕ). values_of by x 16) (heard_by_own senders row p own w e q ∙ ap (λ (x : ℕ). heard_set senders x p) r))
 
 -- those that heard several values are the rest of those that heard some
-pub several-rest : (wanted : ℕ) (h : ℕ → Heard) {some one : ℕ} → Members some 32 (λ p. bit wanted p && someValue (h p)) → Members one 32 (λ p. bit wanted p && isOne (h p))
-    → Members (bit_xor some one) 32 (λ p. bit wanted p && isSeveral (h p))
+pub several-rest : (wanted : ℕ) (h : ℕ → Heard) {some one : ℕ} → Members some 32 (λ p. bit wanted p && some_value (h p)) → Members one 32 (λ p. bit wanted p && is_one (h p))
+    → Members (bit_xor some one) 32 (λ p. bit wanted p && is_several (h p))
 several-rest wanted h {some} {one} a b =
-    members-ext
-    (members-rest some 32 (λ p. isSeveral (h p)) a.below
-    (members-ext b (λ p. bit some p && not (isSeveral (h p))) (λ p l. out (bit wanted p) (h p) ∙ sym (ap (λ (x : Bool). x && not (isSeveral (h p))) (a.each p l)))))
-    (λ p. bit wanted p && isSeveral (h p)) (λ p l. ap (λ (x : Bool). x && isSeveral (h p)) (a.each p l) ∙ both (bit wanted p) (h p))
+    members_ext
+    (members-rest some 32 (λ p. is_several (h p)) a.below
+    (members_ext b (λ p. bit some p && not (is_several (h p))) (λ p l. out (bit wanted p) (h p) ∙ sym (ap (λ (x : Bool). x && not (is_several (h p))) (a.each p l)))))
+    (λ p. bit wanted p && is_several (h p)) (λ p l. ap (λ (x : Bool). x && is_several (h p)) (a.each p l) ∙ both (bit wanted p) (h p))
   where
-    out : (x : Bool) (v : Heard) → (x && isOne v) ≡ ((x && someValue v) && not (isSeveral v))
+    out : (x : Bool) (v : Heard) → (x && is_one v) ≡ ((x && some_value v) && not (is_several v))
     out true Nothing = refl
     out true One = refl
     out true Several = refl
     out false v = refl
 
-    both : (x : Bool) (v : Heard) → ((x && someValue v) && isSeveral v) ≡ (x && isSeveral v)
+    both : (x : Bool) (v : Heard) → ((x && some_value v) && is_several v) ≡ (x && is_several v)
     both true Nothing = refl
     both true One = refl
     both true Several = refl
@@ -78,34 +78,34 @@ several-rest wanted h {some} {one} a b =
 
 -- ---- those wanted take the least value that they hear: `some` holds those asked already that heard one, and `taking` those of them of each crusher
 pub record Takes (wanted : ℕ) (h : ℕ → Values) (left some : ℕ) (taking : List ℕ) : Type 0 where
-  pub hearers : Asking wanted (λ p. someValue (h p).heard) left some
+  pub hearers : Asking wanted (λ p. some_value (h p).heard) left some
   pub takers : Sorting 32 wanted (λ p. (h p).least) taking left
 
 module _ (wanted : ℕ) (h : ℕ → Values) where
   pub takes-starts : Takes wanted h wanted 0 (replicate 16 0)
-  takes-starts = record { hearers = asking-starts wanted (λ p. someValue (h p).heard); takers = sorting-starts 32 wanted (λ p. (h p).least) }
+  takes-starts = record { hearers = asking-starts wanted (λ p. some_value (h p).heard); takers = sorting-starts 32 wanted (λ p. (h p).least) }
 
   pub takes-done : {left some : ℕ} {taking : List ℕ} → Takes wanted h left some taking → left ≡ 0
-      → Members some 32 (λ p. bit wanted p && someValue (h p).heard) × Sorted taking 32 wanted (λ p. (h p).least)
-  takes-done t none = (asking-done wanted (λ p. someValue (h p).heard) t.hearers none, sorting-done 32 wanted (λ p. (h p).least) t.takers none)
+      → Members some 32 (λ p. bit wanted p && some_value (h p).heard) × Sorted taking 32 wanted (λ p. (h p).least)
+  takes-done t none = (asking-done wanted (λ p. some_value (h p).heard) t.hearers none, sorting-done 32 wanted (λ p. (h p).least) t.takers none)
 
 -- the truck at place p is next, w are the senders that it hears, and c is the least value of theirs
-module _ (by : List ℕ) (wanted : ℕ) (h : ℕ → Values) {left p only left' : ℕ} (next : Next left p only left') (c w : ℕ) (is : h p ≡ values_of by w 16) (least : c ≡ first (wasHeard by w) 16)
+module _ (by : List ℕ) (wanted : ℕ) (h : ℕ → Values) {left p only left' : ℕ} (next : Next left p only left') (c w : ℕ) (is : h p ≡ values_of by w 16) (least : c ≡ first (was_heard by w) 16)
     {some some' : ℕ} {taking taking' : List ℕ} (t : Takes wanted h left some taking) where
   -- it hears something, and one value alone where nobody else is heard than those that sent it
-  pub takes-more : c < 16 → some' ≡ bit_or some only → taking' ≡ set taking c (bit_or (get_or taking c 0) only)
+  pub takes_more : c < 16 → some' ≡ bit_or some only → taking' ≡ set taking c (bit_or (get_or taking c 0) only)
       → ((h p).heard ≡ cond (eqb (without w (get_or by c 0)) 0) One Several) × Takes wanted h left' some' taking'
-  takes-more small joined taken =
+  takes_more small joined taken =
       let lone = eqb (without w (get_or by c 0)) 0 in
       let v = least-heard by wanted h next.taken c w is least t.takers next.own small taken lone refl in (
         v.0,
         record {
-          hearers = asking-more wanted (λ q. someValue (h q).heard) next true (sym (ap someValue v.0 ∙ any lone)) joined t.hearers;
+          hearers = asking_more wanted (λ q. some_value (h q).heard) next true (sym (ap some_value v.0 ∙ any lone)) joined t.hearers;
           takers = v.1;
         },
       )
     where
-      any : (b : Bool) → someValue (cond b One Several) ≡ true
+      any : (b : Bool) → some_value (cond b One Several) ≡ true
       any true = refl
       any false = refl
 
@@ -115,7 +115,7 @@ module _ (by : List ℕ) (wanted : ℕ) (h : ℕ → Values) {left p only left' 
       let v = none-heard by wanted h next.taken c w is least t.takers large kept in (
         v.0,
         record {
-          hearers = asking-more wanted (λ q. someValue (h q).heard) next false (sym (ap someValue v.0)) same t.hearers;
+          hearers = asking_more wanted (λ q. some_value (h q).heard) next false (sym (ap some_value v.0)) same t.hearers;
           takers = v.1;
         },
       )

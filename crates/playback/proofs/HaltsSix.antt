@@ -12,17 +12,17 @@ use Rattle.basics.specs.Lists.{filled}
 use Rattle.basics.proofs.Laws.{and_left, and_right}
 use Rattle.sets.specs.Sets.{without}
 use Rattle.sets.proofs.Words.{bit-zero}
-use Rattle.recording.specs.Packed.{trucksOf, openingAt, roundAt}
-use Rattle.protocol.specs.Six.{sixRules}
+use Rattle.recording.specs.Packed.{trucks_of, opening_at, round_at}
+use Rattle.protocol.specs.Six.{six_rules}
 use Rattle.protocol.proofs.SixRound.{sound-six}
 use Rattle.playback.specs.declared.six.Played.{Played}
 use Rattle.playback.specs.Sets.{estimates}
 use Rattle.playback.specs.Replays.{FoundAfter}
 use Rattle.playback.specs.Grading.{RadioSets, Judges}
-use Rattle.playback.specs.Standing.{nextTrucks, holds, trucksAfter, Stands, SixPlays, noted, Due, Halted}
-use Rattle.playback.proofs.Graded.{radioAfter}
+use Rattle.playback.specs.Standing.{next_trucks, holds, trucks_after, Stands, SixPlays, noted, Due, Halted}
+use Rattle.playback.proofs.Graded.{radio_after}
 use Rattle.playback.proofs.StoodSix.{prepare-stands, prepare-radio, bit-stands, bit-radio, accept-stands, accept-radio}
-use Rattle.playback.proofs.Halts.{few, small, read_as, read-active, at_place, recount, graded-next, halts}
+use Rattle.playback.proofs.Halts.{few, small, read_as_lem, read-active, at_place, recount, graded-next, halts}
 
 -- the loop goes on
 pub on_test : (left k rounds running decided : ℕ) → left ≡ rounds - k → (ltb k rounds && not (eqb running 0)) ≡ true
@@ -33,9 +33,9 @@ on_test left k rounds running decided e h =
     ∙ ap not (eq-eqb (bit_and decided 0) 0 (and_zero_r decided))
 
 -- it ends
-over-test : (left k rounds running decided : ℕ) → left ≡ rounds - k → (ltb k rounds && not (eqb running 0)) ≡ false
+over_test : (left k rounds running decided : ℕ) → left ≡ rounds - k → (ltb k rounds && not (eqb running 0)) ≡ false
     → (eqb left 0 || eqb running 0 || not (eqb (bit_and decided 0) 0)) ≡ true
-over-test left k rounds running decided e h = go (ltb k rounds) refl (eqb running 0) refl h
+over_test left k rounds running decided e h = go (ltb k rounds) refl (eqb running 0) refl h
   where
     go : (x : Bool) → ltb k rounds ≡ x → (y : Bool) → eqb running 0 ≡ y → (x && not y) ≡ false → (eqb left 0 || eqb running 0 || not (eqb (bit_and decided 0) 0)) ≡ true
     go false ex y ey q = ap (λ (b : Bool). b || eqb running 0 || not (eqb (bit_and decided 0) 0)) (eq-eqb left 0 (omega (arith, ltb-false k rounds ex)))
@@ -46,22 +46,22 @@ over-test left k rounds running decided e h = go (ltb k rounds) refl (eqb runnin
         any false = refl
     go true ex false ey q = absurd (true≢false q)
 
-module _ {s : List ℕ} {at n left k : ℕ} {by ends sent : List ℕ} {running decided unwilling : ℕ} (d : Due sixRules (roundAt s) s at n left k by ends sent running decided 0 0 0 unwilling 0)
+module _ {s : List ℕ} {at n left k : ℕ} {by ends sent : List ℕ} {running decided unwilling : ℕ} (d : Due six_rules (round_at s) s at n left k by ends sent running decided 0 0 0 unwilling 0)
     (on : (eqb left 0 || eqb running 0 || not (eqb (bit_and decided 0) 0)) ≡ false) {by' : List ℕ} {r : Played} (p : SixPlays s at n (k % 6) running unwilling by by' r) where
-  due-small : (j : ℕ) → j < trucksOf s → estimates (trucksAfter sixRules (roundAt s) s k) j < 16
-  due-small = small s d.good sixRules (roundAt s) sound-six.takes k
+  due-small : (j : ℕ) → j < trucks_of s → estimates (trucks_after six_rules (round_at s) s k) j < 16
+  due-small = small s d.good six_rules (round_at s) sound-six.takes k
 
   -- the sets and the radio after the round
   abbrev Goes : List ℕ → Played → Type 0
   Goes b q =
-      Stands (trucksOf s) (k + left) (suc k) (openingAt s) (nextTrucks sixRules (trucksOf s) k (roundAt s k) (trucksAfter sixRules (roundAt s) s k)) b (filled (noted ends (without running q.on) (suc k)) 32 ends) sent
+      Stands (trucks_of s) (k + left) (suc k) (opening_at s) (next_trucks six_rules (trucks_of s) k (round_at s k) (trucks_after six_rules (round_at s) s k)) b (filled (noted ends (without running q.on) (suc k)) 32 ends) sent
       q.on (bit_or decided q.done) 0 0 0 q.unwilling
-      × RadioSets (radioAfter sixRules (roundAt s) s k) s (at + 3 * trucksOf s) (trucksOf s) q.going q.senders q.mark
+      × RadioSets (radio_after six_rules (round_at s) s k) s (at + 3 * trucks_of s) (trucks_of s) q.going q.senders q.mark
 
   goes : Goes by' r
   goes = go (ℕ_discrete (k % 6) 0) (ℕ_discrete (k % 6) 5)
     where
-      plays : SixPlays s at (trucksOf s) (k % 6) running unwilling by by' r
+      plays : SixPlays s at (trucks_of s) (k % 6) running unwilling by by' r
       plays = subst (λ (m : ℕ). SixPlays s at m (k % 6) running unwilling by by' r) d.count p
 
       go : Dec (k % 6 ≡ 0) → Dec (k % 6 ≡ 5) → Goes by' r
@@ -69,15 +69,15 @@ module _ {s : List ℕ} {at n left k : ℕ} {by ends sent : List ℕ} {running d
           let a = plays.prepare z in
           let o : suc k % 6 ≡ 1 = omega arith in
           subst (Goes by') (sym a.played) (
-            prepare-stands d.stands (few s d.good) due-small s at (roundAt s k) (read_as s d.good (roundAt s) d.words k at (at_place d)) o (read-active s d.good k at running (at_place d)) a,
-            prepare-radio d.stands (few s d.good) due-small s at (roundAt s k) (read_as s d.good (roundAt s) d.words k at (at_place d)) o (read-active s d.good k at running (at_place d)),
+            prepare-stands d.stands (few s d.good) due-small s at (round_at s k) (read_as_lem s d.good (round_at s) d.words k at (at_place d)) o (read-active s d.good k at running (at_place d)) a,
+            prepare-radio d.stands (few s d.good) due-small s at (round_at s k) (read_as_lem s d.good (round_at s) d.words k at (at_place d)) o (read-active s d.good k at running (at_place d)),
           )
       go (no z) (yes q) =
           let a = plays.accept q in
           let o : suc k % 6 ≡ 0 = omega arith in
           subst₂ Goes (sym a.1) (sym a.0.played) (
-            accept-stands d.stands (few s d.good) due-small s at (roundAt s k) (read_as s d.good (roundAt s) d.words k at (at_place d)) o a.0,
-            accept-radio d.stands (few s d.good) due-small s at (roundAt s k) (read_as s d.good (roundAt s) d.words k at (at_place d)) o a.0,
+            accept-stands d.stands (few s d.good) due-small s at (round_at s k) (read_as_lem s d.good (round_at s) d.words k at (at_place d)) o a.0,
+            accept-radio d.stands (few s d.good) due-small s at (round_at s k) (read_as_lem s d.good (round_at s) d.words k at (at_place d)) o a.0,
           )
       go (no z) (no q) =
           let a = plays.bits z q in
@@ -85,24 +85,24 @@ module _ {s : List ℕ} {at n left k : ℕ} {by ends sent : List ℕ} {running d
           let o₀ : suc k % 6 ≡ 0 → ⊥ = λ e. q (omega arith) in
           let e : 4 - k % 6 ≡ 5 - suc k % 6 = omega arith in
           subst₂ Goes (sym a.1) (sym a.0.played) (
-            bit-stands d.stands (few s d.good) due-small s at (roundAt s k) (read_as s d.good (roundAt s) d.words k at (at_place d)) o₁ o₀ e a.0,
-            bit-radio d.stands (few s d.good) due-small s at (roundAt s k) (read_as s d.good (roundAt s) d.words k at (at_place d)) o₁ o₀ e a.0,
+            bit-stands d.stands (few s d.good) due-small s at (round_at s k) (read_as_lem s d.good (round_at s) d.words k at (at_place d)) o₁ o₀ e a.0,
+            bit-radio d.stands (few s d.good) due-small s at (round_at s k) (read_as_lem s d.good (round_at s) d.words k at (at_place d)) o₁ o₀ e a.0,
           )
 
   pub six-next : (who : ℕ) (ends' : List ℕ) (left' : ℕ) → who ≡ without running r.on → ends' ≡ filled (noted ends who (k + 1)) 32 ends → left' ≡ left - 1
-      → Due sixRules (roundAt s) s (at + (3 + n) * n) n left' (k + 1) by' ends' sent r.on (bit_or decided r.done) 0 0 0 r.unwilling 0
+      → Due six_rules (round_at s) s (at + (3 + n) * n) n left' (k + 1) by' ends' sent r.on (bit_or decided r.done) 0 0 0 r.unwilling 0
   six-next who ends' left' ew ee el =
       recount d on (without running r.on) ends' left' (ee ∙ ap (λ (x : ℕ). filled (noted ends x (k + 1)) 32 ends) ew) el goes.0
       (λ j l h. absurd (true≢false (sym h ∙ ap (λ (x : ℕ). holds x j) (and_zero_r (bit_or decided r.done)) ∙ bit-zero (31 - j))))
 
-  pub six-graded : (judging : Bool) {l l' : List ℕ} → FoundAfter sixRules (roundAt s) s judging k l
-      → Judges judging s (at + 3 * n) n (k + 1) r.going r.senders r.mark l l' → FoundAfter sixRules (roundAt s) s judging (k + 1) l'
+  pub six-graded : (judging : Bool) {l l' : List ℕ} → FoundAfter six_rules (round_at s) s judging k l
+      → Judges judging s (at + 3 * n) n (k + 1) r.going r.senders r.mark l l' → FoundAfter six_rules (round_at s) s judging (k + 1) l'
   six-graded judging = graded-next d on judging goes.1
 
 -- the run has come to its end
-pub six-halts : {s : List ℕ} {at n left k : ℕ} {by ends sent : List ℕ} {running decided unwilling : ℕ} (d : Due sixRules (roundAt s) s at n left k by ends sent running decided 0 0 0 unwilling 0)
+pub six_halts : {s : List ℕ} {at n left k : ℕ} {by ends sent : List ℕ} {running decided unwilling : ℕ} (d : Due six_rules (round_at s) s at n left k by ends sent running decided 0 0 0 unwilling 0)
     → (rounds : ℕ) → k ≤ rounds → left ≡ rounds - k → (ltb k rounds && not (eqb running 0)) ≡ false
-    → Halted sixRules (roundAt s) s rounds by ends sent 0 (record { running = running; decided = decided; marked = 0; one = 0; several = 0; unwilling = unwilling; done = k })
-six-halts {s} {at} {n} {left} {k} {by} {ends} {sent} {running} {decided} {unwilling} d rounds le e h =
-    subst (λ (x : ℕ). Halted sixRules (roundAt s) s x by ends sent 0 (record { running = running; decided = decided; marked = 0; one = 0; several = 0; unwilling = unwilling; done = k }))
-    (let q : k + left ≡ rounds = omega arith in q) (halts d (over-test left k rounds running decided e h))
+    → Halted six_rules (round_at s) s rounds by ends sent 0 (record { running = running; decided = decided; marked = 0; one = 0; several = 0; unwilling = unwilling; done = k })
+six_halts {s} {at} {n} {left} {k} {by} {ends} {sent} {running} {decided} {unwilling} d rounds le e h =
+    subst (λ (x : ℕ). Halted six_rules (round_at s) s x by ends sent 0 (record { running = running; decided = decided; marked = 0; one = 0; several = 0; unwilling = unwilling; done = k }))
+    (let q : k + left ≡ rounds = omega arith in q) (halts d (over_test left k rounds running decided e h))

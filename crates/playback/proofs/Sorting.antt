@@ -16,10 +16,10 @@ use Rattle.basics.proofs.Laws.{first-le}
 use Rattle.sets.specs.Sets.{Members, without}
 use Rattle.protocol.specs.declared.Heard.TheVariants.{Nothing, One, Several}
 use Rattle.playback.specs.declared.hearing.Values.{Values}
-use Rattle.playback.specs.Sets.{Sorted, heardSet, wasHeard, values_of}
+use Rattle.playback.specs.Sets.{Sorted, heard_set, was_heard, values_of}
 use Rattle.sets.proofs.Members.{TakenOut, members-none, members-next, within-removed, Picked, picked_none, picked_more, picked_all}
-use Rattle.playback.proofs.ByCrusher.{values-hit, values-none, first-from}
-use Rattle.playback.proofs.Radios.{heard-by-own, heard-sends, heard-fits}
+use Rattle.playback.proofs.ByCrusher.{values_hit, values-none, first-from}
+use Rattle.playback.proofs.Radios.{heard_by_own, heard-sends, heard-fits}
 
 -- the trucks of `senders` that were taken already, sorted by crusher
 pub record Sorting (n senders : ℕ) (est : ℕ → ℕ) (values : List ℕ) (left : ℕ) : Type 0 where
@@ -36,9 +36,9 @@ module _ (n senders : ℕ) (est : ℕ → ℕ) where
         sorted = λ c l. rw (get_or-replicate {A = ℕ} 16 c 0 0 l) (picked_none n senders (λ j. eqb (est j) c));
       }
 
-  pub sorting-more : {values : List ℕ} {left : ℕ} → Sorting n senders est values left → (i : ℕ) → i < n → bit left i ≡ true → est i < 16
+  pub sorting_more : {values : List ℕ} {left : ℕ} → Sorting n senders est values left → (i : ℕ) → i < n → bit left i ≡ true → est i < 16
       → (left' : ℕ) → left' ≡ bit_xor left (2 ^ i) → Sorting n senders est (set values (est i) (bit_or (get_or values (est i) 0) (2 ^ i))) left'
-  sorting-more {values} {left} s i l h small left' e =
+  sorting_more {values} {left} s i l h small left' e =
       rw e (record {
         long = length-set values (est i) (bit_or (get_or values (est i) 0) (2 ^ i)) ∙ s.long;
         within = λ j o. s.within j (within-removed left i h j o);
@@ -57,9 +57,9 @@ module _ (n senders : ℕ) (est : ℕ → ℕ) where
           (picked_more n senders (λ j. eqb (est j) c) left (s.sorted c lc) i l h (s.within i h) false (sym (ne_eqb (est i) c (λ q. d (sym q)))))
 
   -- one that belongs to none
-  pub sorting-skip : {values : List ℕ} {left : ℕ} → Sorting n senders est values left → (i : ℕ) → i < n → bit left i ≡ true → 16 ≤ est i
+  pub sorting_skip : {values : List ℕ} {left : ℕ} → Sorting n senders est values left → (i : ℕ) → i < n → bit left i ≡ true → 16 ≤ est i
       → (left' : ℕ) → left' ≡ bit_xor left (2 ^ i) → Sorting n senders est values left'
-  sorting-skip {values} {left} s i l h large left' e =
+  sorting_skip {values} {left} s i l h large left' e =
       rw e (record {
         long = s.long;
         within = λ j o. s.within j (within-removed left i h j o);
@@ -72,30 +72,30 @@ module _ (n senders : ℕ) (est : ℕ → ℕ) where
 
 -- what the truck at place p hears was sent, so a search for its least value may begin with the least that anybody sends
 pub sent-from : (by : List ℕ) (senders row p : ℕ) {own w low : ℕ} → senders < 2 ^ 32 → own ≡ 2 ^ p → w ≡ bit_or (without senders row) (bit_and senders own)
-    → low ≡ first (wasHeard by senders) 16 → (low ≤ 16) × (first (wasHeard by w) low ≡ low)
+    → low ≡ first (was_heard by senders) 16 → (low ≤ 16) × (first (was_heard by w) low ≡ low)
 sent-from by senders row p {own} {w} {low} fits q e l =
-    let o : w ≡ heardSet senders row p = heard-by-own senders row p own w e q in
+    let o : w ≡ heard_set senders row p = heard_by_own senders row p own w e q in
     first-from by senders w low (rw o (heard-fits senders row p fits)) (λ j h. heard-sends senders row p j (sym (ap (λ (x : ℕ). bit x j) o) ∙ h)) l
 
 -- the least values that those wanted heard are sorted. The truck at place p is next, and w are those that it hears
 module _ (by : List ℕ) (wanted : ℕ) (h : ℕ → Values) {left p left' : ℕ} (t : TakenOut left p left') (c w : ℕ) (is : h p ≡ values_of by w 16)
-    (least : c ≡ first (wasHeard by w) 16) {taking taking' : List ℕ} (s : Sorting 32 wanted (λ j. (h j).least) taking left) where
+    (least : c ≡ first (was_heard by w) 16) {taking taking' : List ℕ} (s : Sorting 32 wanted (λ j. (h j).least) taking left) where
   -- it hears something, and one value alone where nobody else is heard than those that sent it
   pub least-heard : {own : ℕ} → own ≡ 2 ^ p → c < 16 → taking' ≡ set taking c (bit_or (get_or taking c 0) own)
       → (lone : Bool) → lone ≡ eqb (bit_xor w (bit_and w (get_or by c 0))) 0 → ((h p).heard ≡ cond lone One Several) × Sorting 32 wanted (λ j. (h j).least) taking' left'
   least-heard q small e lone o =
-      let v : h p ≡ record { heard = cond (eqb (bit_xor w (bit_and w (get_or by c 0))) 0) One Several; least = c } = is ∙ values-hit by w 16 c small (sym least) in
+      let v : h p ≡ record { heard = cond (eqb (bit_xor w (bit_and w (get_or by c 0))) 0) One Several; least = c } = is ∙ values_hit by w 16 c small (sym least) in
       let m : c ≡ (h p).least = sym (ap (λ (x : Values). x.least) v) in (
         rw o (ap (λ (x : Values). x.heard) v),
-        rw (e, q, m) (sorting-more 32 wanted (λ j. (h j).least) s p t.below t.held (rw m at small) left' t.rest),
+        rw (e, q, m) (sorting_more 32 wanted (λ j. (h j).least) s p t.below t.held (rw m at small) left' t.rest),
       )
 
   -- it hears nothing
   pub none-heard : 16 ≤ c → taking' ≡ taking → ((h p).heard ≡ Nothing) × Sorting 32 wanted (λ j. (h j).least) taking' left'
   none-heard large e =
-      let v : h p ≡ record { heard = Nothing; least = 16 } = is ∙ values-none by w 16 (omega (arith, first-le (wasHeard by w) 16, least, large)) in (
+      let v : h p ≡ record { heard = Nothing; least = 16 } = is ∙ values-none by w 16 (omega (arith, first-le (was_heard by w) 16, least, large)) in (
         ap (λ (x : Values). x.heard) v,
-        rw e (sorting-skip 32 wanted (λ j. (h j).least) s p t.below t.held (omega (arith, ap (λ (x : Values). x.least) v)) left' t.rest),
+        rw e (sorting_skip 32 wanted (λ j. (h j).least) s p t.below t.held (omega (arith, ap (λ (x : Values). x.least) v)) left' t.rest),
       )
 
 -- the trucks below i are looked at: those that send, and those of them of each crusher
@@ -113,9 +113,9 @@ module _ (sends : ℕ → Bool) (est : ℕ → ℕ) where
         each = λ c l. rw (get_or-replicate {A = ℕ} 16 c 0 0 l) (members-none 0 (λ j. sends j && eqb (est j) c) (λ j l. absurd (omega arith)));
       }
 
-  pub sending-more : {i senders : ℕ} {values : List ℕ} → Sending sends est i senders values → est i < 16 → (joins : Bool) → joins ≡ sends i
+  pub sending_more : {i senders : ℕ} {values : List ℕ} → Sending sends est i senders values → est i < 16 → (joins : Bool) → joins ≡ sends i
       → Sending sends est (suc i) (cond joins (bit_or senders (2 ^ i)) senders) (set values (est i) (cond joins (bit_or (get_or values (est i) 0) (2 ^ i)) (get_or values (est i) 0)))
-  sending-more {i} {senders} {values} s small joins e =
+  sending_more {i} {senders} {values} s small joins e =
       record {
         long = length-set values (est i) own ∙ s.long;
         all = members-next s.all joins e;

@@ -10,22 +10,22 @@ use Rattle.protocol.specs.Rules.{truck}
 use Rattle.playback.specs.declared.hearing.Values.{Values}
 
 -- the senders that a truck hears: those whose loss bit in its row is clear, and itself, whose bit stands at a place
-unfoldable pub heardSet : ℕ → ℕ → ℕ → ℕ
-heardSet senders row place = bit_or (without senders row) (bit_and senders (2 ^ place))
+unfoldable pub heard_set : ℕ → ℕ → ℕ → ℕ
+heard_set senders row place = bit_or (without senders row) (bit_and senders (2 ^ place))
 
 -- of the senders heard, those that sent crusher c
-abbrev pub sentHere : List ℕ → ℕ → ℕ → ℕ
-sentHere values heard c = bit_and heard (get_or values c 0)
+abbrev pub sent_here : List ℕ → ℕ → ℕ → ℕ
+sent_here values heard c = bit_and heard (get_or values c 0)
 
 -- crusher c was heard
-abbrev pub wasHeard : List ℕ → ℕ → ℕ → Bool
-wasHeard values heard c = not (eqb (sentHere values heard c) 0)
+abbrev pub was_heard : List ℕ → ℕ → ℕ → Bool
+was_heard values heard c = not (eqb (sent_here values heard c) 0)
 
 -- what is known of the values heard, where values holds the senders of each crusher: the first crusher that was heard is the least value,
 -- and it is the only one where it was sent by all that were heard; e is the value where none was heard
 unfoldable pub values_of : List ℕ → ℕ → ℕ → Values
 values_of values heard e =
-    let c = first (wasHeard values heard) 16 in
+    let c = first (was_heard values heard) 16 in
     cond (ltb c 16)
     (record { heard = cond (eqb (without heard (get_or values c 0)) 0) One Several; least = c })
     (record { heard = Nothing; least = e })

@@ -4,7 +4,7 @@ ghost use Rattle.std.specs.Int.Bits.{bit_or};
 ghost use Rattle.std.specs.Int.Count.{ones};
 ghost use Rattle.basics.specs.Bits.{bit};
 ghost use Rattle.sets.specs.Sets.{Members};
-ghost use Rattle.playback.specs.Grading.{heardAt, missesSome, missesAll, missesHalf, carried, gradesOf, Judges};
+ghost use Rattle.playback.specs.Grading.{heard_at, misses_some, misses_all, misses_half, carried, grades_of, Judges};
 
 use crate::hearing::heard_by;
 use crate::replay::listeners;
@@ -20,9 +20,9 @@ pub struct Missed {
 
 // With one truck more, which heard those of `heard`: its own set joins where it missed some. Bits are counted only where it did.
 fn with_truck(m: Missed, own: u32, heard: u32, senders: u32, sent: u32) -> Missed
-    ensures { (result.some ≡ cond (missesSome senders heard) (bit_or m.some own) m.some)
-        × ((result.all ≡ cond (missesSome senders heard && eqb heard 0) (bit_or m.all own) m.all)
-        × (result.half ≡ cond (missesSome senders heard && leb (2 * ones heard) sent) (bit_or m.half own) m.half)) }
+    ensures { (result.some ≡ cond (misses_some senders heard) (bit_or m.some own) m.some)
+        × ((result.all ≡ cond (misses_some senders heard && eqb heard 0) (bit_or m.all own) m.all)
+        × (result.half ≡ cond (misses_some senders heard && leb (2 * ones heard) sent) (bit_or m.half own) m.half)) }
 {
     if heard == senders {
         return m;
@@ -41,9 +41,9 @@ fn with_truck(m: Missed, own: u32, heard: u32, senders: u32, sent: u32) -> Misse
 // What those wanted miss of the senders.
 fn missing(s: &[u8], at: usize, n: usize, senders: u32, wanted: u32) -> Missed
     requires { (n ≤ 32) × (at < 2 ^ 32) }
-    ensures { Members result.some 32 (λ p. bit wanted p && missesSome senders (heardAt s.now at n senders p))
-        × (Members result.all 32 (λ p. bit wanted p && missesAll senders (heardAt s.now at n senders p))
-        × Members result.half 32 (λ p. bit wanted p && missesHalf senders (heardAt s.now at n senders p))) }
+    ensures { Members result.some 32 (λ p. bit wanted p && misses_some senders (heard_at s.now at n senders p))
+        × (Members result.all 32 (λ p. bit wanted p && misses_all senders (heard_at s.now at n senders p))
+        × Members result.half 32 (λ p. bit wanted p && misses_half senders (heard_at s.now at n senders p))) }
 {
     let sent = u32::count_ones(senders);
     let mut m = Missed {
@@ -82,7 +82,7 @@ fn carry(first: u16, ok: bool, k: u16) -> u16
 // The grades, by the four numbers in which a run keeps them.
 pub(crate) fn grades_of(found: &[u16; 4]) -> Grades
     requires { length found.now ≡ 4 }
-    ensures { result ≡ gradesOf found.now }
+    ensures { result ≡ grades_of found.now }
 {
     Grades {
         complete: found[0],

@@ -3,7 +3,7 @@ ghost use Rattle.std.specs.Prelude.{◌≡◌, ◌≤◌};
 ghost use Rattle.std.specs.Int.Bits.{bit_and, bit_or};
 ghost use Rattle.basics.specs.Lists.{first};
 ghost use Rattle.sets.specs.Sets.{without};
-ghost use Rattle.playback.specs.Sets.{wasHeard, values_of};
+ghost use Rattle.playback.specs.Sets.{was_heard, values_of};
 
 use protocol::Heard;
 
@@ -16,8 +16,8 @@ pub fn heard_by(senders: u32, row: u32, own: u32) -> u32
 
 // The least crusher that was heard, or 16 where none was. None before `from` was.
 pub(crate) fn first_heard(by: &[u32; 16], heard: u32, from: usize) -> usize
-    requires { (from ≤ 16) × (first (wasHeard by.now heard) from ≡ from) }
-    ensures { result ≡ first (wasHeard by.now heard) 16 }
+    requires { (from ≤ 16) × (first (was_heard by.now heard) from ≡ from) }
+    ensures { result ≡ first (was_heard by.now heard) 16 }
 {
     let mut c = from;
     while c < 16 {

@@ -1,7 +1,7 @@
 // Recordings run and graded from their bytes, by sets of trucks.
 ghost use Rattle.std.specs.Prelude.{◌≡◌};
-ghost use Rattle.protocol.specs.Fleets.{chosen, ranIn, gradedIn, ran, graded};
-ghost use Rattle.playback.specs.Bytes.{runCheckIn, runBytesIn};
+ghost use Rattle.protocol.specs.Fleets.{chosen, ran_in, graded_in, ran, graded};
+ghost use Rattle.playback.specs.Bytes.{run_check_in, run_bytes_in};
 
 use protocol::{Answer, Cycle, Grading};
 use refusals::{Outcome, Refusal};
@@ -14,7 +14,7 @@ mod six;
 
 // Running a recording in a cycle: all its rounds.
 pub fn run_in(cycle: Cycle, s: &[u8]) -> Answer
-    ensures { result ≡ ranIn (chosen cycle) s.now }
+    ensures { result ≡ ran_in (chosen cycle) s.now }
 {
     let outcome = recording::check(s);
     match outcome {
@@ -38,8 +38,8 @@ pub fn run(s: &[u8]) -> Answer
 
 // Running a recording in a cycle to a whole record as bytes.
 pub fn run_bytes(cycle: Cycle, s: &[u8], d: &mut [u8]) -> Outcome
-    ensures answer { result ≡ runCheckIn (chosen cycle) s.now d.old }
-    ensures buffer { d.new ≡ runBytesIn (chosen cycle) s.now d.old }
+    ensures answer { result ≡ run_check_in (chosen cycle) s.now d.old }
+    ensures buffer { d.new ≡ run_bytes_in (chosen cycle) s.now d.old }
 {
     let outcome = recording::check(s);
     match outcome {
@@ -56,7 +56,7 @@ pub fn run_bytes(cycle: Cycle, s: &[u8], d: &mut [u8]) -> Outcome
 
 // Grading a recording in a cycle.
 pub fn grade_in(cycle: Cycle, s: &[u8]) -> Grading
-    ensures { result ≡ gradedIn (chosen cycle) s.now }
+    ensures { result ≡ graded_in (chosen cycle) s.now }
 {
     let outcome = recording::check(s);
     match outcome {

@@ -2,10 +2,10 @@
 ghost use Rattle.std.specs.Prelude.{◌≡◌, not, ◌&&◌, ◌<◌, ◌≤◌, ◌^◌, eqb, length};
 ghost use Rattle.basics.specs.Bits.{bit};
 ghost use Rattle.basics.specs.Lists.{filled};
-ghost use Rattle.protocol.specs.Rules.{isOne, isSeveral};
+ghost use Rattle.protocol.specs.Rules.{is_one, is_several};
 ghost use Rattle.sets.specs.Sets.{Members, without};
 ghost use Rattle.playback.specs.Sets.{Sorted};
-ghost use Rattle.playback.specs.Listens.{rowFrom, heardFrom, someValue, settled};
+ghost use Rattle.playback.specs.Listens.{row_from, heard_from, some_value, settled};
 
 use crate::hearing::{first_heard, heard_by};
 
@@ -27,9 +27,9 @@ pub(crate) fn hear(
     by: &[u32; 16],
 ) -> Hearing
     requires { (n ≤ 32) × (at < 2 ^ 32) }
-    ensures { Members result.one 32 (λ p. bit wanted p && isOne (heardFrom s.now at n senders by.now p).heard)
-        × (Members result.several 32 (λ p. bit wanted p && isSeveral (heardFrom s.now at n senders by.now p).heard)
-        × Sorted result.taking 32 wanted (λ p. (heardFrom s.now at n senders by.now p).least)) }
+    ensures { Members result.one 32 (λ p. bit wanted p && is_one (heard_from s.now at n senders by.now p).heard)
+        × (Members result.several 32 (λ p. bit wanted p && is_several (heard_from s.now at n senders by.now p).heard)
+        × Sorted result.taking 32 wanted (λ p. (heard_from s.now at n senders by.now p).least)) }
 {
     let mut one = 0;
     let mut some = 0;
@@ -76,8 +76,8 @@ pub(crate) fn least_heard(
     by: &[u32; 16],
 ) -> Taking
     requires { (n ≤ 32) × (at < 2 ^ 32) }
-    ensures { Members result.changed 32 (λ p. bit wanted p && someValue (heardFrom s.now at n senders by.now p).heard)
-        × Sorted result.taking 32 wanted (λ p. (heardFrom s.now at n senders by.now p).least) }
+    ensures { Members result.changed 32 (λ p. bit wanted p && some_value (heard_from s.now at n senders by.now p).heard)
+        × Sorted result.taking 32 wanted (λ p. (heard_from s.now at n senders by.now p).least) }
 {
     let mut changed = 0;
     let mut taking = [0u32; 16];
@@ -101,7 +101,7 @@ pub(crate) fn least_heard(
 // Of those wanted, who hear some of the senders; none of those wanted sends itself. Those that hear none are the rest of them.
 pub(crate) fn hearing_some(s: &[u8], at: usize, n: usize, senders: u32, wanted: u32) -> u32
     requires { (n ≤ 32) × (at < 2 ^ 32) }
-    ensures { Members result 32 (λ p. bit wanted p && not (eqb (without senders (rowFrom s.now at n p)) 0)) }
+    ensures { Members result 32 (λ p. bit wanted p && not (eqb (without senders (row_from s.now at n p)) 0)) }
 {
     let mut out = 0;
     let mut left = wanted;

@@ -4,15 +4,15 @@ ghost use Rattle.std.specs.Prelude.{◌≡◌, false, true, cond, ◌+◌, ◌-�
 ghost use Rattle.basics.specs.Bits.{odd};
 ghost use Rattle.basics.specs.Lists.{filled};
 ghost use Rattle.refusals.specs.declared.Outcome.TheVariants.{Accepted};
-ghost use Rattle.recording.specs.Packed.{roundsOf, roundAt};
-ghost use Rattle.recording.specs.Checks.{frameCheck};
+ghost use Rattle.recording.specs.Packed.{rounds_of, round_at};
+ghost use Rattle.recording.specs.Checks.{frame_check};
 ghost use Rattle.protocol.specs.declared.Heard.TheVariants.{Nothing};
-ghost use Rattle.recordbytes.specs.Layout.{size_for, recordByte};
-ghost use Rattle.protocol.specs.Rules.{twoRules};
+ghost use Rattle.recordbytes.specs.Layout.{size_for, record_byte};
+ghost use Rattle.protocol.specs.Rules.{two_rules};
 ghost use Rattle.protocol.specs.Fleets.{chosen};
 ghost use Rattle.playback.specs.Sets.{Sorted};
-ghost use Rattle.playback.specs.Replays.{fleetAfter, gradesAfter, FoundAfter};
-ghost use Rattle.playback.specs.Standing.{wordFrom, state_of, memoryOf, sentBy, truckOf, fleetBy, unreadOf, Proposes, Vetoes, noted, Due, Halted, all_of, Opens};
+ghost use Rattle.playback.specs.Replays.{fleet_after, grades_after, FoundAfter};
+ghost use Rattle.playback.specs.Standing.{word_from, state_of, memory_of, sent_by, truck_of, fleet_by, unread_of, Proposes, Vetoes, noted, Due, Halted, all_of, Opens};
 
 use crate::grading::{grades_of, judged_proposing, judged_vetoing};
 use crate::hearing::first_heard;
@@ -82,7 +82,7 @@ pub(crate) fn ended(ends: &mut [u16; 32], who: u32, k: u16)
 
 // What trucks with a mark heard is asked for after the last round only.
 fn unread(left: u16, mark: u32) -> u32
-    ensures { result ≡ unreadOf left mark }
+    ensures { result ≡ unread_of left mark }
 {
     if left == 1 { 0 } else { mark }
 }
@@ -97,7 +97,7 @@ pub(crate) fn listeners(senders: u32, wanted: u32) -> u32
 // The proposal round at a place.
 fn propose(s: &[u8], at: usize, n: usize, left: u16, running: u32, by: &mut [u32; 16]) -> Proposed
     requires { (n ≤ 32) × ((at < 2 ^ 31) × (length by.old ≡ 16)) }
-    ensures { Proposes s.now at n left running (wordFrom s.now (at + n)) by.old by.new result }
+    ensures { Proposes s.now at n left running (word_from s.now (at + n)) by.old by.new result }
 {
     let stop = bitreader::read_at(s, at, 32);
     let active = bitreader::read_at(s, at + n, 32);
@@ -160,10 +160,10 @@ fn proposals(
     until: u32,
     judging: bool,
 ) -> Sets
-    requires { Due twoRules (roundAt s.now) s.now at n left k by.old ends.old sent.old running decided 0 0 0 0 until
-        × ((odd k ≡ false) × FoundAfter twoRules (roundAt s.now) s.now judging k found.old) }
-    ensures { Halted twoRules (roundAt s.now) s.now (k + left) by.new ends.new sent.new until result
-        × FoundAfter twoRules (roundAt s.now) s.now judging result.done found.new }
+    requires { Due two_rules (round_at s.now) s.now at n left k by.old ends.old sent.old running decided 0 0 0 0 until
+        × ((odd k ≡ false) × FoundAfter two_rules (round_at s.now) s.now judging k found.old) }
+    ensures { Halted two_rules (round_at s.now) s.now (k + left) by.new ends.new sent.new until result
+        × FoundAfter two_rules (round_at s.now) s.now judging result.done found.new }
 {
     if (left == 0) | (running == 0) | (decided & until != 0) {
         return Sets {
@@ -230,10 +230,10 @@ fn vetoes(
     until: u32,
     judging: bool,
 ) -> Sets
-    requires { Due twoRules (roundAt s.now) s.now at n left k by.old ends.old sent.old running decided marked one several 0 until
-        × ((odd k ≡ true) × FoundAfter twoRules (roundAt s.now) s.now judging k found.old) }
-    ensures { Halted twoRules (roundAt s.now) s.now (k + left) by.new ends.new sent.new until result
-        × FoundAfter twoRules (roundAt s.now) s.now judging result.done found.new }
+    requires { Due two_rules (round_at s.now) s.now at n left k by.old ends.old sent.old running decided marked one several 0 until
+        × ((odd k ≡ true) × FoundAfter two_rules (round_at s.now) s.now judging k found.old) }
+    ensures { Halted two_rules (round_at s.now) s.now (k + left) by.new ends.new sent.new until result
+        × FoundAfter two_rules (round_at s.now) s.now judging result.done found.new }
 {
     if (left == 0) | (running == 0) | (decided & until != 0) {
         return Sets {
@@ -290,7 +290,7 @@ fn state_of(running: bool, decided: bool, end: u16) -> State
 }
 
 fn heard_of(running: bool, one: bool, several: bool) -> Heard
-    ensures { result ≡ cond running (memoryOf one several) Nothing }
+    ensures { result ≡ cond running (memory_of one several) Nothing }
 {
     if !running {
         return Heard::Nothing;
@@ -308,7 +308,7 @@ fn heard_of(running: bool, one: bool, several: bool) -> Heard
 // so one shift brings the digits of both down, to the bits worth 1 and 2 to the 32.
 fn sent_at(words: &[u64; 8], m: usize, p: usize) -> Sent
     requires { (m ≤ 8) × (p < 32) }
-    ensures { result ≡ sentBy words.now m p }
+    ensures { result ≡ sent_by words.now m p }
 {
     let mut both = 0u64;
     let mut i = 0;
@@ -325,7 +325,7 @@ fn sent_at(words: &[u64; 8], m: usize, p: usize) -> Sent
 // The truck at place p, with its estimate.
 fn truck_of(b: Sets, e: usize, opening: u8, end: u16, sent: Sent, p: usize) -> Truck
     requires { (p < 32) × (e ≤ 16) }
-    ensures { result ≡ truckOf b e opening end sent p }
+    ensures { result ≡ truck_of b e opening end sent p }
 {
     let running = sets::holds(b.running, p);
     let heard = heard_of(running, sets::holds(b.one, p), sets::holds(b.several, p));
@@ -351,7 +351,7 @@ fn fleet_of(
     sent: &[u64; 8],
 ) -> Fleet
     requires { c.trucks ≤ 32 }
-    ensures { result ≡ fleetBy c openings.now b by.now ends.now sent.now }
+    ensures { result ≡ fleet_by c openings.now b by.now ends.now sent.now }
 {
     let none = fleetrecord::blank();
     let mut trucks = none.trucks;
@@ -388,7 +388,7 @@ fn put_fleet(
 )
     requires { (c.trucks ≤ 32) × (size_for 32 ≤ length d.old) }
     ensures { d.new
-        ≡ filled (recordByte (fleetBy c openings.now b by.now ends.now sent.now)) (size_for 32) d.old }
+        ≡ filled (record_byte (fleet_by c openings.now b by.now ends.now sent.now)) (size_for 32) d.old }
 {
     d[0] = c.trucks;
     d[1] = (c.rounds % 256) as u8;
@@ -451,10 +451,10 @@ fn rounds_in(
     all: u32,
     judging: bool,
 ) -> Sets
-    requires { Due (chosen cycle).rules (roundAt s.now) s.now at n rounds 0 by.old ends.old sent.old all 0 0 0 0 0 0
+    requires { Due (chosen cycle).rules (round_at s.now) s.now at n rounds 0 by.old ends.old sent.old all 0 0 0 0 0 0
         × ((sent.old ≡ replicate 8 0) × (found.old ≡ replicate 4 0)) }
-    ensures { Halted (chosen cycle).rules (roundAt s.now) s.now rounds by.new ends.new sent.new 0 result
-        × FoundAfter (chosen cycle).rules (roundAt s.now) s.now judging result.done found.new }
+    ensures { Halted (chosen cycle).rules (round_at s.now) s.now rounds by.new ends.new sent.new 0 result
+        × FoundAfter (chosen cycle).rules (round_at s.now) s.now judging result.done found.new }
 {
     match cycle {
         Cycle::TwoRound => {
@@ -468,7 +468,7 @@ fn rounds_in(
 
 // A recording before round 1: its openings are read, and the trucks of each opening put together.
 fn begin(s: &[u8], openings: &mut [u8; 32], by: &mut [u32; 16]) -> Begun
-    requires { (frameCheck s.now ≡ Accepted) × (openings.old ≡ replicate 32 0) × (by.old ≡ replicate 16 0) }
+    requires { (frame_check s.now ≡ Accepted) × (openings.old ≡ replicate 32 0) × (by.old ≡ replicate 16 0) }
     ensures { Opens s.now openings.new by.new result }
 {
     let c = recording::read_front(s, openings);
@@ -488,12 +488,12 @@ fn play(
     found: &mut [u16; 4],
     judging: bool,
 ) -> Course
-    requires { (frameCheck s.now ≡ Accepted) × (openings.old ≡ replicate 32 0) × (by.old ≡ replicate 16 0) × (ends.old ≡ replicate 32 0) × (sent.old ≡ replicate 8 0)
+    requires { (frame_check s.now ≡ Accepted) × (openings.old ≡ replicate 32 0) × (by.old ≡ replicate 16 0) × (ends.old ≡ replicate 32 0) × (sent.old ≡ replicate 8 0)
         × (found.old ≡ replicate 4 0) }
     ensures few { result.counts.trucks ≤ 32 }
-    ensures fleet { fleetBy result.counts openings.new result.sets by.new ends.new sent.new
-        ≡ fleetAfter (chosen cycle) (roundAt s.now) s.now (roundsOf s.now) }
-    ensures grades { FoundAfter (chosen cycle).rules (roundAt s.now) s.now judging (roundsOf s.now) found.new }
+    ensures fleet { fleet_by result.counts openings.new result.sets by.new ends.new sent.new
+        ≡ fleet_after (chosen cycle) (round_at s.now) s.now (rounds_of s.now) }
+    ensures grades { FoundAfter (chosen cycle).rules (round_at s.now) s.now judging (rounds_of s.now) found.new }
 {
     let g = begin(s, openings, by);
     let c = g.counts;
@@ -515,8 +515,8 @@ fn play(
 
 // The record after all rounds.
 pub(crate) fn ran(cycle: Cycle, s: &[u8]) -> Fleet
-    requires { frameCheck s.now ≡ Accepted }
-    ensures { result ≡ fleetAfter (chosen cycle) (roundAt s.now) s.now (roundsOf s.now) }
+    requires { frame_check s.now ≡ Accepted }
+    ensures { result ≡ fleet_after (chosen cycle) (round_at s.now) s.now (rounds_of s.now) }
 {
     let mut openings = [0u8; 32];
     let mut by = [0u32; 16];
@@ -540,8 +540,8 @@ pub(crate) fn ran(cycle: Cycle, s: &[u8]) -> Fleet
 
 // The same, put into bytes that have room for it: no record is built, which is much of what a run of few trucks and rounds takes.
 pub(crate) fn run_into(cycle: Cycle, s: &[u8], d: &mut [u8])
-    requires { (frameCheck s.now ≡ Accepted) × (size_for 32 ≤ length d.old) }
-    ensures { d.new ≡ filled (recordByte (fleetAfter (chosen cycle) (roundAt s.now) s.now (roundsOf s.now))) (size_for 32) d.old }
+    requires { (frame_check s.now ≡ Accepted) × (size_for 32 ≤ length d.old) }
+    ensures { d.new ≡ filled (record_byte (fleet_after (chosen cycle) (round_at s.now) s.now (rounds_of s.now))) (size_for 32) d.old }
 {
     let mut openings = [0u8; 32];
     let mut by = [0u32; 16];
@@ -565,8 +565,8 @@ pub(crate) fn run_into(cycle: Cycle, s: &[u8], d: &mut [u8])
 
 // The grades of all rounds.
 pub(crate) fn graded(cycle: Cycle, s: &[u8]) -> Grades
-    requires { frameCheck s.now ≡ Accepted }
-    ensures { result ≡ gradesAfter (chosen cycle).rules (roundAt s.now) s.now true (roundsOf s.now) }
+    requires { frame_check s.now ≡ Accepted }
+    ensures { result ≡ grades_after (chosen cycle).rules (round_at s.now) s.now true (rounds_of s.now) }
 {
     let mut openings = [0u8; 32];
     let mut by = [0u32; 16];

@@ -2,10 +2,10 @@
 // that have its bit.
 ghost use Rattle.std.specs.Prelude.{◌≡◌, ℕ, ◌<◌, ◌≤◌, ◌^◌, length, replicate};
 ghost use Rattle.basics.specs.Bits.{bit};
-ghost use Rattle.protocol.specs.Six.{sixRules};
-ghost use Rattle.recording.specs.Packed.{roundAt};
+ghost use Rattle.protocol.specs.Six.{six_rules};
+ghost use Rattle.recording.specs.Packed.{round_at};
 ghost use Rattle.playback.specs.Replays.{FoundAfter};
-ghost use Rattle.playback.specs.Standing.{withBit, Prepares, Listens, Accepts, SixPlays, Due, Halted};
+ghost use Rattle.playback.specs.Standing.{with_bit, Prepares, Listens, Accepts, SixPlays, Due, Halted};
 
 use crate::grading::judged_proposing;
 use crate::listening::{hearing_some, least_heard, settle};
@@ -25,7 +25,7 @@ pub struct Played {
 // The trucks of the crushers that have the bit worth 2 to the b.
 fn with_bit(by: &[u32; 16], b: usize) -> u32
     requires { b < 4 }
-    ensures { (p : ℕ) → p < 32 → bit result p ≡ withBit by.now b p }
+    ensures { (p : ℕ) → p < 32 → bit result p ≡ with_bit by.now b p }
 {
     let mut out = 0;
     let mut c = 0;
@@ -145,10 +145,10 @@ pub(crate) fn six_rounds(
     all: u32,
     judging: bool,
 ) -> Sets
-    requires { Due sixRules (roundAt s.now) s.now first n rounds 0 by.old ends.old (replicate 8 0) all 0 0 0 0 0 0
-        × FoundAfter sixRules (roundAt s.now) s.now judging 0 found.old }
-    ensures { Halted sixRules (roundAt s.now) s.now rounds by.new ends.new (replicate 8 0) 0 result
-        × FoundAfter sixRules (roundAt s.now) s.now judging result.done found.new }
+    requires { Due six_rules (round_at s.now) s.now first n rounds 0 by.old ends.old (replicate 8 0) all 0 0 0 0 0 0
+        × FoundAfter six_rules (round_at s.now) s.now judging 0 found.old }
+    ensures { Halted six_rules (round_at s.now) s.now rounds by.new ends.new (replicate 8 0) 0 result
+        × FoundAfter six_rules (round_at s.now) s.now judging result.done found.new }
 {
     let mut at = first;
     let mut k = 0u16;

@@ -10,27 +10,27 @@ use lib.ListN.{length}
 use Rattle.basics.specs.Bits.{odd}
 use Rattle.basics.specs.Lists.{who}
 use Rattle.basics.proofs.Laws.{and_right}
-use Rattle.radio.specs.Round.{stopBit, activeBit}
-use Rattle.radio.specs.Radio.{Radio, timesSent}
+use Rattle.radio.specs.Round.{stop_bit, active_bit}
+use Rattle.radio.specs.Radio.{Radio, times_sent}
 use Rattle.radio.proofs.Laws.{count-suc, times_none, times-suc}
 use Rattle.protocol.specs.declared.Sent.{Sent}
 use Rattle.protocol.specs.declared.Truck.{Truck}
 use Rattle.protocol.specs.declared.Fleet.{Fleet}
-use Rattle.protocol.specs.Cycles.{radioIn}
-use Rattle.protocol.specs.Rules.{counted, truck, runs, radioOf, valuesHeard, after, twoRules}
-use Rattle.protocol.specs.Runs.{radioAt, trucksAt}
-use Rattle.protocol.specs.Fleets.{twoRound, stepCheckIn, nextFleetIn, steppedIn, fleetIn}
-use Rattle.protocol.specs.Claims.{countsSent, SentCounts, StepCounts}
-use Rattle.protocol.proofs.AnyRound.{after-cases, idle-silent, running-runs, plays-is}
+use Rattle.protocol.specs.Cycles.{radio_in}
+use Rattle.protocol.specs.Rules.{counted, truck, runs, radio_of, values_heard, after, two_rules}
+use Rattle.protocol.specs.Runs.{radio_at, trucks_at}
+use Rattle.protocol.specs.Fleets.{two_round, step_check_in, next_fleet_in, stepped_in, fleet_in}
+use Rattle.protocol.specs.Claims.{counts_sent, SentCounts, StepCounts}
+use Rattle.protocol.proofs.AnyRound.{after_cases, idle_silent, running-runs, plays_is}
 use Rattle.protocol.proofs.AnyRun.{radio-suc, opened-truck, throughout}
-use Rattle.protocol.proofs.Rules.{plays-cases}
-use Rattle.protocol.proofs.OneRound.{sound-two}
-use Rattle.protocol.proofs.Steps.{accepted-by}
+use Rattle.protocol.proofs.Rules.{plays_cases}
+use Rattle.protocol.proofs.OneRound.{sound_two}
+use Rattle.protocol.proofs.Steps.{accepted_by}
 use Rattle.protocol.proofs.Demand.{holds_by}
 
 module _ (n : ℕ) (active : ℕ → Bool) (k : ℕ) (w : List ℕ) (ts : List Truck) where
   abbrev a : Radio
-  a = radioOf n active k w ts
+  a = radio_of n active k w ts
 
   -- the counts with 1 more for a message of this kind of round, where the truck sends
   abbrev Adds : Bool → Sent → Sent → Type 0
@@ -45,16 +45,16 @@ module _ (n : ℕ) (active : ℕ → Bool) (k : ℕ) (w : List ℕ) (ts : List T
 
   -- what a round makes of the counts
   pub counts-after : (i : ℕ) → i < n
-      → ((truck (after n active k w ts) i).sent.proposals ≡ counted (odd k && (radioOf n active k w ts).sends i) (truck ts i).sent.proposals)
-      × ((truck (after n active k w ts) i).sent.vetoes ≡ counted (not (odd k) && (radioOf n active k w ts).sends i) (truck ts i).sent.vetoes)
-  unfolding radioIn
+      → ((truck (after n active k w ts) i).sent.proposals ≡ counted (odd k && (radio_of n active k w ts).sends i) (truck ts i).sent.proposals)
+      × ((truck (after n active k w ts) i).sent.vetoes ≡ counted (not (odd k) && (radio_of n active k w ts).sends i) (truck ts i).sent.vetoes)
+  unfolding radio_in
   counts-after i l =
-      after-cases twoRules n active k w ts (λ (t : Truck). Adds (a.sends i) (truck ts i).sent t.sent) i l
-      (λ h. adds_none (a.sends i) (truck ts i).sent (idle-silent twoRules n active k w ts i (λ r. absurd (true≢false (sym (running-runs twoRules n active k w ts i r) ∙ h)))))
-      (λ h s. adds_none (a.sends i) (truck ts i).sent (idle-silent twoRules n active k w ts i (λ r. absurd (true≢false (sym (and_right (runs (truck ts i)) (not (stopBit w i)) r) ∙ ap not s)))))
+      after_cases two_rules n active k w ts (λ (t : Truck). Adds (a.sends i) (truck ts i).sent t.sent) i l
+      (λ h. adds_none (a.sends i) (truck ts i).sent (idle_silent two_rules n active k w ts i (λ r. absurd (true≢false (sym (running-runs two_rules n active k w ts i r) ∙ h)))))
+      (λ h s. adds_none (a.sends i) (truck ts i).sent (idle_silent two_rules n active k w ts i (λ r. absurd (true≢false (sym (and_right (runs (truck ts i)) (not (stop_bit w i)) r) ∙ ap not s)))))
       (λ h r.
-      rw (plays-is twoRules n active k w ts i)
-      (plays-cases k (activeBit w i) (a.sends i) (a.marked i) (valuesHeard a ts i) (truck ts i) (λ (t : Truck). Adds (a.sends i) (truck ts i).sent t.sent)
+      rw (plays_is two_rules n active k w ts i)
+      (plays_cases k (active_bit w i) (a.sends i) (a.marked i) (values_heard a ts i) (truck ts i) (λ (t : Truck). Adds (a.sends i) (truck ts i).sent t.sent)
       (λ e. rw e (refl, refl)) (λ e. rw e (refl, refl))))
 
 -- from a fresh start
@@ -63,66 +63,66 @@ more true c = refl
 more false c = omega arith
 
 module _ (n : ℕ) (openings : List ℕ) (rounds : ℕ → List ℕ) (R : ℕ) (few : n ≤ 32) where
-  counts-at : countsSent n openings rounds R (fleetIn twoRound n openings rounds R)
-  unfolding fleetIn
+  counts-at : counts_sent n openings rounds R (fleet_in two_round n openings rounds R)
+  unfolding fleet_in
   counts-at =
-      throughout twoRules n openings rounds Counts R
+      throughout two_rules n openings rounds Counts R
       (λ i l.
-      let e = ap (λ (t : Truck). t.sent) (opened-truck twoRules n openings rounds i (omega arith)) in (
-        ap (λ (c : Sent). c.proposals) e ∙ sym (times_none odd (radioAt n openings rounds) i),
-        ap (λ (c : Sent). c.vetoes) e ∙ sym (times_none (λ k. not (odd k)) (radioAt n openings rounds) i),
+      let e = ap (λ (t : Truck). t.sent) (opened-truck two_rules n openings rounds i (omega arith)) in (
+        ap (λ (c : Sent). c.proposals) e ∙ sym (times_none odd (radio_at n openings rounds) i),
+        ap (λ (c : Sent). c.vetoes) e ∙ sym (times_none (λ k. not (odd k)) (radio_at n openings rounds) i),
       ))
       (λ k l h i li.
-      let c = counts-after n (activeBit (rounds k)) (suc k) (rounds k) (trucksAt n openings rounds k) i li in (
-        c.0 ∙ step odd k i (truck (trucksAt n openings rounds k) i).sent.proposals (h i li).0,
-        c.1 ∙ step (λ k. not (odd k)) k i (truck (trucksAt n openings rounds k) i).sent.vetoes (h i li).1,
+      let c = counts-after n (active_bit (rounds k)) (suc k) (rounds k) (trucks_at n openings rounds k) i li in (
+        c.0 ∙ step odd k i (truck (trucks_at n openings rounds k) i).sent.proposals (h i li).0,
+        c.1 ∙ step (λ k. not (odd k)) k i (truck (trucks_at n openings rounds k) i).sent.vetoes (h i li).1,
       ))
       R (omega arith)
     where
       Counts : ℕ → List Truck → Type 0
       Counts k ts =
           (i : ℕ) → i < n
-          → ((truck ts i).sent.proposals ≡ timesSent odd (radioAt n openings rounds) i k)
-          × ((truck ts i).sent.vetoes ≡ timesSent (λ k. not (odd k)) (radioAt n openings rounds) i k)
+          → ((truck ts i).sent.proposals ≡ times_sent odd (radio_at n openings rounds) i k)
+          × ((truck ts i).sent.vetoes ≡ times_sent (λ k. not (odd k)) (radio_at n openings rounds) i k)
 
-      step : (kind : ℕ → Bool) (k i c : ℕ) → c ≡ timesSent kind (radioAt n openings rounds) i k
-          → counted (kind (suc k) && (radioOf n (activeBit (rounds k)) (suc k) (rounds k) (trucksAt n openings rounds k)).sends i) c
-          ≡ timesSent kind (radioAt n openings rounds) i (suc k)
+      step : (kind : ℕ → Bool) (k i c : ℕ) → c ≡ times_sent kind (radio_at n openings rounds) i k
+          → counted (kind (suc k) && (radio_of n (active_bit (rounds k)) (suc k) (rounds k) (trucks_at n openings rounds k)).sends i) c
+          ≡ times_sent kind (radio_at n openings rounds) i (suc k)
       step kind k i c e =
-          ap (λ (r : Radio). counted (kind (suc k) && r.sends i) c) (sym (radio-suc twoRules n openings rounds k))
-          ∙ more (kind (suc k) && (radioAt n openings rounds (suc k)).sends i) c
-          ∙ ap (λ (x : ℕ). x + cond (kind (suc k) && (radioAt n openings rounds (suc k)).sends i) 1 0) e
-          ∙ sym (times-suc kind (radioAt n openings rounds) i k)
+          ap (λ (r : Radio). counted (kind (suc k) && r.sends i) c) (sym (radio-suc two_rules n openings rounds k))
+          ∙ more (kind (suc k) && (radio_at n openings rounds (suc k)).sends i) c
+          ∙ ap (λ (x : ℕ). x + cond (kind (suc k) && (radio_at n openings rounds (suc k)).sends i) 1 0) e
+          ∙ sym (times-suc kind (radio_at n openings rounds) i k)
 
 -- after any list of steps and any run each count is the number of rounds of its kind in which the truck sends
 pub sent-counts : SentCounts
-sent-counts = holds_by twoRound sound-two countsSent (λ n openings rounds R few good. counts-at n openings rounds R few)
+sent-counts = holds_by two_round sound_two counts_sent (λ n openings rounds R few good. counts-at n openings rounds R few)
 
 -- a step adds 1 exactly then
 pub step_counts : StepCounts
-unfolding steppedIn nextFleetIn
+unfolding stepped_in next_fleet_in
 step_counts f w h i l =
-    let e = (accepted-by (stepCheckIn twoRound f w) (nextFleetIn twoRound f w) f h).1 in
-    let c = counts-after f.n (activeBit w) (f.done + 1) w f.trucks i l in (
+    let e = (accepted_by (step_check_in two_round f w) (next_fleet_in two_round f w) f h).1 in
+    let c = counts-after f.n (active_bit w) (f.done + 1) w f.trucks i l in (
       ap (λ (g : Fleet). (truck g.trucks i).sent.proposals) e ∙ c.0,
       ap (λ (g : Fleet). (truck g.trucks i).sent.vetoes) e ∙ c.1,
     )
 
 -- what refusal 7 counts: the odd rounds among those done, and the even ones
-pub odd-rounds : (done : ℕ) → length (who (λ e. odd (suc e)) done) ≡ (done + 1) / 2
+pub odd_rounds : (done : ℕ) → length (who (λ e. odd (suc e)) done) ≡ (done + 1) / 2
 unfolding who
-odd-rounds zero = refl
-odd-rounds (suc done) = count-suc (λ e. odd (suc e)) done ∙ go (odd (suc done)) refl (odd-rounds done)
+odd_rounds zero = refl
+odd_rounds (suc done) = count-suc (λ e. odd (suc e)) done ∙ go (odd (suc done)) refl (odd_rounds done)
   where
     go : (b : Bool) → odd (suc done) ≡ b → length (who (λ e. odd (suc e)) done) ≡ (done + 1) / 2
         → length (who (λ e. odd (suc e)) done) + cond b 1 0 ≡ (suc done + 1) / 2
     go true e h = omega (arith, h, eqb-true (suc done % 2) 1 e)
     go false e h = omega (arith, h, eqb-false (suc done % 2) 1 e)
 
-pub even-rounds : (done : ℕ) → length (who (λ e. not (odd (suc e))) done) ≡ done / 2
+pub even_rounds : (done : ℕ) → length (who (λ e. not (odd (suc e))) done) ≡ done / 2
 unfolding who
-even-rounds zero = refl
-even-rounds (suc done) = count-suc (λ e. not (odd (suc e))) done ∙ go (odd (suc done)) refl (even-rounds done)
+even_rounds zero = refl
+even_rounds (suc done) = count-suc (λ e. not (odd (suc e))) done ∙ go (odd (suc done)) refl (even_rounds done)
   where
     go : (b : Bool) → odd (suc done) ≡ b → length (who (λ e. not (odd (suc e))) done) ≡ done / 2
         → length (who (λ e. not (odd (suc e))) done) + cond (not b) 1 0 ≡ suc done / 2

@@ -1,15 +1,15 @@
 -- One round of any cycle: what depends only on stops and hearing (document 01, 'The fleet and its rounds'). The laws of it are in proofs/AnyRound.
 use Rattle.std.specs.Prelude.{ℕ, Bool, true, false, not, ◌&&◌, List, map, get_or}
 use Rattle.basics.specs.Lists.{filled}
-use Rattle.radio.specs.Round.{stopBit, activeBit, markBit, lossBit}
-use Rattle.radio.specs.Radio.{Radio, heardBy}
+use Rattle.radio.specs.Round.{stop_bit, active_bit, mark_bit, loss_bit}
+use Rattle.radio.specs.Radio.{Radio, heard_by}
 use Rattle.protocol.specs.declared.State.{State}
 use Rattle.protocol.specs.declared.State.TheVariants.{Running, Stopped, Decided}
 
-abbrev pub isRunning : State → Bool
-isRunning Running = true
-isRunning (Stopped k) = false
-isRunning (Decided k) = false
+abbrev pub is_running : State → Bool
+is_running Running = true
+is_running (Stopped k) = false
+is_running (Decided k) = false
 
 -- what a truck of any kind shows, where a cycle holds a T of each truck
 pub record Kind (T : Type 0) : Type 0 where
@@ -37,35 +37,35 @@ turn (Decided k) b stopped played t = t
 
 module _ {T : Type 0} (K : Kind T) where
   -- truck i of a list of trucks
-  abbrev pub truckIn : List T → ℕ → T
-  truckIn ts i = get_or ts i (K.opened 0)
+  abbrev pub truck_in : List T → ℕ → T
+  truck_in ts i = get_or ts i (K.opened 0)
 
   -- the truck is running
-  abbrev pub runsIn : T → Bool
-  runsIn t = isRunning (K.state t)
+  abbrev pub runs_in : T → Bool
+  runs_in t = is_running (K.state t)
 
   -- the estimates of the senders that truck i hears
-  unfoldable pub valuesIn : Radio → List T → ℕ → List ℕ
-  valuesIn a ts i = map (λ j. K.estimate (truckIn ts j)) (heardBy a i)
+  unfoldable pub values_in : Radio → List T → ℕ → List ℕ
+  values_in a ts i = map (λ j. K.estimate (truck_in ts j)) (heard_by a i)
 
 module _ {T : Type 0} {K : Kind T} (c : Rules K) where
   -- round k, with the words w, of n trucks on the radio; `active` says who is active
-  unfoldable pub radioIn : ℕ → (ℕ → Bool) → ℕ → List ℕ → List T → Radio
-  radioIn n active k w ts =
+  unfoldable pub radio_in : ℕ → (ℕ → Bool) → ℕ → List ℕ → List T → Radio
+  radio_in n active k w ts =
       record {
         trucks = n;
-        running = λ i. runsIn K (truckIn K ts i) && not (stopBit w i);
-        sends = λ i. runsIn K (truckIn K ts i) && not (stopBit w i) && c.sends k (active i) (truckIn K ts i);
-        marked = markBit w;
-        lost = lossBit w;
+        running = λ i. runs_in K (truck_in K ts i) && not (stop_bit w i);
+        sends = λ i. runs_in K (truck_in K ts i) && not (stop_bit w i) && c.sends k (active i) (truck_in K ts i);
+        marked = mark_bit w;
+        lost = loss_bit w;
       }
 
   -- what round k makes of truck i, if it runs and doesn't stop
-  unfoldable pub playsIn : Radio → ℕ → List ℕ → List T → ℕ → T
-  playsIn a k w ts i = c.plays k (activeBit w i) (a.sends i) (markBit w i) (valuesIn K a ts i) (truckIn K ts i)
+  unfoldable pub plays_in : Radio → ℕ → List ℕ → List T → ℕ → T
+  plays_in a k w ts i = c.plays k (active_bit w i) (a.sends i) (mark_bit w i) (values_in K a ts i) (truck_in K ts i)
 
   -- the trucks after round k with the words w; places n and above stay as they are
-  unfoldable pub afterIn : ℕ → (ℕ → Bool) → ℕ → List ℕ → List T → List T
-  afterIn n active k w ts =
-      filled (λ i. turn (K.state (truckIn K ts i)) (stopBit w i)
-      (c.stops k (truckIn K ts i)) (playsIn (radioIn n active k w ts) k w ts i) (truckIn K ts i)) n ts
+  unfoldable pub after_in : ℕ → (ℕ → Bool) → ℕ → List ℕ → List T → List T
+  after_in n active k w ts =
+      filled (λ i. turn (K.state (truck_in K ts i)) (stop_bit w i)
+      (c.stops k (truck_in K ts i)) (plays_in (radio_in n active k w ts) k w ts i) (truck_in K ts i)) n ts

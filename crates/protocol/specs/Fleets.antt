@@ -3,15 +3,15 @@
 use Rattle.std.specs.Prelude.{ℕ, ◌+◌, ◌/◌, ◌%◌, Bool, true, false, cond, not, ◌&&◌, ◌||◌, List, [], ◌∷◌, eqb, leb, ltb}
 use Rattle.basics.specs.Lists.{all_below}
 use Rattle.basics.specs.Bits.{odd}
-use Rattle.radio.specs.Round.{activeBit}
-use Rattle.radio.specs.Radio.{Radio, implies, majorityComplete, zeroComplete}
+use Rattle.radio.specs.Round.{active_bit}
+use Rattle.radio.specs.Radio.{Radio, implies, majority_complete, zero_complete}
 use Rattle.refusals.specs.declared.Refusal.TheVariants.{TruckCount, Record, RoundsDone}
 use Rattle.refusals.specs.declared.Outcome.{Outcome}
 use Rattle.refusals.specs.declared.Outcome.TheVariants.{Accepted, Refused}
 use Rattle.refusals.specs.Numbers.{number_of}
 use Rattle.refusals.specs.Outcomes.{refuse}
-use Rattle.recording.specs.Packed.{trucksOf, roundsOf, openingsOf, roundAt}
-use Rattle.recording.specs.Checks.{badTrucks, badOpenings, checkOf, roundCheck}
+use Rattle.recording.specs.Packed.{trucks_of, rounds_of, openings_of, round_at}
+use Rattle.recording.specs.Checks.{bad_trucks, bad_openings, check_of, round_check}
 use Rattle.protocol.specs.declared.Cycle.{Cycle}
 use Rattle.protocol.specs.declared.Cycle.TheVariants.{TwoRound, SixRound}
 use Rattle.protocol.specs.declared.Heard.{Heard}
@@ -26,15 +26,15 @@ use Rattle.protocol.specs.declared.Grades.{Grades}
 use Rattle.protocol.specs.declared.Grading.{Grading}
 use Rattle.protocol.specs.declared.Grading.TheVariants.{Graded}
 use Rattle.protocol.specs.declared.Grading.TheVariants as grading
-use Rattle.protocol.specs.Cycles.{Rules, afterIn}
-use Rattle.protocol.specs.Rules.{recorded, twoRules, truck, runs}
-use Rattle.protocol.specs.Six.{isPrepare, isAccept, sixRules}
-use Rattle.protocol.specs.Runs.{openedTrucks, trucksIn, radiosIn, gradesFor}
+use Rattle.protocol.specs.Cycles.{Rules, after_in}
+use Rattle.protocol.specs.Rules.{recorded, two_rules, truck, runs}
+use Rattle.protocol.specs.Six.{is_prepare, is_accept, six_rules}
+use Rattle.protocol.specs.Runs.{opened_trucks, trucks_in, radios_in, grades_for}
 
 -- the record that a refused start or run holds: n 0, no rounds done, and in every place a running, willing truck of opening and estimate 0 with empty memory and
 -- counts 0
 unfoldable pub blank : Fleet
-blank = record { n = 0; done = 0; trucks = openedTrucks [] }
+blank = record { n = 0; done = 0; trucks = opened_trucks [] }
 
 -- an outcome with the record of an accepted call, and with the other record where it is a refusal
 abbrev pub answer : Outcome → Fleet → Fleet → Answer
@@ -42,12 +42,12 @@ answer Accepted f g = record { outcome = Accepted; fleet = f }
 answer (Refused r) f g = record { outcome = Refused r; fleet = g }
 
 -- starting a fleet checks 2, 7
-unfoldable pub startCheck : ℕ → List ℕ → Outcome
-startCheck n openings = refuse (badTrucks n) TruckCount (refuse (badOpenings n openings) Record Accepted)
+unfoldable pub start_check : ℕ → List ℕ → Outcome
+start_check n openings = refuse (bad_trucks n) TruckCount (refuse (bad_openings n openings) Record Accepted)
 
 -- starting a fleet of n trucks
 unfoldable pub started : ℕ → List ℕ → Answer
-started n openings = answer (startCheck n openings) (record { n = n; done = 0; trucks = openedTrucks openings }) blank
+started n openings = answer (start_check n openings) (record { n = n; done = 0; trucks = opened_trucks openings }) blank
 
 -- a protocol by which fleets are stepped and recordings run: the rules of its cycle, and what refusal 7 and demand 3 ask by it
 pub record Protocol : Type 0 where
@@ -55,13 +55,13 @@ pub record Protocol : Type 0 where
   -- the rounds in which trucks decide
   pub decisions : ℕ → Bool
   -- what refusal 7 asks of a truck's memory with some rounds done
-  pub goodMemory : ℕ → Truck → Bool
+  pub good_memory : ℕ → Truck → Bool
   -- what it asks of a truck's counts
-  pub goodCounts : ℕ → Sent → Bool
+  pub good_counts : ℕ → Sent → Bool
   -- what the marks of round k must be worth for agreement
   pub worth : ℕ → Radio → Bool
-  -- calm from S lasts from round S to round S + `calmSpan`
-  pub calmSpan : ℕ
+  -- calm from S lasts from round S to round S + `calm_span`
+  pub calm_span : ℕ
   -- the rounds for proposals, in which calm asks for senders
   pub proposes : ℕ → Bool
 
@@ -72,126 +72,126 @@ is_empty mark One = false
 is_empty mark Several = false
 
 -- in the two-round cycle the memory is empty where the rounds done are even or the truck isn't running
-abbrev pub twoMemory : ℕ → Truck → Bool
-twoMemory done t = implies (not (odd done) || not (runs t)) (is_empty t.mark t.heard)
+abbrev pub two_memory : ℕ → Truck → Bool
+two_memory done t = implies (not (odd done) || not (runs t)) (is_empty t.mark t.heard)
 
 -- in the two-round cycle no truck has sent more proposals than there are odd rounds among those done, nor more vetoes than even ones
-abbrev pub twoCounts : ℕ → Sent → Bool
-twoCounts done c = leb c.proposals ((done + 1) / 2) && leb c.vetoes (done / 2)
+abbrev pub two_counts : ℕ → Sent → Bool
+two_counts done c = leb c.proposals ((done + 1) / 2) && leb c.vetoes (done / 2)
 
 -- in the two-round cycle marks must be majority complete in odd rounds and zero complete in even ones
-abbrev pub twoWorth : ℕ → Radio → Bool
-twoWorth k a = cond (odd k) (majorityComplete a) (zeroComplete a)
+abbrev pub two_worth : ℕ → Radio → Bool
+two_worth k a = cond (odd k) (majority_complete a) (zero_complete a)
 
 -- document 01's protocol
-abbrev pub twoRound : Protocol
-twoRound =
+abbrev pub two_round : Protocol
+two_round =
     record {
-      rules = twoRules;
+      rules = two_rules;
       decisions = λ k. not (odd k);
-      goodMemory = twoMemory;
-      goodCounts = twoCounts;
-      worth = twoWorth;
-      calmSpan = 4;
+      good_memory = two_memory;
+      good_counts = two_counts;
+      worth = two_worth;
+      calm_span = 4;
       proposes = odd;
     }
 
 -- in the six-round cycle a truck is unwilling only while it runs and 2 to 5 rounds of the cycle are done; this takes the place of the memory
-abbrev pub sixMemory : ℕ → Truck → Bool
-sixMemory done t = implies t.unwilling (runs t && leb 2 (done % 6))
+abbrev pub six_memory : ℕ → Truck → Bool
+six_memory done t = implies t.unwilling (runs t && leb 2 (done % 6))
 
 -- the six-round protocol of document 02, F-4; it does not judge the counts
-abbrev pub sixRound : Protocol
-sixRound =
+abbrev pub six_round : Protocol
+six_round =
     record {
-      rules = sixRules;
-      decisions = isAccept;
-      goodMemory = sixMemory;
-      goodCounts = λ done c. true;
-      worth = λ k. zeroComplete;
-      calmSpan = 10;
-      proposes = isPrepare;
+      rules = six_rules;
+      decisions = is_accept;
+      good_memory = six_memory;
+      good_counts = λ done c. true;
+      worth = λ k. zero_complete;
+      calm_span = 10;
+      proposes = is_prepare;
     }
 
 -- the protocol of the cycle that a caller chose
 abbrev pub chosen : Cycle → Protocol
-chosen TwoRound = twoRound
-chosen SixRound = sixRound
+chosen TwoRound = two_round
+chosen SixRound = six_round
 
 -- an outcome with the grades of an accepted call
-abbrev pub gradingFor : Outcome → Grades → Grading
-gradingFor Accepted g = Graded g
-gradingFor (Refused r) g = grading.Refused r
+abbrev pub grading_for : Outcome → Grades → Grading
+grading_for Accepted g = Graded g
+grading_for (Refused r) g = grading.Refused r
 
 -- an answer by document 01's number and values: complete, majority, zero and accurate, where it is no refusal
-abbrev pub gradeAnswer : Grading → ℕ × List ℕ
-gradeAnswer (Graded g) = (0, g.complete ∷ g.majority ∷ g.zero ∷ g.accurate ∷ [])
-gradeAnswer (grading.Refused r) = (number_of r, [])
+abbrev pub grade_answer : Grading → ℕ × List ℕ
+grade_answer (Graded g) = (0, g.complete ∷ g.majority ∷ g.zero ∷ g.accurate ∷ [])
+grade_answer (grading.Refused r) = (number_of r, [])
 
 -- round k is not 0 and not later than the rounds done
-abbrev pub isDone : ℕ → ℕ → Bool
-isDone done k = ltb 0 k && leb k done
+abbrev pub is_done : ℕ → ℕ → Bool
+is_done done k = ltb 0 k && leb k done
 
 module _ (p : Protocol) where
   -- a stop round is one of the rounds done; a decided round is besides one in which trucks decide
-  abbrev pub goodStateIn : ℕ → State → Bool
-  goodStateIn done Running = true
-  goodStateIn done (Stopped k) = isDone done k
-  goodStateIn done (Decided k) = isDone done k && p.decisions k
+  abbrev pub good_state_in : ℕ → State → Bool
+  good_state_in done Running = true
+  good_state_in done (Stopped k) = is_done done k
+  good_state_in done (Decided k) = is_done done k && p.decisions k
 
   -- what refusal 7 asks of one truck: no crusher above 15, a good round, a good memory, and good counts
-  unfoldable pub goodTruckIn : ℕ → Truck → Bool
-  goodTruckIn done t =
-      leb t.opening 15 && leb t.estimate 15 && goodStateIn done t.state && p.goodMemory done t && p.goodCounts done t.sent
+  unfoldable pub good_truck_in : ℕ → Truck → Bool
+  good_truck_in done t =
+      leb t.opening 15 && leb t.estimate 15 && good_state_in done t.state && p.good_memory done t && p.good_counts done t.sent
 
   -- a fleet record that refusal 7 lets pass; places n and above are not read
-  unfoldable pub goodFleetIn : Fleet → Bool
-  goodFleetIn f =
-      not (badTrucks f.n) && leb f.done 400 && all_below (λ i. goodTruckIn f.done (truck f.trucks i)) f.n
+  unfoldable pub good_fleet_in : Fleet → Bool
+  good_fleet_in f =
+      not (bad_trucks f.n) && leb f.done 400 && all_below (λ i. good_truck_in f.done (truck f.trucks i)) f.n
 
   -- a step checks 7, 14, 8, 6; it names the round that it would have been
-  unfoldable pub stepCheckIn : Fleet → List ℕ → Outcome
-  stepCheckIn f w = refuse (not (goodFleetIn f)) Record (refuse (eqb f.done 400) RoundsDone (roundCheck f.n (f.done + 1) w))
+  unfoldable pub step_check_in : Fleet → List ℕ → Outcome
+  step_check_in f w = refuse (not (good_fleet_in f)) Record (refuse (eqb f.done 400) RoundsDone (round_check f.n (f.done + 1) w))
 
   -- the record after a round in plain form
-  unfoldable pub nextFleetIn : Fleet → List ℕ → Fleet
-  nextFleetIn f w =
-      record { n = f.n; done = f.done + 1; trucks = afterIn p.rules f.n (activeBit w) (f.done + 1) w f.trucks }
+  unfoldable pub next_fleet_in : Fleet → List ℕ → Fleet
+  next_fleet_in f w =
+      record { n = f.n; done = f.done + 1; trucks = after_in p.rules f.n (active_bit w) (f.done + 1) w f.trucks }
 
   -- a step by a round in plain form; a refused step returns the record it was given
-  unfoldable pub steppedIn : Fleet → List ℕ → Answer
-  steppedIn f w = answer (stepCheckIn f w) (nextFleetIn f w) f
+  unfoldable pub stepped_in : Fleet → List ℕ → Answer
+  stepped_in f w = answer (step_check_in f w) (next_fleet_in f w) f
 
   -- the record of n trucks after R rounds
-  unfoldable pub fleetIn : ℕ → List ℕ → (ℕ → List ℕ) → ℕ → Fleet
-  fleetIn n openings rounds R = record { n = n; done = R; trucks = trucksIn p.rules n openings rounds R }
+  unfoldable pub fleet_in : ℕ → List ℕ → (ℕ → List ℕ) → ℕ → Fleet
+  fleet_in n openings rounds R = record { n = n; done = R; trucks = trucks_in p.rules n openings rounds R }
 
   -- running a recording: all its rounds
-  unfoldable pub ranIn : List ℕ → Answer
-  ranIn s = answer (checkOf s) (fleetIn (trucksOf s) (openingsOf s) (roundAt s) (roundsOf s)) blank
+  unfoldable pub ran_in : List ℕ → Answer
+  ran_in s = answer (check_of s) (fleet_in (trucks_of s) (openings_of s) (round_at s) (rounds_of s)) blank
 
   -- grading a recording
-  unfoldable pub gradedIn : List ℕ → Grading
-  gradedIn s = gradingFor (checkOf s) (gradesFor (radiosIn p.rules (trucksOf s) (openingsOf s) (roundAt s)) (roundsOf s))
+  unfoldable pub graded_in : List ℕ → Grading
+  graded_in s = grading_for (check_of s) (grades_for (radios_in p.rules (trucks_of s) (openings_of s) (round_at s)) (rounds_of s))
 
 -- the same by document 01's protocol
-abbrev pub goodState : ℕ → State → Bool
-goodState = goodStateIn twoRound
+abbrev pub good_state : ℕ → State → Bool
+good_state = good_state_in two_round
 
-abbrev pub goodTruck : ℕ → Truck → Bool
-goodTruck = goodTruckIn twoRound
+abbrev pub good_truck : ℕ → Truck → Bool
+good_truck = good_truck_in two_round
 
-abbrev pub goodFleet : Fleet → Bool
-goodFleet = goodFleetIn twoRound
+abbrev pub good_fleet : Fleet → Bool
+good_fleet = good_fleet_in two_round
 
 abbrev pub stepped : Fleet → List ℕ → Answer
-stepped = steppedIn twoRound
+stepped = stepped_in two_round
 
-abbrev pub fleetAt : ℕ → List ℕ → (ℕ → List ℕ) → ℕ → Fleet
-fleetAt = fleetIn twoRound
+abbrev pub fleet_at : ℕ → List ℕ → (ℕ → List ℕ) → ℕ → Fleet
+fleet_at = fleet_in two_round
 
 abbrev pub ran : List ℕ → Answer
-ran = ranIn twoRound
+ran = ran_in two_round
 
 abbrev pub graded : List ℕ → Grading
-graded = gradedIn twoRound
+graded = graded_in two_round

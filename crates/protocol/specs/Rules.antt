@@ -7,7 +7,7 @@ use Rattle.protocol.specs.declared.Heard.{Heard}
 use Rattle.protocol.specs.declared.Heard.TheVariants.{Nothing, One, Several}
 use Rattle.protocol.specs.declared.State.TheVariants.{Running, Stopped, Decided}
 use Rattle.protocol.specs.declared.Truck.{Truck}
-use Rattle.protocol.specs.Cycles.{Kind, Rules, truckIn, runsIn, valuesIn, radioIn, playsIn, afterIn}
+use Rattle.protocol.specs.Cycles.{Kind, Rules, truck_in, runs_in, values_in, radio_in, plays_in, after_in}
 
 -- a truck of a fleet record before round 1, in any cycle: running, its estimate is its opening, its memory reads no mark and no value, it is willing, both counts
 -- are 0
@@ -21,40 +21,40 @@ recorded = record { opened = opened; state = λ t. t.state; estimate = λ t. t.e
 
 -- truck i of a list of trucks
 abbrev pub truck : List Truck → ℕ → Truck
-truck = truckIn recorded
+truck = truck_in recorded
 
 -- the truck is running
 abbrev pub runs : Truck → Bool
-runs = runsIn recorded
+runs = runs_in recorded
 
-abbrev pub isSeveral : Heard → Bool
-isSeveral Nothing = false
-isSeveral One = false
-isSeveral Several = true
+abbrev pub is_several : Heard → Bool
+is_several Nothing = false
+is_several One = false
+is_several Several = true
 
-abbrev pub isOne : Heard → Bool
-isOne Nothing = false
-isOne One = true
-isOne Several = false
+abbrev pub is_one : Heard → Bool
+is_one Nothing = false
+is_one One = true
+is_one Several = false
 
 -- the truck sends a veto if in the round before it had a mark or heard several different values
 abbrev pub vetoes : Truck → Bool
-vetoes t = t.mark || isSeveral t.heard
+vetoes t = t.mark || is_several t.heard
 
 -- every value of the list is v
-unfoldable pub allSame : ℕ → List ℕ → Bool
-allSame v [] = true
-allSame v (u ∷ us) = eqb u v && allSame v us
+unfoldable pub all_same : ℕ → List ℕ → Bool
+all_same v [] = true
+all_same v (u ∷ us) = eqb u v && all_same v us
 
 -- no value, one value, or several different values
 unfoldable pub different : List ℕ → Heard
 different [] = Nothing
-different (v ∷ vs) = cond (allSame v vs) One Several
+different (v ∷ vs) = cond (all_same v vs) One Several
 
 -- the least value of a list, or e where it has none
-unfoldable pub leastOr : ℕ → List ℕ → ℕ
-leastOr e [] = e
-leastOr e (v ∷ vs) = min v (leastOr v vs)
+unfoldable pub least_or : ℕ → List ℕ → ℕ
+least_or e [] = e
+least_or e (v ∷ vs) = min v (least_or v vs)
 
 -- a count of what a truck sent, after a round of that kind: 1 more exactly if it sends
 abbrev pub counted : Bool → ℕ → ℕ
@@ -80,7 +80,7 @@ proposed sends m h v t =
 
 -- it decides after a veto round: it heard no veto, has no mark now, and in the proposal round had exactly one value
 abbrev pub decides : Bool → Bool → Truck → Bool
-decides m veto t = not veto && not m && isOne t.heard
+decides m veto t = not veto && not m && is_one t.heard
 
 -- after the veto round k with mark m, in which it sends or not; `veto` says whether it heard one
 abbrev pub vetoed : ℕ → Bool → Bool → Bool → Truck → Truck
@@ -97,24 +97,24 @@ vetoed k sends m veto t =
 
 -- the rules of the two-round cycle: in odd rounds a truck sends its estimate if it is active, in even rounds its veto if it has one;
 -- whoever is heard in an even round sent a veto, so a truck heard a veto if it heard anybody
-abbrev pub twoRules : Rules recorded
-twoRules =
+abbrev pub two_rules : Rules recorded
+two_rules =
     record {
       sends = λ k active t. cond (odd k) active (vetoes t);
       stops = stops;
       plays = λ k active sends m vs t.
-          cond (odd k) (proposed sends m (different vs) (leastOr t.estimate vs) t) (vetoed k sends m (ltb 0 (length vs)) t);
+          cond (odd k) (proposed sends m (different vs) (least_or t.estimate vs) t) (vetoed k sends m (ltb 0 (length vs)) t);
     }
 
 -- one round of it: on the radio, the values that a truck hears, what it makes of a truck that plays, and of all trucks
-abbrev pub radioOf : ℕ → (ℕ → Bool) → ℕ → List ℕ → List Truck → Radio
-radioOf = radioIn twoRules
+abbrev pub radio_of : ℕ → (ℕ → Bool) → ℕ → List ℕ → List Truck → Radio
+radio_of = radio_in two_rules
 
-abbrev pub valuesHeard : Radio → List Truck → ℕ → List ℕ
-valuesHeard = valuesIn recorded
+abbrev pub values_heard : Radio → List Truck → ℕ → List ℕ
+values_heard = values_in recorded
 
 abbrev pub plays : Radio → ℕ → List ℕ → List Truck → ℕ → Truck
-plays = playsIn twoRules
+plays = plays_in two_rules
 
 abbrev pub after : ℕ → (ℕ → Bool) → ℕ → List ℕ → List Truck → List Truck
-after = afterIn twoRules
+after = after_in two_rules

@@ -9,9 +9,9 @@ use native.Mathlib.Omega.{arith}
 use borrow.Author.Tests.{ltb-true, lt-ltb, ltb-false, leb-true, leb-false, eq-eqb, eqb-true, not-true, not-false}
 use lib.Dec.{ltb, leb, eqb}
 use lib.ListN.{length, length-append}
-use Rattle.basics.specs.Lists.{who, all_below, someBelow, first}
-use Rattle.basics.proofs.Laws.{who-ext, and_left, and_right, and_both, allBelow-at, allBelow-all, someBelow-at, someBelow-by, someBelow-none, none-someBelow, first-before, first-at}
-use Rattle.radio.specs.Radio.{Radio, implies, sent, hears, heardBy, heard, misses, missesAny, judged, complete, majorityComplete, zeroComplete, accurate, inFull, fewSenders, someRunning, calmRound, calmFor, firstBreak, FirstToBreak, timesSent}
+use Rattle.basics.specs.Lists.{who, all_below, some_below, first}
+use Rattle.basics.proofs.Laws.{who_ext, and_left, and_right, and_both, all_below-at, all_below-all, some_below-at, some_below_by, some_below-none, none-some_below, first-before, first-at}
+use Rattle.radio.specs.Radio.{Radio, implies, sent, hears, heard_by, heard, misses, misses_any, judged, complete, majority_complete, zero_complete, accurate, in_full, few_senders, some_running, calm_round, calm_for, first_break, FirstToBreak, times_sent}
 
 -- how many of the first m have p
 abbrev count : (ℕ → Bool) → ℕ → ℕ
@@ -26,13 +26,13 @@ count-suc p m = length-append (who p m) (cond (p m) (m ∷ []) []) ∙ ap (λ (k
     go false = refl
 
 -- how often a truck sends, round by round
-pub times_none : (kind : ℕ → Bool) (radios : ℕ → Radio) (i : ℕ) → timesSent kind radios i 0 ≡ 0
-unfolding timesSent who
+pub times_none : (kind : ℕ → Bool) (radios : ℕ → Radio) (i : ℕ) → times_sent kind radios i 0 ≡ 0
+unfolding times_sent who
 times_none kind radios i = refl
 
 pub times-suc : (kind : ℕ → Bool) (radios : ℕ → Radio) (i R : ℕ)
-    → timesSent kind radios i (suc R) ≡ timesSent kind radios i R + cond (kind (suc R) && (radios (suc R)).sends i) 1 0
-unfolding timesSent
+    → times_sent kind radios i (suc R) ≡ times_sent kind radios i R + cond (kind (suc R) && (radios (suc R)).sends i) 1 0
+unfolding times_sent
 times-suc kind radios i R = count-suc (λ e. kind (suc e) && (radios (suc e)).sends i) R
 
 -- two sets within s with no common element have sizes that add up to at most that of s
@@ -86,24 +86,24 @@ count_by p (suc m) h = go (p m) refl (count-suc p m) (count_by p m)
     go true e f ih = (m, omega arith, e)
     go false e f ih = let r = ih (omega arith) in (r.0, omega (arith, r.1), r.2)
 
-pub implies-mp : (b c : Bool) → implies b c ≡ true → b ≡ true → c ≡ true
-implies-mp true c h e = h
-implies-mp false c h e = absurd (false≢true e)
+pub implies_mp : (b c : Bool) → implies b c ≡ true → b ≡ true → c ≡ true
+implies_mp true c h e = h
+implies_mp false c h e = absurd (false≢true e)
 
-pub implies-by : (b c : Bool) → (b ≡ true → c ≡ true) → implies b c ≡ true
-implies-by true c h = h refl
-implies-by false c h = refl
+pub implies_by : (b c : Bool) → (b ≡ true → c ≡ true) → implies b c ≡ true
+implies_by true c h = h refl
+implies_by false c h = refl
 
 -- what every running truck has
 pub judged-at : (a : Radio) (p : ℕ → Bool) → judged a p ≡ true → (i : ℕ) → i < a.trucks → a.running i ≡ true → p i ≡ true
 unfolding judged
 judged-at a p h i l r =
-    implies-mp (a.running i) (p i) (allBelow-at (λ k. implies (a.running k) (p k)) a.trucks h i l) r
+    implies_mp (a.running i) (p i) (all_below-at (λ k. implies (a.running k) (p k)) a.trucks h i l) r
 
-judged-by : (a : Radio) (p : ℕ → Bool) → ((i : ℕ) → i < a.trucks → a.running i ≡ true → p i ≡ true) → judged a p ≡ true
+judged_by : (a : Radio) (p : ℕ → Bool) → ((i : ℕ) → i < a.trucks → a.running i ≡ true → p i ≡ true) → judged a p ≡ true
 unfolding judged
-judged-by a p h =
-    allBelow-all (λ k. implies (a.running k) (p k)) a.trucks (λ k l. implies-by (a.running k) (p k) (h k l))
+judged_by a p h =
+    all_below-all (λ k. implies (a.running k) (p k)) a.trucks (λ k l. implies_by (a.running k) (p k) (h k l))
 
 module _ (a : Radio) (i : ℕ) where
   -- nothing is heard that was not sent
@@ -112,16 +112,16 @@ module _ (a : Radio) (i : ℕ) where
   hears-sends j h = and_left (a.sends j) _ h
 
   -- a sender hears itself
-  pub hears-itself : a.sends i ≡ true → hears a i i ≡ true
+  pub hears_itself : a.sends i ≡ true → hears a i i ≡ true
   unfolding hears
-  hears-itself h = and_both (a.sends i) _ h (ap (λ (b : Bool). b || not (a.lost i i)) (eq-eqb i i refl))
+  hears_itself h = and_both (a.sends i) _ h (ap (λ (b : Bool). b || not (a.lost i i)) (eq-eqb i i refl))
 
   -- who misses nothing hears all that was sent
-  pub in-full : missesAny a i ≡ false → heardBy a i ≡ who a.sends a.trucks
-  unfolding missesAny heardBy misses
-  in-full h =
-      who-ext (hears a i) a.sends a.trucks
-      (λ k l. go (hears a i k) (a.sends k) (hears-sends k) (someBelow-none (λ j. a.sends j && not (hears a i j)) a.trucks h k l))
+  pub in_full_lem : misses_any a i ≡ false → heard_by a i ≡ who a.sends a.trucks
+  unfolding misses_any heard_by misses
+  in_full_lem h =
+      who_ext (hears a i) a.sends a.trucks
+      (λ k l. go (hears a i k) (a.sends k) (hears-sends k) (some_below-none (λ j. a.sends j && not (hears a i j)) a.trucks h k l))
     where
       go : (b c : Bool) → (b ≡ true → c ≡ true) → (c && not b) ≡ false → b ≡ c
       go true true f e = refl
@@ -130,14 +130,14 @@ module _ (a : Radio) (i : ℕ) where
       go false false f e = refl
 
 -- where nobody runs a round has every class
-nobody-judged : (a : Radio) → ((j : ℕ) → j < a.trucks → a.running j ≡ false) → (p : ℕ → Bool) → judged a p ≡ true
+nobody_judged : (a : Radio) → ((j : ℕ) → j < a.trucks → a.running j ≡ false) → (p : ℕ → Bool) → judged a p ≡ true
 unfolding judged
-nobody-judged a h p = allBelow-all (λ i. implies (a.running i) (p i)) a.trucks (λ j l. ap (λ (r : Bool). implies r (p j)) (h j l))
+nobody_judged a h p = all_below-all (λ i. implies (a.running i) (p i)) a.trucks (λ j l. ap (λ (r : Bool). implies r (p j)) (h j l))
 
-pub idle-classes : (a : Radio) → ((j : ℕ) → j < a.trucks → a.running j ≡ false)
-    → (complete a ≡ true) × (majorityComplete a ≡ true) × (zeroComplete a ≡ true) × (accurate a ≡ true)
-unfolding complete majorityComplete zeroComplete accurate
-idle-classes a h = (nobody-judged a h _, nobody-judged a h _, nobody-judged a h _, nobody-judged a h _)
+pub idle_classes : (a : Radio) → ((j : ℕ) → j < a.trucks → a.running j ≡ false)
+    → (complete a ≡ true) × (majority_complete a ≡ true) × (zero_complete a ≡ true) × (accurate a ≡ true)
+unfolding complete majority_complete zero_complete accurate
+idle_classes a h = (nobody_judged a h _, nobody_judged a h _, nobody_judged a h _, nobody_judged a h _)
 
 -- a message is sent by somebody
 pub sent-none : (a : Radio) → sent a ≡ 0 → (j : ℕ) → j < a.trucks → a.sends j ≡ false
@@ -148,22 +148,22 @@ pub sent-some : (a : Radio) (j : ℕ) → j < a.trucks → a.sends j ≡ true �
 unfolding sent
 sent-some a = count-some a.sends a.trucks
 
-pub sent-by : (a : Radio) → 0 < sent a → (j : ℕ) × (j < a.trucks) × (a.sends j ≡ true)
+pub sent_by_lem : (a : Radio) → 0 < sent a → (j : ℕ) × (j < a.trucks) × (a.sends j ≡ true)
 unfolding sent
-sent-by a = count_by a.sends a.trucks
+sent_by_lem a = count_by a.sends a.trucks
 
 -- in a round in which nobody sends
-pub nobody-sends : (a : Radio) → ((j : ℕ) → j < a.trucks → a.sends j ≡ false) → sent a ≡ 0
-nobody-sends a h = go (dec_lt 0 (sent a))
+pub nobody_sends : (a : Radio) → ((j : ℕ) → j < a.trucks → a.sends j ≡ false) → sent a ≡ 0
+nobody_sends a h = go (dec_lt 0 (sent a))
   where
     go : Dec (0 < sent a) → sent a ≡ 0
-    go (yes l) = let r = sent-by a l in absurd (true≢false (sym r.2 ∙ h r.0 r.1))
+    go (yes l) = let r = sent_by_lem a l in absurd (true≢false (sym r.2 ∙ h r.0 r.1))
     go (no l) = omega arith
 
 -- nothing is heard in a silent round
-pub silent-heard : (a : Radio) (i : ℕ) → sent a ≡ 0 → heard a i ≡ 0
-unfolding heard heardBy
-silent-heard a i e = go (dec_lt 0 (count (hears a i) a.trucks))
+pub silent_heard : (a : Radio) (i : ℕ) → sent a ≡ 0 → heard a i ≡ 0
+unfolding heard heard_by
+silent_heard a i e = go (dec_lt 0 (count (hears a i) a.trucks))
   where
     go : Dec (0 < count (hears a i) a.trucks) → count (hears a i) a.trucks ≡ 0
     go (yes l) =
@@ -174,127 +174,127 @@ silent-heard a i e = go (dec_lt 0 (count (hears a i) a.trucks))
 -- two who hear more than half of the messages each hear one message in common
 pub common : (a : Radio) (i j : ℕ) → sent a < 2 * heard a i → sent a < 2 * heard a j
     → (k : ℕ) × (k < a.trucks) × (hears a i k ≡ true) × (hears a j k ≡ true)
-unfolding sent heard heardBy
-common a i j hi hj = go (someBelow both a.trucks) refl
+unfolding sent heard heard_by
+common a i j hi hj = go (some_below both a.trucks) refl
   where
     both : ℕ → Bool
     both k = hears a i k && hears a j k
 
-    go : (b : Bool) → someBelow both a.trucks ≡ b → (k : ℕ) × (k < a.trucks) × (hears a i k ≡ true) × (hears a j k ≡ true)
+    go : (b : Bool) → some_below both a.trucks ≡ b → (k : ℕ) × (k < a.trucks) × (hears a i k ≡ true) × (hears a j k ≡ true)
     go true e =
-        let s = someBelow-at both a.trucks e in
+        let s = some_below-at both a.trucks e in
         (s.0, s.1, and_left (hears a i s.0) (hears a j s.0) s.2, and_right (hears a i s.0) (hears a j s.0) s.2)
     go false e =
         absurd (omega (
           arith,
           overlap (hears a i) (hears a j) a.sends a.trucks (λ k l. hears-sends a i k) (λ k l. hears-sends a j k)
-              (λ k l p q. true≢false (sym (and_both (hears a i k) (hears a j k) p q) ∙ someBelow-none both a.trucks e k l)),
+              (λ k l p q. true≢false (sym (and_both (hears a i k) (hears a j k) p q) ∙ some_below-none both a.trucks e k l)),
         ))
 
 module _ (a : Radio) (i : ℕ) (l : i < a.trucks) (r : a.running i ≡ true) where
   -- no mark in a majority complete round with a message: more than half of the messages were heard
-  pub majority-hears : majorityComplete a ≡ true → a.marked i ≡ false → 0 < sent a → sent a < 2 * heard a i
-  unfolding majorityComplete
-  majority-hears h m s = go (leb (2 * heard a i) (sent a)) refl
+  pub majority_hears : majority_complete a ≡ true → a.marked i ≡ false → 0 < sent a → sent a < 2 * heard a i
+  unfolding majority_complete
+  majority_hears h m s = go (leb (2 * heard a i) (sent a)) refl
     where
       go : (b : Bool) → leb (2 * heard a i) (sent a) ≡ b → sent a < 2 * heard a i
       go true e =
-          absurd (false≢true (sym m ∙ implies-mp (ltb 0 (sent a) && leb (2 * heard a i) (sent a)) (a.marked i)
+          absurd (false≢true (sym m ∙ implies_mp (ltb 0 (sent a) && leb (2 * heard a i) (sent a)) (a.marked i)
           (judged-at a (λ i. implies (ltb 0 (sent a) && leb (2 * heard a i) (sent a)) (a.marked i)) h i l r)
           (and_both (ltb 0 (sent a)) (leb (2 * heard a i) (sent a)) (lt-ltb 0 (sent a) s) e)))
       go false e = leb-false (2 * heard a i) (sent a) e
 
   -- no mark in a zero complete round and nothing heard: nothing was sent
-  pub zero-silent : zeroComplete a ≡ true → a.marked i ≡ false → heard a i ≡ 0 → sent a ≡ 0
-  unfolding zeroComplete
-  zero-silent h m z = go (dec_lt 0 (sent a))
+  pub zero_silent : zero_complete a ≡ true → a.marked i ≡ false → heard a i ≡ 0 → sent a ≡ 0
+  unfolding zero_complete
+  zero_silent h m z = go (dec_lt 0 (sent a))
     where
       go : Dec (0 < sent a) → sent a ≡ 0
       go (yes s) =
-          absurd (false≢true (sym m ∙ implies-mp (ltb 0 (sent a) && eqb (heard a i) 0) (a.marked i)
+          absurd (false≢true (sym m ∙ implies_mp (ltb 0 (sent a) && eqb (heard a i) 0) (a.marked i)
           (judged-at a (λ i. implies (ltb 0 (sent a) && eqb (heard a i) 0) (a.marked i)) h i l r)
           (and_both (ltb 0 (sent a)) (eqb (heard a i) 0) (lt-ltb 0 (sent a) s) (eq-eqb (heard a i) 0 z))))
       go (no s) = omega arith
 
   -- no mark in an accurate round that was heard in full
-  pub accurate-clear : accurate a ≡ true → missesAny a i ≡ false → a.marked i ≡ false
+  pub accurate_clear : accurate a ≡ true → misses_any a i ≡ false → a.marked i ≡ false
   unfolding accurate
-  accurate-clear h m = go (a.marked i) refl
+  accurate_clear h m = go (a.marked i) refl
     where
       go : (b : Bool) → a.marked i ≡ b → b ≡ false
       go true e =
-          absurd (false≢true (sym m ∙ implies-mp (a.marked i) (missesAny a i) (judged-at a (λ i. implies (a.marked i) (missesAny a i)) h i l r) e))
+          absurd (false≢true (sym m ∙ implies_mp (a.marked i) (misses_any a i) (judged-at a (λ i. implies (a.marked i) (misses_any a i)) h i l r) e))
       go false e = refl
 
 -- nobody misses anything of a silent round
-pub silent-none : (a : Radio) (i : ℕ) → sent a ≡ 0 → missesAny a i ≡ false
-unfolding missesAny misses
-silent-none a i e =
-    none-someBelow (λ j. a.sends j && not (hears a i j)) a.trucks (λ k l. rw (sent-none a e k l))
+pub silent_none : (a : Radio) (i : ℕ) → sent a ≡ 0 → misses_any a i ≡ false
+unfolding misses_any misses
+silent_none a i e =
+    none-some_below (λ j. a.sends j && not (hears a i j)) a.trucks (λ k l. rw (sent-none a e k l))
 
 -- a majority complete round is zero complete
-pub majority-zero : (a : Radio) → majorityComplete a ≡ true → zeroComplete a ≡ true
-unfolding zeroComplete
-majority-zero a h =
-    judged-by a (λ i. implies (ltb 0 (sent a) && eqb (heard a i) 0) (a.marked i))
-    (λ i l r. implies-by (ltb 0 (sent a) && eqb (heard a i) 0) (a.marked i) (λ e. go i l r e (a.marked i) refl))
+pub majority_zero : (a : Radio) → majority_complete a ≡ true → zero_complete a ≡ true
+unfolding zero_complete
+majority_zero a h =
+    judged_by a (λ i. implies (ltb 0 (sent a) && eqb (heard a i) 0) (a.marked i))
+    (λ i l r. implies_by (ltb 0 (sent a) && eqb (heard a i) 0) (a.marked i) (λ e. go i l r e (a.marked i) refl))
   where
     go : (i : ℕ) → i < a.trucks → a.running i ≡ true → (ltb 0 (sent a) && eqb (heard a i) 0) ≡ true → (b : Bool) → a.marked i ≡ b → b ≡ true
     go i l r e true m = refl
     go i l r e false m =
         absurd (omega (
           arith,
-          majority-hears a i l r h m (ltb-true 0 (sent a) (and_left (ltb 0 (sent a)) (eqb (heard a i) 0) e)),
+          majority_hears a i l r h m (ltb-true 0 (sent a) (and_left (ltb 0 (sent a)) (eqb (heard a i) 0) e)),
           eqb-true (heard a i) 0 (and_right (ltb 0 (sent a)) (eqb (heard a i) 0) e),
         ))
 
 -- what a calm round with one to b senders is to a running truck: it has no mark and hears all that was sent
-pub calm-hears : (b : ℕ) (proposes : Bool) (a : Radio) (i : ℕ) → i < a.trucks → a.running i ≡ true → calmRound b proposes a ≡ true
-    → fewSenders b a ≡ true → (a.marked i ≡ false) × (heardBy a i ≡ who a.sends a.trucks)
-unfolding calmRound inFull
+pub calm-hears : (b : ℕ) (proposes : Bool) (a : Radio) (i : ℕ) → i < a.trucks → a.running i ≡ true → calm_round b proposes a ≡ true
+    → few_senders b a ≡ true → (a.marked i ≡ false) × (heard_by a i ≡ who a.sends a.trucks)
+unfolding calm_round in_full
 calm-hears b proposes a i l r c f =
-    let two = and_left (accurate a && implies (fewSenders b a) (inFull a)) (implies (proposes && someRunning a) (fewSenders b a)) c in
-    let all = implies-mp (fewSenders b a) (inFull a) (and_right (accurate a) (implies (fewSenders b a) (inFull a)) two) f in
-    let none = not-true (missesAny a i) (judged-at a (λ i. not (missesAny a i)) all i l r) in
-    (accurate-clear a i l r (and_left (accurate a) (implies (fewSenders b a) (inFull a)) two) none, in-full a i none)
+    let two = and_left (accurate a && implies (few_senders b a) (in_full a)) (implies (proposes && some_running a) (few_senders b a)) c in
+    let all = implies_mp (few_senders b a) (in_full a) (and_right (accurate a) (implies (few_senders b a) (in_full a)) two) f in
+    let none = not-true (misses_any a i) (judged-at a (λ i. not (misses_any a i)) all i l r) in
+    (accurate_clear a i l r (and_left (accurate a) (implies (few_senders b a) (in_full a)) two) none, in_full_lem a i none)
 
 -- a calm round for proposals with a truck running has one to b senders
-pub calm-few : (b : ℕ) (a : Radio) (i : ℕ) → i < a.trucks → a.running i ≡ true → calmRound b true a ≡ true → fewSenders b a ≡ true
-unfolding calmRound someRunning
+pub calm-few : (b : ℕ) (a : Radio) (i : ℕ) → i < a.trucks → a.running i ≡ true → calm_round b true a ≡ true → few_senders b a ≡ true
+unfolding calm_round some_running
 calm-few b a i l r c =
-    implies-mp (someRunning a) (fewSenders b a)
-    (and_right (accurate a && implies (fewSenders b a) (inFull a)) (implies (someRunning a) (fewSenders b a)) c)
-    (someBelow-by a.running a.trucks i l r)
+    implies_mp (some_running a) (few_senders b a)
+    (and_right (accurate a && implies (few_senders b a) (in_full a)) (implies (some_running a) (few_senders b a)) c)
+    (some_below_by a.running a.trucks i l r)
 
-pub few-some : (b : ℕ) (a : Radio) → fewSenders b a ≡ true → 0 < sent a
-unfolding fewSenders
+pub few-some : (b : ℕ) (a : Radio) → few_senders b a ≡ true → 0 < sent a
+unfolding few_senders
 few-some b a h = ltb-true 0 (sent a) (and_left (ltb 0 (sent a)) (leb (sent a) b) h)
 
 -- a calm round is accurate
-pub calm-accurate : (b : ℕ) (proposes : Bool) (a : Radio) → calmRound b proposes a ≡ true → accurate a ≡ true
-unfolding calmRound
+pub calm-accurate : (b : ℕ) (proposes : Bool) (a : Radio) → calm_round b proposes a ≡ true → accurate a ≡ true
+unfolding calm_round
 calm-accurate b proposes a c =
-    and_left (accurate a) (implies (fewSenders b a) (inFull a))
-    (and_left (accurate a && implies (fewSenders b a) (inFull a)) (implies (proposes && someRunning a) (fewSenders b a)) c)
+    and_left (accurate a) (implies (few_senders b a) (in_full a))
+    (and_left (accurate a && implies (few_senders b a) (in_full a)) (implies (proposes && some_running a) (few_senders b a)) c)
 
 -- the rounds S to S + d are calm with b
 abbrev pub CalmRounds : ℕ → (ℕ → Bool) → (ℕ → Radio) → ℕ → ℕ → Type 0
-CalmRounds d proposes radios S b = (k : ℕ) → S ≤ k → k ≤ S + d → calmRound b (proposes k) (radios k) ≡ true
+CalmRounds d proposes radios S b = (k : ℕ) → S ≤ k → k ≤ S + d → calm_round b (proposes k) (radios k) ≡ true
 
 -- what calm says, round by round
-pub calm-parts : (d : ℕ) (proposes : ℕ → Bool) (radios : ℕ → Radio) (R S b : ℕ) → calmFor d proposes radios R S b ≡ true
+pub calm_parts : (d : ℕ) (proposes : ℕ → Bool) (radios : ℕ → Radio) (R S b : ℕ) → calm_for d proposes radios R S b ≡ true
     → (1 ≤ S) × (S + d ≤ R) × CalmRounds d proposes radios S b
-unfolding calmFor
-calm-parts d proposes radios R S b h =
+unfolding calm_for
+calm_parts d proposes radios R S b h =
     let front = and_left (leb 1 S && leb (S + d) R) (all_below round (suc d)) h in (
       leb-true 1 S (and_left (leb 1 S) (leb (S + d) R) front),
       leb-true (S + d) R (and_right (leb 1 S) (leb (S + d) R) front),
-      λ k s l. subst (λ (j : ℕ). calmRound b (proposes j) (radios j) ≡ true) (let e : S + (k - S) ≡ k = omega arith in e)
-          (allBelow-at round (suc d) (and_right (leb 1 S && leb (S + d) R) (all_below round (suc d)) h) (k - S) (omega arith)),
+      λ k s l. subst (λ (j : ℕ). calm_round b (proposes j) (radios j) ≡ true) (let e : S + (k - S) ≡ k = omega arith in e)
+          (all_below-at round (suc d) (and_right (leb 1 S && leb (S + d) R) (all_below round (suc d)) h) (k - S) (omega arith)),
     )
   where
     round : ℕ → Bool
-    round e = calmRound b (proposes (S + e)) (radios (S + e))
+    round e = calm_round b (proposes (S + e)) (radios (S + e))
 
 -- what the first break of a class says: 0 that there is none, any other number which round it is
 module _ (class : Radio → Bool) (radios : ℕ → Radio) (R : ℕ) where
@@ -307,17 +307,17 @@ module _ (class : Radio → Bool) (radios : ℕ → Radio) (R : ℕ) where
       subst (λ (j : ℕ). class (radios j) ≡ true) (let e : suc (k - 1) ≡ k = omega arith in e)
       (not-false (class (radios (suc (k - 1)))) (first-before breaks R (k - 1) (omega arith)))
 
-  pub break-never : firstBreak class radios R ≡ 0 → (k : ℕ) → 1 ≤ k → k ≤ R → class (radios k) ≡ true
-  unfolding firstBreak
-  break-never h k s l = go (ltb (first breaks R) R) refl h
+  pub break_never : first_break class radios R ≡ 0 → (k : ℕ) → 1 ≤ k → k ≤ R → class (radios k) ≡ true
+  unfolding first_break
+  break_never h k s l = go (ltb (first breaks R) R) refl h
     where
       go : (b : Bool) → ltb (first breaks R) R ≡ b → cond b (suc (first breaks R)) 0 ≡ 0 → class (radios k) ≡ true
       go true e z = absurd (omega arith)
       go false e z = unbroken k s (omega (arith, ltb-false (first breaks R) R e))
 
-  pub break-first : (firstBreak class radios R ≡ 0 → ⊥) → FirstToBreak class radios R (firstBreak class radios R)
-  unfolding firstBreak
-  break-first h = go (ltb (first breaks R) R) refl h
+  pub break_first : (first_break class radios R ≡ 0 → ⊥) → FirstToBreak class radios R (first_break class radios R)
+  unfolding first_break
+  break_first h = go (ltb (first breaks R) R) refl h
     where
       go : (b : Bool) → ltb (first breaks R) R ≡ b → (cond b (suc (first breaks R)) 0 ≡ 0 → ⊥) → FirstToBreak class radios R (cond b (suc (first breaks R)) 0)
       go true e z =

@@ -1,7 +1,7 @@
 -- One round on the radio, and what a mark is worth (document 01, 'What a mark is worth').
 -- A protocol says who is running and who sends; all else here holds for any of them.
 use Rattle.std.specs.Prelude.{ℕ, suc, ◌+◌, ◌*◌, ◌≤◌, ◌<◌, ◌≡◌, Bool, true, false, cond, not, ◌&&◌, ◌||◌, List, eqb, leb, ltb, length}
-use Rattle.basics.specs.Lists.{who, all_below, someBelow, first}
+use Rattle.basics.specs.Lists.{who, all_below, some_below, first}
 
 pub record Radio : Type 0 where
   -- n: trucks are numbered from 0
@@ -28,20 +28,20 @@ unfoldable pub hears : Radio → ℕ → ℕ → Bool
 hears a i j = a.sends j && (eqb i j || not (a.lost i j))
 
 -- the trucks that truck i hears
-unfoldable pub heardBy : Radio → ℕ → List ℕ
-heardBy a i = who (hears a i) a.trucks
+unfoldable pub heard_by : Radio → ℕ → List ℕ
+heard_by a i = who (hears a i) a.trucks
 
 -- how many messages truck i hears
 unfoldable pub heard : Radio → ℕ → ℕ
-heard a i = length (heardBy a i)
+heard a i = length (heard_by a i)
 
 -- truck i misses what truck j sent
 unfoldable pub misses : Radio → ℕ → ℕ → Bool
 misses a i j = a.sends j && not (hears a i j)
 
 -- truck i misses some message; it hears the round in full if it misses none
-unfoldable pub missesAny : Radio → ℕ → Bool
-missesAny a i = someBelow (misses a i) a.trucks
+unfoldable pub misses_any : Radio → ℕ → Bool
+misses_any a i = some_below (misses a i) a.trucks
 
 -- every running truck has p: only running trucks are judged
 unfoldable pub judged : Radio → (ℕ → Bool) → Bool
@@ -49,45 +49,45 @@ judged a p = all_below (λ i. implies (a.running i) (p i)) a.trucks
 
 -- complete: a truck that misses any message has a mark
 unfoldable pub complete : Radio → Bool
-complete a = judged a (λ i. implies (missesAny a i) (a.marked i))
+complete a = judged a (λ i. implies (misses_any a i) (a.marked i))
 
 -- majority complete: if M is above 0, a truck hearing at most M/2 messages has a mark
-unfoldable pub majorityComplete : Radio → Bool
-majorityComplete a = judged a (λ i. implies (ltb 0 (sent a) && leb (2 * heard a i) (sent a)) (a.marked i))
+unfoldable pub majority_complete : Radio → Bool
+majority_complete a = judged a (λ i. implies (ltb 0 (sent a) && leb (2 * heard a i) (sent a)) (a.marked i))
 
 -- zero complete: if M is above 0, a truck hearing none has a mark
-unfoldable pub zeroComplete : Radio → Bool
-zeroComplete a = judged a (λ i. implies (ltb 0 (sent a) && eqb (heard a i) 0) (a.marked i))
+unfoldable pub zero_complete : Radio → Bool
+zero_complete a = judged a (λ i. implies (ltb 0 (sent a) && eqb (heard a i) 0) (a.marked i))
 
 -- accurate: a truck with a mark missed some message (a false mark is one that breaks this)
 unfoldable pub accurate : Radio → Bool
-accurate a = judged a (λ i. implies (a.marked i) (missesAny a i))
+accurate a = judged a (λ i. implies (a.marked i) (misses_any a i))
 
 -- one to b senders
-unfoldable pub fewSenders : ℕ → Radio → Bool
-fewSenders b a = ltb 0 (sent a) && leb (sent a) b
+unfoldable pub few_senders : ℕ → Radio → Bool
+few_senders b a = ltb 0 (sent a) && leb (sent a) b
 
 -- every running truck hears the round in full
-unfoldable pub inFull : Radio → Bool
-inFull a = judged a (λ i. not (missesAny a i))
+unfoldable pub in_full : Radio → Bool
+in_full a = judged a (λ i. not (misses_any a i))
 
 -- some truck is running
-unfoldable pub someRunning : Radio → Bool
-someRunning a = someBelow a.running a.trucks
+unfoldable pub some_running : Radio → Bool
+some_running a = some_below a.running a.trucks
 
 -- a calm round: no mark is false; one to b senders are heard in full; and a round for proposals with a truck running has one to b senders
-unfoldable pub calmRound : ℕ → Bool → Radio → Bool
-calmRound b proposes a =
-    accurate a && implies (fewSenders b a) (inFull a) && implies (proposes && someRunning a) (fewSenders b a)
+unfoldable pub calm_round : ℕ → Bool → Radio → Bool
+calm_round b proposes a =
+    accurate a && implies (few_senders b a) (in_full a) && implies (proposes && some_running a) (few_senders b a)
 
 -- rounds S to S + d are among the rounds 1 to R and calm with b; `proposes` says of a round's number whether it is for proposals
-unfoldable pub calmFor : ℕ → (ℕ → Bool) → (ℕ → Radio) → ℕ → ℕ → ℕ → Bool
-calmFor d proposes radios R S b =
-    leb 1 S && leb (S + d) R && all_below (λ e. calmRound b (proposes (S + e)) (radios (S + e))) (suc d)
+unfoldable pub calm_for : ℕ → (ℕ → Bool) → (ℕ → Radio) → ℕ → ℕ → ℕ → Bool
+calm_for d proposes radios R S b =
+    leb 1 S && leb (S + d) R && all_below (λ e. calm_round b (proposes (S + e)) (radios (S + e))) (suc d)
 
 -- the first of the rounds 1 to R that breaks a class, or 0
-unfoldable pub firstBreak : (Radio → Bool) → (ℕ → Radio) → ℕ → ℕ
-firstBreak class radios R =
+unfoldable pub first_break : (Radio → Bool) → (ℕ → Radio) → ℕ → ℕ
+first_break class radios R =
     let k = first (λ e. not (class (radios (suc e)))) R in
     cond (ltb k R) (suc k) 0
 
@@ -99,5 +99,5 @@ pub record FirstToBreak (class : Radio → Bool) (radios : ℕ → Radio) (R k :
   pub before : (j : ℕ) → 1 ≤ j → j < k → class (radios j) ≡ true
 
 -- in how many of the rounds 1 to R that are of a kind truck i sends
-unfoldable pub timesSent : (ℕ → Bool) → (ℕ → Radio) → ℕ → ℕ → ℕ
-timesSent kind radios i R = length (who (λ e. kind (suc e) && (radios (suc e)).sends i) R)
+unfoldable pub times_sent : (ℕ → Bool) → (ℕ → Radio) → ℕ → ℕ → ℕ
+times_sent kind radios i R = length (who (λ e. kind (suc e) && (radios (suc e)).sends i) R)

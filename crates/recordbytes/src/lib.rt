@@ -1,17 +1,17 @@
 // A fleet record as 323 bytes, for callers in other languages. specs/Layout says which byte is what.
 ghost use Rattle.std.specs.Prelude.{◌≡◌, false, [], ◌+◌, ◌*◌, ◌≤◌, ◌<◌, length, get_or};
 ghost use Rattle.std.proofs.lemmas.List.Edits.{sets};
-ghost use Rattle.basics.specs.Lists.{someBelow, filled};
-ghost use Rattle.recording.specs.Checks.{badTrucks};
-ghost use Rattle.protocol.specs.Runs.{openedTrucks};
-ghost use Rattle.recordbytes.specs.Layout.{size_for, heardByte, stateByte, roundOf, truckBytes, recordByte, packCheck, packFor, packedRecord, packedWhole};
-ghost use Rattle.recordbytes.specs.Layout.{heardOfByte, stateOfByte, pair_of, placeByte, placeRound, truckAt, truckIn, withTruck, damagedAt, damaged, recordOf, unpacked};
+ghost use Rattle.basics.specs.Lists.{some_below, filled};
+ghost use Rattle.recording.specs.Checks.{bad_trucks};
+ghost use Rattle.protocol.specs.Runs.{opened_trucks};
+ghost use Rattle.recordbytes.specs.Layout.{size_for, heard_byte, state_byte, round_of, truck_bytes, record_byte, pack_check, pack_for, packed_record, packed_whole};
+ghost use Rattle.recordbytes.specs.Layout.{heard_of_byte, state_of_byte, pair_of, place_byte, place_round, truck_at, truck_in, with_truck, damaged_at, damaged, record_of, unpacked};
 
 use protocol::{Answer, Fleet, Heard, Sent, State, Truck};
 use refusals::{Outcome, Refusal};
 
 fn heard_byte(h: Heard) -> u8
-    ensures { result ≡ heardByte h }
+    ensures { result ≡ heard_byte h }
 {
     match h {
         Heard::Nothing => 0,
@@ -21,7 +21,7 @@ fn heard_byte(h: Heard) -> u8
 }
 
 fn state_byte(s: State) -> u8
-    ensures { result ≡ stateByte s }
+    ensures { result ≡ state_byte s }
 {
     match s {
         State::Running => 0,
@@ -31,7 +31,7 @@ fn state_byte(s: State) -> u8
 }
 
 fn round_of(s: State) -> u16
-    ensures { result ≡ roundOf s }
+    ensures { result ≡ round_of s }
 {
     match s {
         State::Running => 0,
@@ -43,7 +43,7 @@ fn round_of(s: State) -> u16
 // Puts the ten bytes of a truck from place `at` of a buffer on.
 fn put_truck(d: &mut [u8], at: usize, t: Truck)
     requires { at + 10 ≤ length d.old }
-    ensures { d.new ≡ sets d.old at (truckBytes t) }
+    ensures { d.new ≡ sets d.old at (truck_bytes t) }
 {
     let heard = t.heard;
     let state = t.state;
@@ -64,7 +64,7 @@ fn put_truck(d: &mut [u8], at: usize, t: Truck)
 // Puts the head and the first m places of a record into a buffer that has room for all.
 fn put(f: Fleet, m: usize, d: &mut [u8])
     requires { (m ≤ 32) × (size_for 32 ≤ length d.old) }
-    ensures { d.new ≡ filled (recordByte f) (size_for m) d.old }
+    ensures { d.new ≡ filled (record_byte f) (size_for m) d.old }
 {
     d[0] = f.n;
     d[1] = (f.done % 256) as u8;
@@ -79,7 +79,7 @@ fn put(f: Fleet, m: usize, d: &mut [u8])
 
 // Refusals 7 and 9 of a record of n trucks and a buffer of some bytes.
 fn check(n: u8, room: usize) -> Outcome
-    ensures { result ≡ packCheck n room }
+    ensures { result ≡ pack_check n room }
 {
     if recording::bad_trucks(n) {
         return Outcome::Refused(Refusal::Record);
@@ -92,9 +92,9 @@ fn check(n: u8, room: usize) -> Outcome
 
 // Puts the head and the first m places of a record, where 7 and 9 let it pass.
 fn pack_places(f: Fleet, m: usize, d: &mut [u8]) -> Outcome
-    requires { badTrucks f.n ≡ false → m ≤ 32 }
-    ensures answer { result ≡ packCheck f.n (length d.old) }
-    ensures buffer { d.new ≡ packFor (packCheck f.n (length d.old)) m f d.old }
+    requires { bad_trucks f.n ≡ false → m ≤ 32 }
+    ensures answer { result ≡ pack_check f.n (length d.old) }
+    ensures buffer { d.new ≡ pack_for (pack_check f.n (length d.old)) m f d.old }
 {
     let c = check(f.n, d.len());
     match c {
@@ -108,8 +108,8 @@ fn pack_places(f: Fleet, m: usize, d: &mut [u8]) -> Outcome
 
 // Brings the bytes of a record up to date: places n and above stay as they are.
 pub fn pack(f: Fleet, d: &mut [u8]) -> Outcome
-    ensures answer { result ≡ packCheck f.n (length d.old) }
-    ensures buffer { d.new ≡ packedRecord f d.old }
+    ensures answer { result ≡ pack_check f.n (length d.old) }
+    ensures buffer { d.new ≡ packed_record f d.old }
 {
     let n = f.n;
     pack_places(f, n as usize, d)
@@ -117,14 +117,14 @@ pub fn pack(f: Fleet, d: &mut [u8]) -> Outcome
 
 // Puts a whole record, all 32 places.
 pub fn pack_whole(f: Fleet, d: &mut [u8]) -> Outcome
-    ensures answer { result ≡ packCheck f.n (length d.old) }
-    ensures buffer { d.new ≡ packedWhole f d.old }
+    ensures answer { result ≡ pack_check f.n (length d.old) }
+    ensures buffer { d.new ≡ packed_whole f d.old }
 {
     pack_places(f, 32, d)
 }
 
 fn heard_of(b: u8) -> Heard
-    ensures { result ≡ heardOfByte b }
+    ensures { result ≡ heard_of_byte b }
 {
     if b == 1 {
         return Heard::One;
@@ -136,7 +136,7 @@ fn heard_of(b: u8) -> Heard
 }
 
 fn state_of(b: u8, k: u16) -> State
-    ensures { result ≡ stateOfByte b k }
+    ensures { result ≡ state_of_byte b k }
 {
     if b == 1 {
         return State::Stopped(k);
@@ -150,7 +150,7 @@ fn state_of(b: u8, k: u16) -> State
 // Byte j of place i.
 fn place_byte(d: &[u8], i: usize, j: usize) -> u8
     requires { (i < 32) × ((j < 10) × (size_for 32 ≤ length d.now)) }
-    ensures { result ≡ placeByte d.now i j }
+    ensures { result ≡ place_byte d.now i j }
 {
     d[3 + 10 * i + j]
 }
@@ -164,14 +164,14 @@ pub fn pair(low: u8, high: u8) -> u16
 
 fn place_round(d: &[u8], i: usize) -> u16
     requires { (i < 32) × (size_for 32 ≤ length d.now) }
-    ensures { result ≡ placeRound d.now i }
+    ensures { result ≡ place_round d.now i }
 {
     pair(place_byte(d, i, 5), place_byte(d, i, 6))
 }
 
 fn truck_at(d: &[u8], i: usize) -> Truck
     requires { (i < 32) × (size_for 32 ≤ length d.now) }
-    ensures { result ≡ truckAt d.now i }
+    ensures { result ≡ truck_at d.now i }
 {
     let heard = heard_of(place_byte(d, i, 3));
     let state = state_of(place_byte(d, i, 4), place_round(d, i));
@@ -192,7 +192,7 @@ fn truck_at(d: &[u8], i: usize) -> Truck
 
 fn damaged_at(d: &[u8], i: usize) -> bool
     requires { (i < 32) × (size_for 32 ≤ length d.now) }
-    ensures { result ≡ damagedAt d.now i }
+    ensures { result ≡ damaged_at d.now i }
 {
     let mark = place_byte(d, i, 2);
     let heard = place_byte(d, i, 3);
@@ -205,7 +205,7 @@ fn damaged_at(d: &[u8], i: usize) -> bool
 // Some place below n is damaged.
 fn some_damaged(d: &[u8], n: u8) -> bool
     requires { (n ≤ 32) × (size_for 32 ≤ length d.now) }
-    ensures { result ≡ someBelow (damagedAt d.now) n }
+    ensures { result ≡ some_below (damaged_at d.now) n }
 {
     let m = n as usize;
     let mut i = 0;
@@ -221,7 +221,7 @@ fn some_damaged(d: &[u8], n: u8) -> bool
 // The trucks of the places below n, among those of a record of no trucks.
 fn with_trucks(d: &[u8], n: u8) -> [Truck; 32]
     requires { (n ≤ 32) × (size_for 32 ≤ length d.now) }
-    ensures { result ≡ filled (truckAt d.now) n (openedTrucks []) }
+    ensures { result ≡ filled (truck_at d.now) n (opened_trucks []) }
 {
     let m = n as usize;
     let none = fleetrecord::blank();
@@ -237,7 +237,7 @@ fn with_trucks(d: &[u8], n: u8) -> [Truck; 32]
 
 fn record_of(d: &[u8]) -> Fleet
     requires { (get_or d.now 0 0 ≤ 32) × (size_for 32 ≤ length d.now) }
-    ensures { result ≡ recordOf d.now }
+    ensures { result ≡ record_of d.now }
 {
     let n = d[0];
     let trucks = with_trucks(d, n);
@@ -278,7 +278,7 @@ pub fn unpack(d: &[u8]) -> Answer
 
 // The truck of a place, for a caller that takes no whole record.
 pub fn truck_in(d: &[u8], i: usize) -> Truck
-    ensures { result ≡ truckIn d.now i }
+    ensures { result ≡ truck_in d.now i }
 {
     if (d.len() < 323) | (32 <= i) {
         return fleetrecord::opened(0);
@@ -288,7 +288,7 @@ pub fn truck_in(d: &[u8], i: usize) -> Truck
 
 // Puts a truck into a place.
 pub fn put_in(d: &mut [u8], i: usize, t: Truck)
-    ensures { d.new ≡ withTruck d.old i t }
+    ensures { d.new ≡ with_truck d.old i t }
 {
     if (d.len() < 323) | (32 <= i) {
         return;

@@ -12,25 +12,25 @@ use lib.Dec.{eqb, lit<}
 use lib.ListN.{length, get_or, set, replicate}
 use lib.Seq.{get_or-set_same, get_or-set_other}
 use Rattle.basics.specs.Bits.{digit, bit}
-use Rattle.basics.specs.Lists.{all_below, someBelow}
-use Rattle.basics.proofs.Laws.{zeros, and_left, and_right, and_both, allBelow-at, someBelow-at, someBelow-by, some-none, some_more, some-ext}
+use Rattle.basics.specs.Lists.{all_below, some_below}
+use Rattle.basics.proofs.Laws.{zeros, and_left, and_right, and_both, all_below-at, some_below-at, some_below_by, some-none, some_more, some_ext}
 use Rattle.basics.proofs.Bits.{bit-and, bit-or}
-use Rattle.bitreader.proofs.Digits.{digit_lt, numAt-is, bitAt-byte}
-use Rattle.recording.specs.Packed.{bitAt, roundPlace}
-use Rattle.recording.proofs.Searches.{number-tests, ownPacked, within-rows}
+use Rattle.bitreader.proofs.Digits.{digit_lt, num_at_is, bit_at_byte}
+use Rattle.recording.specs.Packed.{bit_at, round_place}
+use Rattle.recording.proofs.Searches.{number_tests, own_packed, within_rows}
 
 -- ---- the mask
 -- bit e of a byte, counted from the left, in which bit d alone is 1
-all-single : all_below (λ d. all_below (λ e. eqb (digit (128 / 2 ^ d) (7 - e)) (cond (eqb e d) 1 0)) 8) 8 ≡ true
+all_single : all_below (λ d. all_below (λ e. eqb (digit (128 / 2 ^ d) (7 - e)) (cond (eqb e d) 1 0)) 8) 8 ≡ true
 unfolding all_below
-all-single = refl
+all_single = refl
 
-single-bit : (d e : ℕ) → d < 8 → e < 8 → bit (128 / 2 ^ d) (7 - e) ≡ eqb e d
-single-bit d e h l =
+single_bit : (d e : ℕ) → d < 8 → e < 8 → bit (128 / 2 ^ d) (7 - e) ≡ eqb e d
+single_bit d e h l =
     ap (λ (x : ℕ). eqb x 1)
     (eqb-true (digit (128 / 2 ^ d) (7 - e)) (cond (eqb e d) 1 0)
-    (allBelow-at (λ e. eqb (digit (128 / 2 ^ d) (7 - e)) (cond (eqb e d) 1 0)) 8
-    (allBelow-at (λ d. all_below (λ e. eqb (digit (128 / 2 ^ d) (7 - e)) (cond (eqb e d) 1 0)) 8) 8 all-single d h) e l))
+    (all_below-at (λ e. eqb (digit (128 / 2 ^ d) (7 - e)) (cond (eqb e d) 1 0)) 8
+    (all_below-at (λ d. all_below (λ e. eqb (digit (128 / 2 ^ d) (7 - e)) (cond (eqb e d) 1 0)) 8) 8 all_single d h) e l))
     ∙ go (eqb e d)
   where
     go : (b : Bool) → eqb (cond b 1 0) 1 ≡ b
@@ -41,39 +41,39 @@ single-bit d e h l =
 abbrev with : List ℕ → ℕ → List ℕ
 with mask p = set mask (p / 8) (bit_or (get_or mask (p / 8) 0) (128 / 2 ^ (p % 8)))
 
-bit-set : (mask : List ℕ) (p q : ℕ) → p / 8 < length mask → eqb (bitAt (with mask p) q) 1 ≡ (eqb (bitAt mask q) 1 || eqb q p)
-unfolding bitAt
+bit-set : (mask : List ℕ) (p q : ℕ) → p / 8 < length mask → eqb (bit_at (with mask p) q) 1 ≡ (eqb (bit_at mask q) 1 || eqb q p)
+unfolding bit_at
 bit-set mask p q l = go (ℕ_discrete (q / 8) (p / 8))
   where
     same : q / 8 ≡ p / 8 → Dec (q % 8 ≡ p % 8) → eqb (q % 8) (p % 8) ≡ eqb q p
     same e (yes s) = eq-eqb (q % 8) (p % 8) s ∙ sym (eq-eqb q p (omega arith))
     same e (no s) = ne_eqb (q % 8) (p % 8) s ∙ sym (ne_eqb q p (λ z. s (ap (λ (x : ℕ). x % 8) z)))
 
-    go : Dec (q / 8 ≡ p / 8) → eqb (bitAt (with mask p) q) 1 ≡ (eqb (bitAt mask q) 1 || eqb q p)
+    go : Dec (q / 8 ≡ p / 8) → eqb (bit_at (with mask p) q) 1 ≡ (eqb (bit_at mask q) 1 || eqb q p)
     go (yes e) =
         ap (λ (j : ℕ). bit (get_or (with mask p) j 0) (7 - q % 8)) e
         ∙ ap (λ (x : ℕ). bit x (7 - q % 8)) (get_or-set_same mask (p / 8) (bit_or (get_or mask (p / 8) 0) (128 / 2 ^ (p % 8))) 0 l)
         ∙ bit-or (get_or mask (p / 8) 0) (128 / 2 ^ (p % 8)) (7 - q % 8)
         ∙ ap₂ ◌||◌ (ap (λ (j : ℕ). bit (get_or mask j 0) (7 - q % 8)) (sym e))
-        (single-bit (p % 8) (q % 8) (mod-lt p (lit< tt)) (mod-lt q (lit< tt)) ∙ same e (ℕ_discrete (q % 8) (p % 8)))
+        (single_bit (p % 8) (q % 8) (mod-lt p (lit< tt)) (mod-lt q (lit< tt)) ∙ same e (ℕ_discrete (q % 8) (p % 8)))
     go (no e) =
         ap (λ (x : ℕ). bit x (7 - q % 8)) (get_or-set_other mask (p / 8) (q / 8) (bit_or (get_or mask (p / 8) 0) (128 / 2 ^ (p % 8))) 0 e)
-        ∙ sym (or-false (eqb (bitAt mask q) 1))
-        ∙ ap (λ (b : Bool). eqb (bitAt mask q) 1 || b) (sym (ne_eqb q p (λ s. e (ap (λ (x : ℕ). x / 8) s))))
+        ∙ sym (or-false (eqb (bit_at mask q) 1))
+        ∙ ap (λ (b : Bool). eqb (bit_at mask q) 1 || b) (sym (ne_eqb q p (λ s. e (ap (λ (x : ℕ). x / 8) s))))
 
 -- the bits of a mask are those of the first i trucks, of which the first stands at a place
 abbrev pub OwnMask : List ℕ → ℕ → ℕ → ℕ → Type 0
-OwnMask mask at n i = (q : ℕ) → eqb (bitAt mask q) 1 ≡ someBelow (λ k. eqb q (at + k * (n + 1))) i
+OwnMask mask at n i = (q : ℕ) → eqb (bit_at mask q) 1 ≡ some_below (λ k. eqb q (at + k * (n + 1))) i
 
-pub mask-begins : (m at n : ℕ) → OwnMask (replicate m 0) at n 0
-unfolding bitAt
-mask-begins m at n q =
+pub mask_begins : (m at n : ℕ) → OwnMask (replicate m 0) at n 0
+unfolding bit_at
+mask_begins m at n q =
     ap (λ (x : ℕ). bit x (7 - q % 8)) (zeros m (q / 8))
     ∙ ap (λ (x : ℕ). eqb (x % 2) 1) (zero-div (2 ^ (7 - q % 8)))
     ∙ sym (some-none (λ k. eqb q (at + k * (n + 1))))
 
-pub mask-more : (mask : List ℕ) (at n i p : ℕ) → p / 8 < length mask → p ≡ at + i * (n + 1) → OwnMask mask at n i → OwnMask (with mask p) at n (i + 1)
-mask-more mask at n i p l e h q =
+pub mask_more : (mask : List ℕ) (at n i p : ℕ) → p / 8 < length mask → p ≡ at + i * (n + 1) → OwnMask mask at n i → OwnMask (with mask p) at n (i + 1)
+mask_more mask at n i p l e h q =
     bit-set mask p q l
     ∙ ap₂ ◌||◌ (h q) (ap (eqb q) e)
     ∙ some_more (λ k. eqb q (at + k * (n + 1))) i
@@ -83,25 +83,25 @@ abbrev pub masked : List ℕ → ℕ → List ℕ → ℕ → Bool
 masked s b mask j = not (eqb (bit_and (get_or s (b + j) 0) (get_or mask j 0)) 0)
 
 -- a union is 0 exactly where both are
-or-tests : (a b : ℕ) → not (eqb (bit_or a b) 0) ≡ (not (eqb a 0) || not (eqb b 0))
-or-tests a b = go (ℕ_discrete a 0) (ℕ_discrete b 0)
+or_tests : (a b : ℕ) → not (eqb (bit_or a b) 0) ≡ (not (eqb a 0) || not (eqb b 0))
+or_tests a b = go (ℕ_discrete a 0) (ℕ_discrete b 0)
   where
     go : Dec (a ≡ 0) → Dec (b ≡ 0) → not (eqb (bit_or a b) 0) ≡ (not (eqb a 0) || not (eqb b 0))
     go (yes x) (yes y) = rw (eq-eqb a 0 x, eq-eqb b 0 y, eq-eqb (bit_or a b) 0 (omega (arith, or_add_and a b)))
     go (yes x) (no y) = rw (eq-eqb a 0 x, ne_eqb b 0 y, ne_eqb (bit_or a b) 0 (λ z. y (omega (arith, or_add_and a b, and_le_l a b))))
     go (no x) y = rw (ne_eqb a 0 x, ne_eqb (bit_or a b) 0 (λ z. x (omega (arith, or_add_and a b, and_le_r a b))))
 
-pub masked-more : (s : List ℕ) (b : ℕ) (mask : List ℕ) (j any : ℕ) → not (eqb any 0) ≡ someBelow (masked s b mask) j
-    → not (eqb (bit_or any (bit_and (get_or s (b + j) 0) (get_or mask j 0))) 0) ≡ someBelow (masked s b mask) (j + 1)
-masked-more s b mask j any h =
-    or-tests any (bit_and (get_or s (b + j) 0) (get_or mask j 0)) ∙ ap (λ (x : Bool). x || masked s b mask j) h ∙ some_more (masked s b mask) j
+pub masked_more : (s : List ℕ) (b : ℕ) (mask : List ℕ) (j any : ℕ) → not (eqb any 0) ≡ some_below (masked s b mask) j
+    → not (eqb (bit_or any (bit_and (get_or s (b + j) 0) (get_or mask j 0))) 0) ≡ some_below (masked s b mask) (j + 1)
+masked_more s b mask j any h =
+    or_tests any (bit_and (get_or s (b + j) 0) (get_or mask j 0)) ∙ ap (λ (x : Bool). x || masked s b mask j) h ∙ some_more (masked s b mask) j
 
 -- a byte is 0 exactly where each of its bits is
-byte-tests : (v : ℕ) → v < 256 → not (eqb v 0) ≡ someBelow (λ k. bit v (8 - suc k)) 8
-byte-tests v h =
-    number-tests (λ i. digit v (8 - suc i)) (λ i. digit_lt v (8 - suc i)) 0 8 v
-    (sym (numAt-is (λ i. digit v (8 - suc i)) (λ i. digit_lt v (8 - suc i)) 0 8 v h (λ i l. ap (λ (k : ℕ). digit v (8 - suc k)) (zero-add i))))
-    ∙ some-ext (λ k. bit v (8 - suc (0 + k))) (λ k. bit v (8 - suc k)) 8 (λ k l. ap (λ (x : ℕ). bit v (8 - suc x)) (zero-add k))
+byte_tests : (v : ℕ) → v < 256 → not (eqb v 0) ≡ some_below (λ k. bit v (8 - suc k)) 8
+byte_tests v h =
+    number_tests (λ i. digit v (8 - suc i)) (λ i. digit_lt v (8 - suc i)) 0 8 v
+    (sym (num_at_is (λ i. digit v (8 - suc i)) (λ i. digit_lt v (8 - suc i)) 0 8 v h (λ i l. ap (λ (k : ℕ). digit v (8 - suc k)) (zero-add i))))
+    ∙ some_ext (λ k. bit v (8 - suc (0 + k))) (λ k. bit v (8 - suc k)) 8 (λ k l. ap (λ (x : ℕ). bit v (8 - suc x)) (zero-add k))
 
 -- two tests of which each follows from the other are the same
 tests_same : (x y : Bool) → (x ≡ true → y ≡ true) → (y ≡ true → x ≡ true) → x ≡ y
@@ -114,46 +114,46 @@ module _ (s mask : List ℕ) (b m d n : ℕ) (bytes : (q : ℕ) → get_or s q 0
   shared : ℕ → ℕ
   shared j = bit_and (get_or s (b + j) 0) (get_or mask j 0)
 
-  shared-bit : (j k : ℕ) → k < 8 → bit (shared j) (8 - suc k) ≡ (eqb (bitAt s (8 * b + (8 * j + k))) 1 && eqb (bitAt mask (8 * j + k)) 1)
+  shared_bit : (j k : ℕ) → k < 8 → bit (shared j) (8 - suc k) ≡ (eqb (bit_at s (8 * b + (8 * j + k))) 1 && eqb (bit_at mask (8 * j + k)) 1)
   unfolding shared
-  shared-bit j k l =
+  shared_bit j k l =
       bit-and (get_or s (b + j) 0) (get_or mask j 0) (8 - suc k)
-      ∙ ap₂ (λ (x y : ℕ). eqb x 1 && eqb y 1) (sym (bitAt-byte s (b + j) k l) ∙ ap (bitAt s) (omega arith)) (sym (bitAt-byte mask j k l))
+      ∙ ap₂ (λ (x y : ℕ). eqb x 1 && eqb y 1) (sym (bit_at_byte s (b + j) k l) ∙ ap (bit_at s) (omega arith)) (sym (bit_at_byte mask j k l))
 
-  shared-some : (j : ℕ) → masked s b mask j ≡ someBelow (λ k. bit (shared j) (8 - suc k)) 8
+  shared_some : (j : ℕ) → masked s b mask j ≡ some_below (λ k. bit (shared j) (8 - suc k)) 8
   unfolding shared
-  shared-some j = byte-tests (shared j) (omega (arith, and_le_l (get_or s (b + j) 0) (get_or mask j 0), bytes (b + j)))
+  shared_some j = byte_tests (shared j) (omega (arith, and_le_l (get_or s (b + j) 0) (get_or mask j 0), bytes (b + j)))
 
-  to-own : (j : ℕ) → masked s b mask j ≡ true → someBelow (ownPacked s (8 * b + d) n) n ≡ true
+  to-own : (j : ℕ) → masked s b mask j ≡ true → some_below (own_packed s (8 * b + d) n) n ≡ true
   to-own j h =
-      let (k, l, e) = someBelow-at (λ k. bit (shared j) (8 - suc k)) 8 (sym (shared-some j) ∙ h) in
+      let (k, l, e) = some_below-at (λ k. bit (shared j) (8 - suc k)) 8 (sym (shared_some j) ∙ h) in
       let q : ℕ = 8 * j + k in
-      let f = sym (shared-bit j k l) ∙ e in
-      let (i, u, g) = someBelow-at (λ i. eqb q (d + i * (n + 1))) n (sym (marked q) ∙ and_right (eqb (bitAt s (8 * b + q)) 1) (eqb (bitAt mask q) 1) f) in
-      someBelow-by (ownPacked s (8 * b + d) n) n i u
-      (ap (λ (x : ℕ). eqb (bitAt s x) 1) (omega (arith, eqb-true q (d + i * (n + 1)) g)) ∙ and_left (eqb (bitAt s (8 * b + q)) 1) (eqb (bitAt mask q) 1) f)
+      let f = sym (shared_bit j k l) ∙ e in
+      let (i, u, g) = some_below-at (λ i. eqb q (d + i * (n + 1))) n (sym (marked q) ∙ and_right (eqb (bit_at s (8 * b + q)) 1) (eqb (bit_at mask q) 1) f) in
+      some_below_by (own_packed s (8 * b + d) n) n i u
+      (ap (λ (x : ℕ). eqb (bit_at s x) 1) (omega (arith, eqb-true q (d + i * (n + 1)) g)) ∙ and_left (eqb (bit_at s (8 * b + q)) 1) (eqb (bit_at mask q) 1) f)
 
-  from-own : (i : ℕ) → i < n → ownPacked s (8 * b + d) n i ≡ true → someBelow (masked s b mask) m ≡ true
+  from-own : (i : ℕ) → i < n → own_packed s (8 * b + d) n i ≡ true → some_below (masked s b mask) m ≡ true
   from-own i l h =
       let q : ℕ = d + i * (n + 1) in
       let j : ℕ = q / 8 in
       let k : ℕ = q % 8 in
       let e : 8 * j + k ≡ q = omega arith in
       let u : k < 8 = mod-lt q (lit< tt) in
-      someBelow-by (masked s b mask) m j (let o : q / 8 < m = omega (arith, within-rows n i l) in o)
-      (shared-some j
-      ∙ someBelow-by (λ k. bit (shared j) (8 - suc k)) 8 k u
-      (shared-bit j k u
-      ∙ and_both (eqb (bitAt s (8 * b + (8 * j + k))) 1) (eqb (bitAt mask (8 * j + k)) 1)
-      (ap (λ (x : ℕ). eqb (bitAt s x) 1) (omega arith) ∙ h)
-      (ap (λ (x : ℕ). eqb (bitAt mask x) 1) e ∙ marked q ∙ someBelow-by (λ k. eqb q (d + k * (n + 1))) n i l (eq-eqb q q refl))))
+      some_below_by (masked s b mask) m j (let o : q / 8 < m = omega (arith, within_rows n i l) in o)
+      (shared_some j
+      ∙ some_below_by (λ k. bit (shared j) (8 - suc k)) 8 k u
+      (shared_bit j k u
+      ∙ and_both (eqb (bit_at s (8 * b + (8 * j + k))) 1) (eqb (bit_at mask (8 * j + k)) 1)
+      (ap (λ (x : ℕ). eqb (bit_at s x) 1) (omega arith) ∙ h)
+      (ap (λ (x : ℕ). eqb (bit_at mask x) 1) e ∙ marked q ∙ some_below_by (λ k. eqb q (d + k * (n + 1))) n i l (eq-eqb q q refl))))
 
-  pub masked-own : someBelow (masked s b mask) m ≡ someBelow (ownPacked s (8 * b + d) n) n
+  pub masked-own : some_below (masked s b mask) m ≡ some_below (own_packed s (8 * b + d) n) n
   masked-own =
-      tests_same (someBelow (masked s b mask) m) (someBelow (ownPacked s (8 * b + d) n) n)
-      (λ h. let t = someBelow-at (masked s b mask) m h in to-own t.0 t.2)
-      (λ h. let t = someBelow-at (ownPacked s (8 * b + d) n) n h in from-own t.0 t.1 t.2)
+      tests_same (some_below (masked s b mask) m) (some_below (own_packed s (8 * b + d) n) n)
+      (λ h. let t = some_below-at (masked s b mask) m h in to-own t.0 t.2)
+      (λ h. let t = some_below-at (own_packed s (8 * b + d) n) n h in from-own t.0 t.1 t.2)
 
 -- the place of round r's first own bit, where the bits of a round fill whole bytes
-pub whole-bytes : (n r at b size : ℕ) → at ≡ roundPlace n 0 + 3 * n → 3 * n + n * n ≡ 8 * size → b ≡ at / 8 + r * size → 8 * b + at % 8 ≡ roundPlace n r + 3 * n
+pub whole-bytes : (n r at b size : ℕ) → at ≡ round_place n 0 + 3 * n → 3 * n + n * n ≡ 8 * size → b ≡ at / 8 + r * size → 8 * b + at % 8 ≡ round_place n r + 3 * n
 whole-bytes n r at b size e w h = omega (arith, ap (λ (x : ℕ). r * x) w)

@@ -9,136 +9,136 @@ use Rattle.refusals.specs.declared.Outcome.TheVariants.{Accepted, Refused}
 use Rattle.refusals.specs.Outcomes.{refuse}
 use Rattle.refusals.proofs.Outcomes.{refused-not, refuse-false, refuse-on}
 use Rattle.basics.specs.Bits.{bit}
-use Rattle.basics.specs.Lists.{first, someBelow}
-use Rattle.basics.proofs.Laws.{someBelow-none, none-someBelow, someBelow-by, some_first, first-none, first-before, first-at, first-unique, first_step, first_found, first-ext, some-ext, first-le, first-all}
-use Rattle.recording.specs.Checks.{ownBit, ownIn, ownLoss, ownRound, ownTruck, ownLossCheck, FirstOwn, FirstOwnAt}
+use Rattle.basics.specs.Lists.{first, some_below}
+use Rattle.basics.proofs.Laws.{some_below-none, none-some_below, some_below_by, some_first, first-none, first-before, first-at, first_unique, first_step, first_found, first_ext, some_ext, first-le, first-all}
+use Rattle.recording.specs.Checks.{own_bit, own_in, own_loss, own_round, own_truck, own_loss_check, FirstOwn, FirstOwnAt}
 
 -- words that agree have the same own loss bits
-pub own-ext : (f g : ℕ → ℕ) (n R : ℕ) → ((w : ℕ) → w < R * (3 + n) → f w ≡ g w) → (r i : ℕ) → r < R → i < n → ownBit f n r i ≡ ownBit g n r i
-unfolding ownBit
-own-ext f g n R h r i l u = ap (λ (w : ℕ). bit w i) (h (r * (3 + n) + (3 + i)) (digits_lt l (omega arith)))
+pub own_ext : (f g : ℕ → ℕ) (n R : ℕ) → ((w : ℕ) → w < R * (3 + n) → f w ≡ g w) → (r i : ℕ) → r < R → i < n → own_bit f n r i ≡ own_bit g n r i
+unfolding own_bit
+own_ext f g n R h r i l u = ap (λ (w : ℕ). bit w i) (h (r * (3 + n) + (3 + i)) (digits_lt l (omega arith)))
 
 module _ (word : ℕ → ℕ) (n : ℕ) where
   -- no own loss bit of R rounds is 1
-  pub own-round : (R : ℕ) → ownLoss word n R ≡ false → (r i : ℕ) → r < R → i < n → ownBit word n r i ≡ false
-  unfolding ownLoss ownIn
-  own-round R h r i l u = someBelow-none (ownBit word n r) n (someBelow-none (ownIn word n) R h r l) i u
+  pub own-round : (R : ℕ) → own_loss word n R ≡ false → (r i : ℕ) → r < R → i < n → own_bit word n r i ≡ false
+  unfolding own_loss own_in
+  own-round R h r i l u = some_below-none (own_bit word n r) n (some_below-none (own_in word n) R h r l) i u
 
-  pub clear-own : (R : ℕ) → ((r i : ℕ) → r < R → i < n → ownBit word n r i ≡ false) → ownLoss word n R ≡ false
-  unfolding ownLoss ownIn
-  clear-own R h = none-someBelow (ownIn word n) R (λ r l. none-someBelow (ownBit word n r) n (λ i u. h r i l u))
+  pub clear_own : (R : ℕ) → ((r i : ℕ) → r < R → i < n → own_bit word n r i ≡ false) → own_loss word n R ≡ false
+  unfolding own_loss own_in
+  clear_own R h = none-some_below (own_in word n) R (λ r l. none-some_below (own_bit word n r) n (λ i u. h r i l u))
 
   module _ (k R : ℕ) where
-    pub own-accepted : ownLossCheck word n k R ≡ Accepted → (r i : ℕ) → r < R → i < n → ownBit word n r i ≡ false
-    unfolding ownLossCheck
+    pub own-accepted : own_loss_check word n k R ≡ Accepted → (r i : ℕ) → r < R → i < n → own_bit word n r i ≡ false
+    unfolding own_loss_check
     own-accepted h =
-        let r = ownRound word n R in
-        own-round R (refuse-false (ownLoss word n R) (OwnLoss (k + r) (ownTruck word n r)) Accepted h)
+        let r = own_round word n R in
+        own-round R (refuse-false (own_loss word n R) (OwnLoss (k + r) (own_truck word n r)) Accepted h)
 
-    pub accepted-own : ((r i : ℕ) → r < R → i < n → ownBit word n r i ≡ false) → ownLossCheck word n k R ≡ Accepted
-    unfolding ownLossCheck
+    pub accepted-own : ((r i : ℕ) → r < R → i < n → own_bit word n r i ≡ false) → own_loss_check word n k R ≡ Accepted
+    unfolding own_loss_check
     accepted-own h =
-        let r = ownRound word n R in
-        refuse-on (ownLoss word n R) (OwnLoss (k + r) (ownTruck word n r)) Accepted (clear-own R h) refl
+        let r = own_round word n R in
+        refuse-on (own_loss word n R) (OwnLoss (k + r) (own_truck word n r)) Accepted (clear_own R h) refl
 
   -- what is named where an own loss bit is 1
-  pub own_first : (R : ℕ) → ownLoss word n R ≡ true → FirstOwn word n R (ownRound word n R) (ownTruck word n (ownRound word n R))
-  unfolding ownLoss ownRound ownTruck ownIn
+  pub own_first : (R : ℕ) → own_loss word n R ≡ true → FirstOwn word n R (own_round word n R) (own_truck word n (own_round word n R))
+  unfolding own_loss own_round own_truck own_in
   own_first R h =
-      let p : ℕ → Bool = ownIn word n in
+      let p : ℕ → Bool = own_in word n in
       let r : ℕ = first p R in
       let round : r < R = some_first p R h in
-      let truck : first (ownBit word n r) n < n = some_first (ownBit word n r) n (first-at p R round) in
+      let truck : first (own_bit word n r) n < n = some_first (own_bit word n r) n (first-at p R round) in
       record {
         round = round;
         truck = truck;
-        set = first-at (ownBit word n r) n truck;
-        earlier = λ q j l u. someBelow-none (ownBit word n q) n (first-before p R q l) j u;
-        lower = λ j l. first-before (ownBit word n r) n j l;
+        set = first-at (own_bit word n r) n truck;
+        earlier = λ q j l u. some_below-none (own_bit word n q) n (first-before p R q l) j u;
+        lower = λ j l. first-before (own_bit word n r) n j l;
       }
 
   -- and nothing else is
   module _ (R r i : ℕ) (f : FirstOwn word n R r i) where
-    row_has : ownIn word n r ≡ true
-    unfolding ownIn
-    row_has = someBelow-by (ownBit word n r) n i f.truck f.set
+    row_has : own_in word n r ≡ true
+    unfolding own_in
+    row_has = some_below_by (own_bit word n r) n i f.truck f.set
 
-    pub first_round : ownRound word n R ≡ r
-    unfolding ownRound ownIn
+    pub first_round : own_round word n R ≡ r
+    unfolding own_round own_in
     first_round =
-        first-unique (ownIn word n) R r (omega (arith, f.round)) (λ q l. none-someBelow (ownBit word n q) n (λ j u. f.earlier q j l u)) (λ l. row_has)
+        first_unique (own_in word n) R r (omega (arith, f.round)) (λ q l. none-some_below (own_bit word n q) n (λ j u. f.earlier q j l u)) (λ l. row_has)
 
-    pub first-truck : ownTruck word n r ≡ i
-    unfolding ownTruck
-    first-truck = first-unique (ownBit word n r) n i (omega (arith, f.truck)) f.lower (λ l. f.set)
+    pub first-truck : own_truck word n r ≡ i
+    unfolding own_truck
+    first-truck = first_unique (own_bit word n r) n i (omega (arith, f.truck)) f.lower (λ l. f.set)
 
-    pub first-loss : ownLoss word n R ≡ true
-    unfolding ownLoss
-    first-loss = someBelow-by (ownIn word n) R r f.round row_has
+    pub first_loss : own_loss word n R ≡ true
+    unfolding own_loss
+    first_loss = some_below_by (own_in word n) R r f.round row_has
 
   -- the check names the first one, and nothing else
   module _ (k R round truck : ℕ) where
-    pub own-named : FirstOwnAt word n k R round truck → ownLossCheck word n k R ≡ Refused (OwnLoss round truck)
-    unfolding ownLossCheck
-    own-named (r, e, f) =
-        ap₂ (λ (b : Bool) (q : ℕ). refuse b (OwnLoss (k + q) (ownTruck word n q)) Accepted) (first-loss R r truck f) (first_round R r truck f)
+    pub own_named : FirstOwnAt word n k R round truck → own_loss_check word n k R ≡ Refused (OwnLoss round truck)
+    unfolding own_loss_check
+    own_named (r, e, f) =
+        ap₂ (λ (b : Bool) (q : ℕ). refuse b (OwnLoss (k + q) (own_truck word n q)) Accepted) (first_loss R r truck f) (first_round R r truck f)
         ∙ ap₂ (λ (q i : ℕ). Refused (OwnLoss q i)) (sym e) (first-truck R r truck f)
 
-    pub own-names : ownLossCheck word n k R ≡ Refused (OwnLoss round truck) → FirstOwnAt word n k R round truck
-    unfolding ownLossCheck
-    own-names h = go (ownLoss word n R) refl h
+    pub own_names : own_loss_check word n k R ≡ Refused (OwnLoss round truck) → FirstOwnAt word n k R round truck
+    unfolding own_loss_check
+    own_names h = go (own_loss word n R) refl h
       where
         r : ℕ
-        r = ownRound word n R
+        r = own_round word n R
 
-        go : (b : Bool) → ownLoss word n R ≡ b → refuse b (OwnLoss (k + r) (ownTruck word n r)) Accepted ≡ Refused (OwnLoss round truck) → FirstOwnAt word n k R round truck
+        go : (b : Bool) → own_loss word n R ≡ b → refuse b (OwnLoss (k + r) (own_truck word n r)) Accepted ≡ Refused (OwnLoss round truck) → FirstOwnAt word n k R round truck
         go true e g = (r, cc, subst (λ (i : ℕ). FirstOwn word n R r i) (cc) (own_first R e))
         go false e g = refused-not (OwnLoss round truck) (sym g)
 
   -- what a look at round r says of it, by a test that agrees with its own loss bits
-  module _ (r : ℕ) (p : ℕ → Bool) (same : (i : ℕ) → i < n → p i ≡ ownBit word n r i) where
-    pub own-looked : (b : Bool) → b ≡ someBelow p n → ownIn word n r ≡ b
-    unfolding ownIn
-    own-looked b e = sym (e ∙ some-ext p (ownBit word n r) n same)
+  module _ (r : ℕ) (p : ℕ → Bool) (same : (i : ℕ) → i < n → p i ≡ own_bit word n r i) where
+    pub own_looked : (b : Bool) → b ≡ some_below p n → own_in word n r ≡ b
+    unfolding own_in
+    own_looked b e = sym (e ∙ some_ext p (own_bit word n r) n same)
 
-    pub own-searched : (truck : ℕ) → truck ≡ first p n → ownTruck word n r ≡ truck
-    unfolding ownTruck
-    own-searched truck e = sym (e ∙ first-ext p (ownBit word n r) n same)
+    pub own_searched : (truck : ℕ) → truck ≡ first p n → own_truck word n r ≡ truck
+    unfolding own_truck
+    own_searched truck e = sym (e ∙ first_ext p (own_bit word n r) n same)
 
   -- a search by rounds that goes upward and is at round r: it begins, passes the round, has found it, or has passed all of them
-  pub own-begins : ownRound word n 0 ≡ 0
-  unfolding ownRound
-  own-begins = first-none (ownIn word n)
+  pub own_begins : own_round word n 0 ≡ 0
+  unfolding own_round
+  own_begins = first-none (own_in word n)
 
-  pub own-passes : (r : ℕ) → ownRound word n r ≡ r → ownIn word n r ≡ false → ownRound word n (r + 1) ≡ r + 1
-  unfolding ownRound
-  own-passes r = first_step (ownIn word n) r
+  pub own_passes : (r : ℕ) → own_round word n r ≡ r → own_in word n r ≡ false → own_round word n (r + 1) ≡ r + 1
+  unfolding own_round
+  own_passes r = first_step (own_in word n) r
 
-  pub own_at : (R r : ℕ) → r < R → ownRound word n r ≡ r → ownIn word n r ≡ true → r ≡ ownRound word n R
-  unfolding ownRound
-  own_at R r l e h = sym (first_found (ownIn word n) R r l e h)
+  pub own_at : (R r : ℕ) → r < R → own_round word n r ≡ r → own_in word n r ≡ true → r ≡ own_round word n R
+  unfolding own_round
+  own_at R r l e h = sym (first_found (own_in word n) R r l e h)
 
   -- the round that such a search came to: no earlier round has an own loss bit that is 1, and where it is none of the R rounds, none of them has
-  pub own_on : (R r : ℕ) → r ≡ ownRound word n R → (r ≤ R) × (ownRound word n r ≡ r)
-  unfolding ownRound
-  own_on R r e = (omega (arith, first-le (ownIn word n) R), first-all (ownIn word n) r (λ q l. first-before (ownIn word n) R q (omega arith)))
+  pub own_on : (R r : ℕ) → r ≡ own_round word n R → (r ≤ R) × (own_round word n r ≡ r)
+  unfolding own_round
+  own_on R r e = (omega (arith, first-le (own_in word n) R), first-all (own_in word n) r (λ q l. first-before (own_in word n) R q (omega arith)))
 
-  pub own-there : (R r : ℕ) → r ≡ ownRound word n R → r < R → ownIn word n r ≡ true
-  unfolding ownRound
-  own-there R r e l = rw e (first-at (ownIn word n) R (omega arith))
+  pub own_there : (R r : ℕ) → r ≡ own_round word n R → r < R → own_in word n r ≡ true
+  unfolding own_round
+  own_there R r e l = rw e (first-at (own_in word n) R (omega arith))
 
   module _ (k R : ℕ) where
-    pub own-found : (r round truck : ℕ) → r < R → ownRound word n r ≡ r → ownIn word n r ≡ true → ownTruck word n r ≡ truck → round ≡ k + r
-        → Refused (OwnLoss round truck) ≡ ownLossCheck word n k R
-    unfolding ownLossCheck ownLoss ownRound
-    own-found r round truck l e h t g =
+    pub own_found : (r round truck : ℕ) → r < R → own_round word n r ≡ r → own_in word n r ≡ true → own_truck word n r ≡ truck → round ≡ k + r
+        → Refused (OwnLoss round truck) ≡ own_loss_check word n k R
+    unfolding own_loss_check own_loss own_round
+    own_found r round truck l e h t g =
         sym
-        (ap₂ (λ (b : Bool) (q : ℕ). refuse b (OwnLoss (k + q) (ownTruck word n q)) Accepted) (someBelow-by (ownIn word n) R r l h) (first_found (ownIn word n) R r l e h)
+        (ap₂ (λ (b : Bool) (q : ℕ). refuse b (OwnLoss (k + q) (own_truck word n q)) Accepted) (some_below_by (own_in word n) R r l h) (first_found (own_in word n) R r l e h)
         ∙ ap₂ (λ (q i : ℕ). Refused (OwnLoss q i)) (sym g) t)
 
-    pub own-ends : (r : ℕ) → r ≡ R → ownRound word n r ≡ r → Accepted ≡ ownLossCheck word n k R
-    unfolding ownRound ownIn
+    pub own-ends : (r : ℕ) → r ≡ R → own_round word n r ≡ r → Accepted ≡ own_loss_check word n k R
+    unfolding own_round own_in
     own-ends r g e =
         sym
         (accepted-own k R
-        (λ q i l u. someBelow-none (ownBit word n q) n (first-before (ownIn word n) r q (omega (arith, e, g))) i u))
+        (λ q i l u. some_below-none (own_bit word n q) n (first-before (own_in word n) r q (omega (arith, e, g))) i u))

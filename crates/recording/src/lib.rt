@@ -1,9 +1,9 @@
 // A packed recording: the counts of its header, its openings, and the check 1 to 6 that reading, running and grading share.
 ghost use Rattle.std.specs.Prelude.{◌≡◌, not, ℕ, ◌+◌, ◌*◌, ◌-◌, ◌%◌, ◌<◌, ◌≤◌, ◌^◌, min, eqb, length, get_or, replicate};
 ghost use Rattle.std.specs.Int.Bits.{bit_and};
-ghost use Rattle.basics.specs.Lists.{first, someBelow};
-ghost use Rattle.recording.specs.Packed.{bitAt, countsOf, openingPlace, openingsInto, wordPlace, word_in, bitsFor, bytesFor};
-ghost use Rattle.recording.specs.Checks.{badTrucks, ownRound, ownLossCheck, countedCheck, checkOf};
+ghost use Rattle.basics.specs.Lists.{first, some_below};
+ghost use Rattle.recording.specs.Packed.{bit_at, counts_of, opening_place, openings_into, word_place, word_in, bits_for, bytes_for};
+ghost use Rattle.recording.specs.Checks.{bad_trucks, own_round, own_loss_check, counted_check, check_of};
 
 use refusals::{Outcome, Refusal};
 
@@ -19,7 +19,7 @@ pub struct Counts {
 
 // The counts alone, on plain parameters.
 pub fn read_counts(s: &[u8]) -> Counts
-    ensures { result ≡ countsOf s.now }
+    ensures { result ≡ counts_of s.now }
 {
     Counts {
         trucks: bitreader::read_at(s, 0, 6) as u8,
@@ -40,7 +40,7 @@ fn openings_read(n: u8, places: usize) -> usize
 
 // One reader from the first bit on: over the two counts, then from opening to opening. It puts each into its place, as long as places are lent.
 pub fn read_front(s: &[u8], openings: &mut [u8]) -> Counts
-    ensures { (result ≡ countsOf s.now) × (openings.new ≡ openingsInto s.now openings.old) }
+    ensures { (result ≡ counts_of s.now) × (openings.new ≡ openings_into s.now openings.old) }
 {
     let mut r = bitreader::new(s, 0);
     let trucks = bitreader::take(&mut r, 6) as u8;
@@ -56,35 +56,35 @@ pub fn read_front(s: &[u8], openings: &mut [u8]) -> Counts
 
 // The place of opening i; after n openings, that of the first word.
 fn opening_place(i: u8) -> usize
-    ensures { result ≡ openingPlace i }
+    ensures { result ≡ opening_place i }
 {
     HEADER_BITS + 4 * (i as usize)
 }
 
 // The place of word w of the rounds of so many trucks.
 pub fn word_place(trucks: u8, w: u16) -> usize
-    ensures { result ≡ wordPlace trucks w }
+    ensures { result ≡ word_place trucks w }
 {
     opening_place(trucks) + w as usize * (trucks as usize)
 }
 
 // The bits of a recording of these counts.
 pub fn bits_for(trucks: u8, rounds: u16) -> usize
-    ensures { result ≡ bitsFor trucks rounds }
+    ensures { result ≡ bits_for trucks rounds }
 {
     let n = trucks as usize;
     HEADER_BITS + 4 * n + rounds as usize * (3 * n + n * n)
 }
 
 pub fn bytes_for(trucks: u8, rounds: u16) -> usize
-    ensures { result ≡ bytesFor trucks rounds }
+    ensures { result ≡ bytes_for trucks rounds }
 {
     (bits_for(trucks, rounds) + 7) / 8
 }
 
 // Refusal 2.
 pub fn bad_trucks(n: u8) -> bool
-    ensures { result ≡ badTrucks n }
+    ensures { result ≡ bad_trucks n }
 {
     (n == 0) | (32 < n)
 }
@@ -92,7 +92,7 @@ pub fn bad_trucks(n: u8) -> bool
 // Refusal 5: whether a bit after the first `total` is 1.
 fn end_bit(s: &[u8], total: usize) -> bool
     requires { (length s.now < 2 ^ 32) × ((total ≤ 8 * length s.now) × (8 * length s.now ≤ total + 7)) }
-    ensures { result ≡ someBelow (λ j. eqb (bitAt s.now (total + j)) 1) (8 * length s.now - total) }
+    ensures { result ≡ some_below (λ j. eqb (bit_at s.now (total + j)) 1) (8 * length s.now - total) }
 {
     bitreader::read_at(s, total, 8 * s.len() - total) != 0
 }
@@ -101,7 +101,7 @@ fn end_bit(s: &[u8], total: usize) -> bool
 // By the union of their bytes, each shifted so that its own bit is worth 128: with no branch for each truck this is faster than a search.
 fn own_any(s: &[u8], at: usize, n: usize) -> bool
     requires { (n ≤ 32) × (at < 2 ^ 32) × (at + n * n ≤ 8 * length s.now) }
-    ensures { result ≡ someBelow (λ i. eqb (bitAt s.now (at + i * (n + 1))) 1) n }
+    ensures { result ≡ some_below (λ i. eqb (bit_at s.now (at + i * (n + 1))) 1) n }
 {
     let mut seen = 0;
     let mut p = at;
@@ -117,7 +117,7 @@ fn own_any(s: &[u8], at: usize, n: usize) -> bool
 // The lowest truck whose own loss bit is 1 in the round whose first own bit stands at `at`, or n where none is.
 fn own_truck(s: &[u8], at: usize, n: usize) -> usize
     requires { (n ≤ 32) × (at < 2 ^ 32) }
-    ensures { result ≡ first (λ i. eqb (bitAt s.now (at + i * (n + 1))) 1) n }
+    ensures { result ≡ first (λ i. eqb (bit_at s.now (at + i * (n + 1))) 1) n }
 {
     let mut i = 0;
     let mut p = at;
@@ -134,7 +134,7 @@ fn own_truck(s: &[u8], at: usize, n: usize) -> usize
 // The mask of a round's own loss bits, of which the first stands at bit `at` of the mask.
 fn own_mask(at: usize, n: usize, mask: &mut [u8; 136])
     requires { (at < 8) × (n ≤ 32) × (mask.old ≡ replicate 136 0) }
-    ensures { (q : ℕ) → eqb (bitAt mask.new q) 1 ≡ someBelow (λ i. eqb q (at + i * (n + 1))) n }
+    ensures { (q : ℕ) → eqb (bit_at mask.new q) 1 ≡ some_below (λ i. eqb q (at + i * (n + 1))) n }
 {
     let mut marked = 0;
     let mut p = at;
@@ -148,7 +148,7 @@ fn own_mask(at: usize, n: usize, mask: &mut [u8; 136])
 // Whether one of m bytes from byte `b` on has a bit of the mask: a union too, so that the compiler takes sixteen bytes at once.
 fn any_masked(s: &[u8], b: usize, mask: &[u8; 136], m: usize) -> bool
     requires { (m ≤ 136) × (b + m ≤ length s.now) }
-    ensures { result ≡ someBelow (λ j. not (eqb (bit_and (get_or s.now (b + j) 0) (get_or mask.now j 0)) 0)) m }
+    ensures { result ≡ some_below (λ j. not (eqb (bit_and (get_or s.now (b + j) 0) (get_or mask.now j 0)) 0)) m }
 {
     let mut any: u8 = 0;
     let mut j = 0;
@@ -161,8 +161,8 @@ fn any_masked(s: &[u8], b: usize, mask: &[u8; 136], m: usize) -> bool
 
 // The earliest round in which an own loss bit is 1, or `rounds` where none has one. The first own bit of the first round stands at `at`.
 fn own_round(s: &[u8], at: usize, n: usize, rounds: u16) -> u16
-    requires { (n ≤ 32) × (rounds ≤ 400) × (at ≡ wordPlace n 3) × (bitsFor n rounds ≤ 8 * length s.now) }
-    ensures { result ≡ ownRound (word_in (bitAt s.now) n) n rounds }
+    requires { (n ≤ 32) × (rounds ≤ 400) × (at ≡ word_place n 3) × (bits_for n rounds ≤ 8 * length s.now) }
+    ensures { result ≡ own_round (word_in (bit_at s.now) n) n rounds }
 {
     let size = 3 * n + n * n;
     let mut p = at;
@@ -179,8 +179,8 @@ fn own_round(s: &[u8], at: usize, n: usize, rounds: u16) -> u16
 
 // The same, where the bits of a round fill whole bytes: then the own bits of each round stand at the same bits of its bytes, and one mask serves all rounds.
 fn own_round_masked(s: &[u8], at: usize, n: usize, rounds: u16) -> u16
-    requires { (n ≤ 32) × (rounds ≤ 400) × (at ≡ wordPlace n 3) × ((3 * n + n * n) % 8 ≡ 0) × (bitsFor n rounds ≤ 8 * length s.now) }
-    ensures { result ≡ ownRound (word_in (bitAt s.now) n) n rounds }
+    requires { (n ≤ 32) × (rounds ≤ 400) × (at ≡ word_place n 3) × ((3 * n + n * n) % 8 ≡ 0) × (bits_for n rounds ≤ 8 * length s.now) }
+    ensures { result ≡ own_round (word_in (bit_at s.now) n) n rounds }
 {
     let mut mask = [0u8; 136];
     own_mask(at % 8, n, &mut mask);
@@ -201,8 +201,8 @@ fn own_round_masked(s: &[u8], at: usize, n: usize, rounds: u16) -> u16
 // Refusal 6, of so many rounds from the first one on. Only in the round that it names is the truck searched for. With 16, 21, 24, 29 and 32 trucks the bits of a
 // round fill whole bytes, 38 or more, and rounds are passed by a mask, which is not worth making for one round.
 fn check_own(s: &[u8], trucks: u8, rounds: u16) -> Outcome
-    requires { (trucks ≤ 32) × (rounds ≤ 400) × (bitsFor trucks rounds ≤ 8 * length s.now) }
-    ensures { result ≡ ownLossCheck (word_in (bitAt s.now) trucks) trucks 1 rounds }
+    requires { (trucks ≤ 32) × (rounds ≤ 400) × (bits_for trucks rounds ≤ 8 * length s.now) }
+    ensures { result ≡ own_loss_check (word_in (bit_at s.now) trucks) trucks 1 rounds }
 {
     let n = trucks as usize;
     let size = 3 * n + n * n;
@@ -223,7 +223,7 @@ fn check_own(s: &[u8], trucks: u8, rounds: u16) -> Outcome
 
 // Refusals 2 to 6, by counts that are given: the header is not read.
 fn check_counted(s: &[u8], n: u8, rounds: u16) -> Outcome
-    ensures { result ≡ countedCheck (bitAt s.now) (length s.now) n rounds }
+    ensures { result ≡ counted_check (bit_at s.now) (length s.now) n rounds }
 {
     if bad_trucks(n) {
         return Outcome::Refused(Refusal::TruckCount);
@@ -242,7 +242,7 @@ fn check_counted(s: &[u8], n: u8, rounds: u16) -> Outcome
 
 // Refusals 1 to 6.
 pub fn check(s: &[u8]) -> Outcome
-    ensures { result ≡ checkOf s.now }
+    ensures { result ≡ check_of s.now }
 {
     if s.len() < 2 {
         return Outcome::Refused(Refusal::ShortRecording);

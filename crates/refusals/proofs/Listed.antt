@@ -11,21 +11,21 @@ use Rattle.refusals.specs.declared.Refusal.TheVariants.{PlainRound, ShortBuffer,
 use Rattle.refusals.specs.declared.Location.{Location}
 use Rattle.refusals.specs.declared.Location.TheVariants.{Unnamed, At}
 use Rattle.refusals.specs.Numbers.{number_of}
-use Rattle.refusals.specs.Locations.{locationOf}
+use Rattle.refusals.specs.Locations.{location_of}
 
 -- the refusal of a number that names such a place
-abbrev pub ownLossAt : Location → Refusal
-ownLossAt Unnamed = OwnLoss 0 0
-ownLossAt (At round truck) = OwnLoss round truck
+abbrev pub own_loss_at : Location → Refusal
+own_loss_at Unnamed = OwnLoss 0 0
+own_loss_at (At round truck) = OwnLoss round truck
 
-abbrev pub refusalOf : ℕ → Location → Refusal
-refusalOf k p =
+abbrev pub refusal_of : ℕ → Location → Refusal
+refusal_of k p =
     cond (eqb k 1) ShortRecording
     (cond (eqb k 2) TruckCount
     (cond (eqb k 3) RoundCount
     (cond (eqb k 4) RecordingLength
     (cond (eqb k 5) EndBit
-    (cond (eqb k 6) (ownLossAt p)
+    (cond (eqb k 6) (own_loss_at p)
     (cond (eqb k 7) Record
     (cond (eqb k 8) PlainRound
     (cond (eqb k 9) ShortBuffer
@@ -39,8 +39,8 @@ refusalOf k p =
 
 pub record Listed (r : Refusal) : Type 0 where
   pub range : (1 ≤ number_of r) × (number_of r ≤ 18)
-  pub back : refusalOf (number_of r) (locationOf r) ≡ r
-  pub place : (locationOf r ≡ Unnamed) ⊎ ((round : ℕ) × (truck : ℕ) × (r ≡ OwnLoss round truck))
+  pub back : refusal_of (number_of r) (location_of r) ≡ r
+  pub place : (location_of r ≡ Unnamed) ⊎ ((round : ℕ) × (truck : ℕ) × (r ≡ OwnLoss round truck))
 
 pub listed : (r : Refusal) → Listed r
 listed ShortRecording = record { range = (omega arith, omega arith); back = refl; place = inl refl }

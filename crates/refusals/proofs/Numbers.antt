@@ -2,21 +2,21 @@
 use mathlib.Core.Path.{◌≡◌, refl, ap₂, sym, ◌∙◌}
 use Prim.Native.Nat.{◌≤◌}
 use native.Mathlib.Omega.{arith}
-use Rattle.refusals.specs.Numbers.{number_of, outcomeNumber}
-use Rattle.refusals.specs.Locations.{locationOf}
+use Rattle.refusals.specs.Numbers.{number_of, outcome_number}
+use Rattle.refusals.specs.Locations.{location_of}
 use Rattle.refusals.specs.declared.Refusal.{Refusal}
 use Rattle.refusals.specs.declared.Outcome.{Outcome}
 use Rattle.refusals.specs.declared.Outcome.TheVariants.{Accepted, Refused}
-use Rattle.refusals.proofs.Listed.{refusalOf, listed}
+use Rattle.refusals.proofs.Listed.{refusal_of, listed}
 
-pub number-range : (r : Refusal) → (1 ≤ number_of r) × (number_of r ≤ 18)
-number-range r = (listed r).range
+pub number_range : (r : Refusal) → (1 ≤ number_of r) × (number_of r ≤ 18)
+number_range r = (listed r).range
 
 -- so 0 stands for no refusal
-pub outcome-0 : (o : Outcome) → outcomeNumber o ≡ 0 → o ≡ Accepted
-outcome-0 Accepted h = refl
-outcome-0 (Refused r) h = absurd (omega (arith, (number-range r).0))
+pub outcome_0 : (o : Outcome) → outcome_number o ≡ 0 → o ≡ Accepted
+outcome_0 Accepted h = refl
+outcome_0 (Refused r) h = absurd (omega (arith, (number_range r).0))
 
 -- no two refusals have the same number: with what it names, it tells which one it is
-pub number-tells : (r q : Refusal) → number_of r ≡ number_of q → locationOf r ≡ locationOf q → r ≡ q
-number-tells r q number location = sym (listed r).back ∙ ap₂ refusalOf number location ∙ (listed q).back
+pub number_tells : (r q : Refusal) → number_of r ≡ number_of q → location_of r ≡ location_of q → r ≡ q
+number_tells r q number location = sym (listed r).back ∙ ap₂ refusal_of number location ∙ (listed q).back

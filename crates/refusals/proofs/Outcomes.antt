@@ -6,7 +6,7 @@ use native.Mathlib.Omega.{arith}
 use Rattle.refusals.specs.declared.Refusal.{Refusal}
 use Rattle.refusals.specs.declared.Outcome.{Outcome}
 use Rattle.refusals.specs.declared.Outcome.TheVariants.{Accepted, Refused}
-use Rattle.refusals.specs.Numbers.{number_of, outcomeNumber}
+use Rattle.refusals.specs.Numbers.{number_of, outcome_number}
 use Rattle.refusals.specs.Outcomes.{refuse, and_then}
 
 -- an outcome is not both
@@ -26,18 +26,18 @@ pub refuse-on : (b : Bool) (r : Refusal) (o : Outcome) → b ≡ false → o ≡
 refuse-on b r o h e = rw (h, e)
 
 -- a guard that refuses for another reason than its own: its condition fails, and a later one refuses
-pub refuse-past : (b : Bool) (r q : Refusal) (o : Outcome) → (number_of r ≡ number_of q → ⊥) → refuse b r o ≡ Refused q → (b ≡ false) × (o ≡ Refused q)
-refuse-past true r q o other h = absurd (other (ap outcomeNumber h))
-refuse-past false r q o other h = (refl, h)
+pub refuse_past : (b : Bool) (r q : Refusal) (o : Outcome) → (number_of r ≡ number_of q → ⊥) → refuse b r o ≡ Refused q → (b ≡ false) × (o ≡ Refused q)
+refuse_past true r q o other h = absurd (other (ap outcome_number h))
+refuse_past false r q o other h = (refl, h)
 
 -- two chains one after the other
 pub then-first : (a b : Outcome) → and_then a b ≡ Accepted → a ≡ Accepted
 then-first Accepted b h = refl
 then-first (Refused r) b h = h
 
-pub then-second : (a b : Outcome) → and_then a b ≡ Accepted → b ≡ Accepted
-then-second Accepted b h = h
-then-second (Refused r) b h = refused-not r h
+pub then_second : (a b : Outcome) → and_then a b ≡ Accepted → b ≡ Accepted
+then_second Accepted b h = h
+then_second (Refused r) b h = refused-not r h
 
 pub then-both : (a b : Outcome) → a ≡ Accepted → b ≡ Accepted → and_then a b ≡ Accepted
 then-both a b h e = rw (h, e)

@@ -8,30 +8,30 @@ use Rattle.refusals.specs.declared.Outcome.TheVariants.{Accepted, Refused}
 use Rattle.refusals.specs.declared.Location.{Location}
 use Rattle.refusals.specs.declared.Location.TheVariants.{Unnamed, At}
 
-abbrev pub locationOf : Refusal → Location
-locationOf ShortRecording = Unnamed
-locationOf TruckCount = Unnamed
-locationOf RoundCount = Unnamed
-locationOf RecordingLength = Unnamed
-locationOf EndBit = Unnamed
-locationOf (OwnLoss round truck) = At round truck
-locationOf Record = Unnamed
-locationOf PlainRound = Unnamed
-locationOf ShortBuffer = Unnamed
-locationOf RoadLists = Unnamed
-locationOf Seconds = Unnamed
-locationOf NoTime = Unnamed
-locationOf AllIdle = Unnamed
-locationOf RoundsDone = Unnamed
-locationOf PanelTruckCount = Unnamed
-locationOf PanelRoundCount = Unnamed
+abbrev pub location_of : Refusal → Location
+location_of ShortRecording = Unnamed
+location_of TruckCount = Unnamed
+location_of RoundCount = Unnamed
+location_of RecordingLength = Unnamed
+location_of EndBit = Unnamed
+location_of (OwnLoss round truck) = At round truck
+location_of Record = Unnamed
+location_of PlainRound = Unnamed
+location_of ShortBuffer = Unnamed
+location_of RoadLists = Unnamed
+location_of Seconds = Unnamed
+location_of NoTime = Unnamed
+location_of AllIdle = Unnamed
+location_of RoundsDone = Unnamed
+location_of PanelTruckCount = Unnamed
+location_of PanelRoundCount = Unnamed
 
 -- of an outcome: nothing where it is no refusal
-abbrev pub outcomeLocation : Outcome → Location
-outcomeLocation Accepted = Unnamed
-outcomeLocation (Refused r) = locationOf r
+abbrev pub outcome_location : Outcome → Location
+outcome_location Accepted = Unnamed
+outcome_location (Refused r) = location_of r
 
 -- a location as one number: 256 times the round, and the truck; 0 where none is named
-abbrev pub locationNumber : Location → ℕ
-locationNumber Unnamed = 0
-locationNumber (At round truck) = round * 256 + truck
+abbrev pub location_number : Location → ℕ
+location_number Unnamed = 0
+location_number (At round truck) = round * 256 + truck

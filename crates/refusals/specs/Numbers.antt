@@ -41,9 +41,9 @@ number_of PanelTruckCount = 17
 number_of PanelRoundCount = 18
 
 -- the number that stands for an outcome: 0 is no refusal
-abbrev pub outcomeNumber : Outcome → ℕ
-outcomeNumber Accepted = 0
-outcomeNumber (Refused r) = number_of r
+abbrev pub outcome_number : Outcome → ℕ
+outcome_number Accepted = 0
+outcome_number (Refused r) = number_of r
 
 -- an answer by its number and values: a refusal's number with no value, or 0 with the values that the call gives
 abbrev pub numbered : Outcome → List ℕ → ℕ × List ℕ

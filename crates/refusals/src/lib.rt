@@ -1,7 +1,7 @@
 // Why an input is refused. The papers number these conditions; `number_of` in specs/ holds their numbers.
 ghost use Rattle.std.specs.Prelude.{◌≡◌};
-ghost use Rattle.refusals.specs.Numbers.{number_of, outcomeNumber};
-ghost use Rattle.refusals.specs.Locations.{locationOf, outcomeLocation, locationNumber};
+ghost use Rattle.refusals.specs.Numbers.{number_of, outcome_number};
+ghost use Rattle.refusals.specs.Locations.{location_of, outcome_location, location_number};
 
 #[derive(Drop)]
 pub enum Refusal {
@@ -72,7 +72,7 @@ pub fn number(r: Refusal) -> u8
 
 // The number of an outcome: 0 where the input is accepted.
 pub fn outcome_number(o: Outcome) -> u8
-    ensures { result ≡ outcomeNumber o }
+    ensures { result ≡ outcome_number o }
 {
     match o {
         Outcome::Accepted => 0,
@@ -82,7 +82,7 @@ pub fn outcome_number(o: Outcome) -> u8
 
 // The round and the truck that the refusal names.
 pub fn location_of(r: Refusal) -> Location
-    ensures { result ≡ locationOf r }
+    ensures { result ≡ location_of r }
 {
     let Refusal::OwnLoss { round: k, truck: i } = r else {
         return Location::Unnamed;
@@ -92,7 +92,7 @@ pub fn location_of(r: Refusal) -> Location
 
 // What an outcome names: nothing where the input is accepted.
 pub fn outcome_location(o: Outcome) -> Location
-    ensures { result ≡ outcomeLocation o }
+    ensures { result ≡ outcome_location o }
 {
     match o {
         Outcome::Accepted => Location::Unnamed,
@@ -102,7 +102,7 @@ pub fn outcome_location(o: Outcome) -> Location
 
 // A location as one number: 256 times the round, and the truck; 0 where none is named.
 pub fn location_number(p: Location) -> u32
-    ensures { result ≡ locationNumber p }
+    ensures { result ≡ location_number p }
 {
     match p {
         Location::Unnamed => 0,

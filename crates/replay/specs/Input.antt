@@ -4,6 +4,6 @@ use Rattle.replay.specs.declared.Input.{Input}
 use Rattle.replay.specs.declared.Input.TheVariants.{Bytes, Failed}
 
 -- how many bytes of the buffer were read
-abbrev pub bytesRead : Input → ℕ
-bytesRead (Bytes n) = n
-bytesRead Failed = 0
+abbrev pub bytes_read : Input → ℕ
+bytes_read (Bytes n) = n
+bytes_read Failed = 0

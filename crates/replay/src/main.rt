@@ -1,8 +1,8 @@
 // Reads a recording from standard input and prints its listing, or the line of its refusal. What fails in between is said on standard error.
 ghost use Rattle.std.specs.Prelude.{◌≡◌, ◌≤◌, length, take};
-ghost use Rattle.listing.specs.Text.{printed, refusalText};
-ghost use Rattle.listing.specs.Program.{longestListing, inputLimit};
-ghost use Rattle.replay.specs.Input.{bytesRead};
+ghost use Rattle.listing.specs.Text.{printed, refusal_text};
+ghost use Rattle.listing.specs.Program.{longest_listing, input_limit};
+ghost use Rattle.replay.specs.Input.{bytes_read};
 
 use listing::Listed;
 
@@ -15,8 +15,8 @@ enum Input {
 
 // Reads until the buffer is full, the input ends, or a read fails. The buffer has the bytes that the program reads at most.
 fn read_input(buf: &mut [u8]) -> Input
-    requires { length buf.old ≡ inputLimit }
-    ensures { bytesRead result ≤ length buf.new }
+    requires { length buf.old ≡ input_limit }
+    ensures { bytes_read result ≤ length buf.new }
 {
     let mut n = 0;
     while n < buf.len() {
@@ -34,7 +34,7 @@ fn read_input(buf: &mut [u8]) -> Input
 }
 
 fn main() {
-    // One byte more than the largest recording has: a longer input is refused by its first bytes as it would be by all (`printed-cut` in crate listing).
+    // One byte more than the largest recording has: a longer input is refused by its first bytes as it would be by all (`printed_cut` in crate listing).
     let mut buf = [0u8; 56019];
     let input = read_input(&mut buf);
     match input {
@@ -45,7 +45,7 @@ fn main() {
 
 // Puts what is printed for a recording into a buffer that is long enough, and answers its length: the listing, or the line of the refusal.
 fn text_of(s: &[u8], text: &mut [u8]) -> usize
-    requires { longestListing ≤ length text.old }
+    requires { longest_listing ≤ length text.old }
     ensures within { result ≤ length text.new }
     ensures printed { take result text.new ≡ printed s.now }
 {
@@ -58,9 +58,9 @@ fn text_of(s: &[u8], text: &mut [u8]) -> usize
 
 // Puts the line of a refusal.
 fn line_of(r: refusals::Refusal, text: &mut [u8]) -> usize
-    requires { length (refusalText r) ≤ length text.old }
+    requires { length (refusal_text r) ≤ length text.old }
     ensures within { result ≤ length text.new }
-    ensures line { take result text.new ≡ refusalText r }
+    ensures line { take result text.new ≡ refusal_text r }
 {
     let listed = listing::refusal_line(r, text);
     match listed {
@@ -86,7 +86,7 @@ fn complain(text: &[u8]) {
     io::write_all(2, text);
 }
 
-// No call leads here: a buffer of these sizes is never refused (`list-suffices`, `list-room` in crate listing).
+// No call leads here: a buffer of these sizes is never refused (`list_suffices`, `list_room` in crate listing).
 fn never() -> usize
     requires { ⊥ }
 {

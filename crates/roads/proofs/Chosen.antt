@@ -13,7 +13,7 @@ use Rattle.roads.specs.declared.Estimate.TheVariants.{Seconds, Idle}
 use Rattle.roads.specs.declared.Fastest.{Fastest}
 use Rattle.roads.specs.declared.Fastest.TheVariants.{Road, NoRoad}
 use Rattle.roads.specs.Opening.{LeastBelow}
-use Rattle.roads.specs.Choice.{betterOf, chosenBelow}
+use Rattle.roads.specs.Choice.{better_of, chosen_below}
 use Rattle.roads.proofs.Least.{stays, begins, takes-over}
 
 -- what a choice among the roads below n is to be
@@ -32,17 +32,17 @@ module _ (passed : ℕ → Bool) (num den : ℕ → ℕ) (small : (k : ℕ) → 
       go false l = (h.0, stays passed num den n k h.1 (λ q. ltb-false (num n * den k) (num k * den n) l))
 
   step : (n : ℕ) (b : Bool) (best : Fastest) → passed n ≡ b → Chosen passed num den n best
-      → Chosen passed num den (suc n) (betterOf best n (cond b Idle (Seconds (round binary64 false (num n) (den n)))))
-  unfolding betterOf
+      → Chosen passed num den (suc n) (better_of best n (cond b Idle (Seconds (round binary64 false (num n) (den n)))))
+  unfolding better_of
   step n true NoRoad p h = λ j l. below_more (λ i. passed i ≡ true) n h p j (omega arith)
   step n true (Road k t) p h = (h.0, stays passed num den n k h.1 (λ q. absurd (true≢false (sym p ∙ q))))
   step n false NoRoad p h = (refl, begins passed num den n h p)
   step n false (Road k t) p h = compared n k t (lt (round binary64 false (num n) (den n)) t) p h refl
 
   pub chosen-least : (estimate : ℕ → Estimate) → ((k : ℕ) → estimate k ≡ cond (passed k) Idle (Seconds (round binary64 false (num k) (den k))))
-      → (n : ℕ) → Chosen passed num den n (chosenBelow estimate n)
-  unfolding chosenBelow
+      → (n : ℕ) → Chosen passed num den n (chosen_below estimate n)
+  unfolding chosen_below
   chosen-least estimate exact zero = λ j l. absurd (omega arith)
   chosen-least estimate exact (suc n) =
-      subst (λ (e : Estimate). Chosen passed num den (suc n) (betterOf (chosenBelow estimate n) n e)) (sym (exact n))
-      (step n (passed n) (chosenBelow estimate n) refl (chosen-least estimate exact n))
+      subst (λ (e : Estimate). Chosen passed num den (suc n) (better_of (chosen_below estimate n) n e)) (sym (exact n))
+      (step n (passed n) (chosen_below estimate n) refl (chosen-least estimate exact n))

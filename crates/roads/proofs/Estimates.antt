@@ -14,36 +14,36 @@ use Rattle.rounding.proofs.Quotient.{whole, whole-eq, quotient}
 use Rattle.roads.specs.declared.Leg.{Leg}
 use Rattle.roads.specs.declared.Estimate.{Estimate}
 use Rattle.roads.specs.declared.Estimate.TheVariants.{Seconds, Idle}
-use Rattle.roads.specs.Estimates.{float, legOf, quotient_of, estimateOf}
-use Rattle.roads.specs.Opening.{Road, idle, passedOver, numerator, denominator}
-use Rattle.roads.proofs.Roads.{length-0, longer, time-there}
+use Rattle.roads.specs.Estimates.{float, leg_of, quotient_of, estimate_of}
+use Rattle.roads.specs.Opening.{Road, idle, passed_over, numerator, denominator}
+use Rattle.roads.proofs.Roads.{length_0, longer, time_there}
 
 -- ---- the three ways through the code
-abbrev estimateBy : Leg → Bool → Bool → Estimate
-estimateBy leg a b = cond a (Seconds (float 0)) (cond b Idle (Seconds (quotient_of leg)))
+abbrev estimate_by : Leg → Bool → Bool → Estimate
+estimate_by leg a b = cond a (Seconds (float 0)) (cond b Idle (Seconds (quotient_of leg)))
 
 module _ (leg : Leg) where
-  pub estimate-length-0 : eq leg.length (of_bits binary64 0) ≡ true → Seconds (of_bits binary64 0) ≡ estimateOf leg
+  pub estimate-length_0 : eq leg.length (of_bits binary64 0) ≡ true → Seconds (of_bits binary64 0) ≡ estimate_of leg
   unfolding of_int of_bits
-  estimate-length-0 h = sym (ap (λ (a : Bool). estimateBy leg a (eq leg.metres (float 0))) h)
+  estimate-length_0 h = sym (ap (λ (a : Bool). estimate_by leg a (eq leg.metres (float 0))) h)
 
-  pub estimate-idle : eq leg.length (of_bits binary64 0) ≡ false → eq leg.metres (of_bits binary64 0) ≡ true → Idle ≡ estimateOf leg
+  pub estimate-idle : eq leg.length (of_bits binary64 0) ≡ false → eq leg.metres (of_bits binary64 0) ≡ true → Idle ≡ estimate_of leg
   unfolding of_int of_bits
-  estimate-idle g h = sym (ap₂ (estimateBy leg) g h)
+  estimate-idle g h = sym (ap₂ (estimate_by leg) g h)
 
-  pub estimate-seconds : eq leg.length (of_bits binary64 0) ≡ false → eq leg.metres (of_bits binary64 0) ≡ false → Seconds (quotient_of leg) ≡ estimateOf leg
+  pub estimate-seconds : eq leg.length (of_bits binary64 0) ≡ false → eq leg.metres (of_bits binary64 0) ≡ false → Seconds (quotient_of leg) ≡ estimate_of leg
   unfolding of_int of_bits
-  estimate-seconds g h = sym (ap₂ (estimateBy leg) g h)
+  estimate-seconds g h = sym (ap₂ (estimate_by leg) g h)
 
 -- the float 0 stands for exactly 0
-pub float-0 : HasValue (float 0) false 0 1
-float-0 = whole 0 (omega arith)
+pub float_0 : HasValue (float 0) false 0 1
+float_0 = whole 0 (omega arith)
 
 -- ---- of a road whose numbers have 16 bits
 
 -- a road's leg
-abbrev pub legFor : Road → Leg
-legFor r = legOf r.length r.metres r.seconds
+abbrev pub leg_for : Road → Leg
+leg_for r = leg_of r.length r.metres r.seconds
 
 -- its three numbers have 16 bits
 abbrev pub SixteenBits : Road → Type 0
@@ -55,44 +55,44 @@ rounded r = round binary64 false (numerator r) (denominator r)
 
 module _ (r : Road) (R : SixteenBits r) where
   -- the two tests of floats are tests of whole numbers
-  estimate-tests : estimateOf (legFor r) ≡ estimateBy (legFor r) (eqb r.length 0) (idle r)
-  estimate-tests = ap₂ (estimateBy (legFor r)) (whole-eq r.length 0 (omega (arith, R.0)) (omega arith)) (whole-eq r.metres 0 (omega (arith, R.1)) (omega arith))
+  estimate_tests : estimate_of (leg_for r) ≡ estimate_by (leg_for r) (eqb r.length 0) (idle r)
+  estimate_tests = ap₂ (estimate_by (leg_for r)) (whole-eq r.length 0 (omega (arith, R.0)) (omega arith)) (whole-eq r.metres 0 (omega (arith, R.1)) (omega arith))
 
   -- idle where it is passed over, else the exact time, rounded once
-  pub estimate-exact : estimateOf (legFor r) ≡ cond (passedOver r) Idle (Seconds (rounded r))
+  pub estimate_exact : estimate_of (leg_for r) ≡ cond (passed_over r) Idle (Seconds (rounded r))
   unfolding of_int
-  estimate-exact = estimate-tests ∙ go (eq-zero-or-pos r.length)
+  estimate_exact = estimate_tests ∙ go (eq-zero-or-pos r.length)
     where
-      moved : (b : Bool) → idle r ≡ b → cond b Idle (Seconds (quotient_of (legFor r))) ≡ cond b Idle (Seconds (round binary64 false (numerator r) r.metres))
+      moved : (b : Bool) → idle r ≡ b → cond b Idle (Seconds (quotient_of (leg_for r))) ≡ cond b Idle (Seconds (round binary64 false (numerator r) r.metres))
       moved true h = refl
       moved false h = ap Seconds (quotient r.length r.metres r.seconds R.0 R.1 R.2 (omega (arith, eqb-false r.metres 0 h)))
 
-      go : (r.length ≡ 0) ⊎ (0 < r.length) → estimateBy (legFor r) (eqb r.length 0) (idle r) ≡ cond (passedOver r) Idle (Seconds (rounded r))
+      go : (r.length ≡ 0) ⊎ (0 < r.length) → estimate_by (leg_for r) (eqb r.length 0) (idle r) ≡ cond (passed_over r) Idle (Seconds (rounded r))
       go (inl e) =
-          let z = length-0 r e in
-          ap (λ (a : Bool). estimateBy (legFor r) a (idle r)) (eq-eqb r.length 0 e)
+          let z = length_0 r e in
+          ap (λ (a : Bool). estimate_by (leg_for r) a (idle r)) (eq-eqb r.length 0 e)
           ∙ sym (ap₂ (λ (p : Bool) (t : Float). cond p Idle (Seconds t)) z.0 (ap₂ (round binary64 false) z.1 z.2))
       go (inr l) =
           let z = longer r l in
-          ap (λ (a : Bool). estimateBy (legFor r) a (idle r)) (ne_eqb r.length 0 (omega arith))
+          ap (λ (a : Bool). estimate_by (leg_for r) a (idle r)) (ne_eqb r.length 0 (omega arith))
           ∙ moved (idle r) refl
           ∙ sym (ap₂ (λ (p : Bool) (d : ℕ). cond p Idle (Seconds (round binary64 false (numerator r) d))) z.0 z.1)
 
   -- the exact time of such a road, where it takes part, is in the range of the laws of rounding
-  pub in-range : passedOver r ≡ false → Small (numerator r) (denominator r)
-  in-range h =
+  pub in_range : passed_over r ≡ false → Small (numerator r) (denominator r)
+  in_range h =
       let a : r.length ≤ 65535 = omega (arith, R.0) in
       let b : r.seconds ≤ 65535 = omega (arith, R.2) in
       let c : numerator r ≤ 65535 * 65535 = mul-le-mul a b in
       let d : denominator r < 2 ^ 16 = elim (eq-zero-or-pos r.length) [
-        | inl e ↦ omega (arith, (length-0 r e).2)
+        | inl e ↦ omega (arith, (length_0 r e).2)
         | inr l ↦ omega (arith, (longer r l).1, R.1)
       ] in
-      (time-there r h, d, omega arith)
+      (time_there r h, d, omega arith)
 
   -- a number of seconds as estimate: the road takes part, and the float is its exact time, rounded once
-  pub seconds-exact : (t : Float) → estimateOf (legFor r) ≡ Seconds t → (passedOver r ≡ false) × (t ≡ rounded r)
-  seconds-exact t e = go (passedOver r) (sym estimate-exact ∙ e)
+  pub seconds_exact : (t : Float) → estimate_of (leg_for r) ≡ Seconds t → (passed_over r ≡ false) × (t ≡ rounded r)
+  seconds_exact t e = go (passed_over r) (sym estimate_exact ∙ e)
     where
       go : (b : Bool) → cond b Idle (Seconds (rounded r)) ≡ Seconds t → (b ≡ false) × (t ≡ rounded r)
       go true h = (cc, cc)
@@ -100,15 +100,15 @@ module _ (r : Road) (R : SixteenBits r) where
 
 -- Of two roads with numbers of 16 bits whose estimates are numbers of seconds, the order of the estimates is the order of the exact times: a
 -- smaller fraction gives a smaller float, and equal fractions give equal floats.
-module _ (q r : Road) (Q : SixteenBits q) (R : SixteenBits r) (t u : Float) (a : estimateOf (legFor q) ≡ Seconds t) (b : estimateOf (legFor r) ≡ Seconds u) where
-  pub estimate-order : lt t u ≡ ltb (numerator q * denominator r) (numerator r * denominator q)
-  estimate-order =
-      let x = seconds-exact q Q t a in
-      let y = seconds-exact r R u b in
-      ap₂ lt x.1 y.1 ∙ order (numerator q) (denominator q) (numerator r) (denominator r) (in-range q Q x.0) (in-range r R y.0)
+module _ (q r : Road) (Q : SixteenBits q) (R : SixteenBits r) (t u : Float) (a : estimate_of (leg_for q) ≡ Seconds t) (b : estimate_of (leg_for r) ≡ Seconds u) where
+  pub estimate_order : lt t u ≡ ltb (numerator q * denominator r) (numerator r * denominator q)
+  estimate_order =
+      let x = seconds_exact q Q t a in
+      let y = seconds_exact r R u b in
+      ap₂ lt x.1 y.1 ∙ order (numerator q) (denominator q) (numerator r) (denominator r) (in_range q Q x.0) (in_range r R y.0)
 
-  pub estimate-equal : numerator q * denominator r ≡ numerator r * denominator q → t ≡ u
-  estimate-equal e =
-      let x = seconds-exact q Q t a in
-      let y = seconds-exact r R u b in
-      x.1 ∙ equal (numerator q) (denominator q) (numerator r) (denominator r) (in-range q Q x.0) (in-range r R y.0) e ∙ sym y.1
+  pub estimate_equal : numerator q * denominator r ≡ numerator r * denominator q → t ≡ u
+  estimate_equal e =
+      let x = seconds_exact q Q t a in
+      let y = seconds_exact r R u b in
+      x.1 ∙ equal (numerator q) (denominator q) (numerator r) (denominator r) (in_range q Q x.0) (in_range r R y.0) e ∙ sym y.1

@@ -9,7 +9,7 @@ use native.Mathlib.Omega.{arith}
 use borrow.Author.Tests.{lt-ltb, le-ltb}
 use borrow.Author.Count.{below_more}
 use Rattle.basics.specs.Lists.{all_below}
-use Rattle.basics.proofs.Laws.{and_both, allBelow-at, allBelow-all, first-unique}
+use Rattle.basics.proofs.Laws.{and_both, all_below-at, all_below-all, first_unique}
 use Rattle.roads.specs.Opening.{faster, fastest, least, LeastBelow}
 
 -- x / p < y / q ≤ z / r
@@ -25,22 +25,22 @@ module _ (passed : ℕ → Bool) (num den : ℕ → ℕ) where
   -- what the test `fastest` says
   slower : (n j k : ℕ) → LeastBelow passed num den n k → j < k → (b : Bool) → passed j ≡ b → (not b && all_below (λ i. passed i || not (faster num den i j)) n) ≡ false
   slower n j k h l true p = refl
-  slower n j k h l false p = go (all_below (λ i. passed i || not (faster num den i j)) n) (λ e. allBelow-at (λ i. passed i || not (faster num den i j)) n e k h.below)
+  slower n j k h l false p = go (all_below (λ i. passed i || not (faster num den i j)) n) (λ e. all_below-at (λ i. passed i || not (faster num den i j)) n e k h.below)
     where
       go : (b : Bool) → (b ≡ true → (passed k || not (faster num den k j)) ≡ true) → b ≡ false
       go true f = absurd (false≢true (rw (h.takes_part, lt-ltb (num k * den j) (num j * den k) (h.lowest j l p)) at (f refl)))
       go false f = refl
 
-  not-slower : (n k : ℕ) → LeastBelow passed num den n k → fastest passed num den n k ≡ true
-  not-slower n k h = and_both (not (passed k)) (all_below (λ j. passed j || not (faster num den j k)) n) (rw h.takes_part) (allBelow-all (λ j. passed j || not (faster num den j k)) n (λ j l. go j l (passed j) refl))
+  not_slower : (n k : ℕ) → LeastBelow passed num den n k → fastest passed num den n k ≡ true
+  not_slower n k h = and_both (not (passed k)) (all_below (λ j. passed j || not (faster num den j k)) n) (rw h.takes_part) (all_below-all (λ j. passed j || not (faster num den j k)) n (λ j l. go j l (passed j) refl))
     where
       go : (j : ℕ) → j < n → (b : Bool) → passed j ≡ b → (b || not (faster num den j k)) ≡ true
       go j l true p = refl
       go j l false p = rw (le-ltb (num j * den k) (num k * den j) (h.smallest j l p))
 
-  pub least-is : (n k : ℕ) → LeastBelow passed num den n k → least passed num den n ≡ k
+  pub least_is : (n k : ℕ) → LeastBelow passed num den n k → least passed num den n ≡ k
   unfolding least
-  least-is n k h = first-unique (fastest passed num den n) n k (omega arith) (λ j l. slower n j k h l (passed j) refl) (λ l. not-slower n k h)
+  least_is n k h = first_unique (fastest passed num den n) n k (omega arith) (λ j l. slower n j k h l (passed j) refl) (λ l. not_slower n k h)
 
   -- ---- one number more: n beside the least of those below it
 
@@ -87,9 +87,9 @@ module _ (passed : ℕ → Bool) (num den : ℕ → ℕ) where
         }
 
     -- it is there, unless all are passed over
-    pub least-there : (n : ℕ) → ((j : ℕ) → j < n → passed j ≡ true) ⊎ ((k : ℕ) × LeastBelow passed num den n k)
-    least-there zero = inl (λ j l. absurd (omega arith))
-    least-there (suc n) = go (passed n) refl (least-there n)
+    pub least_there : (n : ℕ) → ((j : ℕ) → j < n → passed j ≡ true) ⊎ ((k : ℕ) × LeastBelow passed num den n k)
+    least_there zero = inl (λ j l. absurd (omega arith))
+    least_there (suc n) = go (passed n) refl (least_there n)
       where
         go : (b : Bool) → passed n ≡ b → ((j : ℕ) → j < n → passed j ≡ true) ⊎ ((k : ℕ) × LeastBelow passed num den n k)
             → ((j : ℕ) → j < suc n → passed j ≡ true) ⊎ ((k : ℕ) × LeastBelow passed num den (suc n) k)

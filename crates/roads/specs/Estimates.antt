@@ -11,13 +11,13 @@ abbrev pub float : ℕ → Float
 float n = of_int binary64 (pos n)
 
 -- 01's leg: a road's length, metres and seconds as 64-bit floats
-abbrev pub legOf : ℕ → ℕ → ℕ → Leg
-legOf length metres seconds = record { length = float length; metres = float metres; seconds = float seconds }
+abbrev pub leg_of : ℕ → ℕ → ℕ → Leg
+leg_of length metres seconds = record { length = float length; metres = float metres; seconds = float seconds }
 
 -- 01's number of seconds: one product and one division, each rounded once
 abbrev pub quotient_of : Leg → Float
 quotient_of leg = div binary64 (mul binary64 leg.length leg.seconds) leg.metres
 
 -- F-2's estimate: 0 seconds at length 0, idle or not; else 01's, idle where the last run covered 0 metres, else the number of seconds
-abbrev pub estimateOf : Leg → Estimate
-estimateOf leg = cond (eq leg.length (float 0)) (Seconds (float 0)) (cond (eq leg.metres (float 0)) Idle (Seconds (quotient_of leg)))
+abbrev pub estimate_of : Leg → Estimate
+estimate_of leg = cond (eq leg.length (float 0)) (Seconds (float 0)) (cond (eq leg.metres (float 0)) Idle (Seconds (quotient_of leg)))

@@ -1,7 +1,7 @@
 -- The opening crusher of three lists of whole numbers, and its refusals (document 01, 'The opening crusher' and refusals 10 to 13; document
 -- 02, F-2).
 use Rattle.std.specs.Prelude.{ℕ, ◌*◌, ◌≤◌, ◌<◌, ◌≡◌, Bool, false, cond, not, ◌&&◌, ◌||◌, List, [], ◌∷◌, ltb, eqb, length, get_or}
-use Rattle.basics.specs.Lists.{all_below, someBelow, first}
+use Rattle.basics.specs.Lists.{all_below, some_below, first}
 use Rattle.refusals.specs.declared.Refusal.TheVariants.{RoadLists, Seconds, NoTime, AllIdle}
 use Rattle.refusals.specs.declared.Outcome.{Outcome}
 use Rattle.refusals.specs.declared.Outcome.TheVariants.{Accepted, Refused}
@@ -17,16 +17,16 @@ pub record Road : Type 0 where
   pub seconds : ℕ
 
 -- road k of the three lists
-abbrev pub roadAt : List ℕ → List ℕ → List ℕ → ℕ → Road
-roadAt lengths metres seconds k = record { length = get_or lengths k 0; metres = get_or metres k 0; seconds = get_or seconds k 0 }
+abbrev pub road_at : List ℕ → List ℕ → List ℕ → ℕ → Road
+road_at lengths metres seconds k = record { length = get_or lengths k 0; metres = get_or metres k 0; seconds = get_or seconds k 0 }
 
 -- 01's idle: the last run covered 0 metres
 abbrev pub idle : Road → Bool
 idle r = eqb r.metres 0
 
 -- F-2's passed over: idle and longer than 0
-abbrev pub passedOver : Road → Bool
-passedOver r = idle r && ltb 0 r.length
+abbrev pub passed_over : Road → Bool
+passed_over r = idle r && ltb 0 r.length
 
 -- The exact time of a road that is not passed over is the fraction `numerator` / `denominator`: length times seconds, divided by metres.
 -- A road of length 0, idle or not, takes 0 / 1 seconds.
@@ -62,53 +62,53 @@ pub record LeastBelow (passed : ℕ → Bool) (num den : ℕ → ℕ) (n k : ℕ
 -- ---- the refusals
 
 -- 10: no roads, more than 16, or lists of unequal length
-abbrev pub badLists : List ℕ → List ℕ → List ℕ → Bool
-badLists lengths metres seconds =
+abbrev pub bad_lists : List ℕ → List ℕ → List ℕ → Bool
+bad_lists lengths metres seconds =
     let n = length lengths in
     eqb n 0 || ltb 16 n || not (eqb (length metres) n) || not (eqb (length seconds) n)
 
 -- 11: seconds above 3,600, over all roads
-abbrev pub secondsAbove : List ℕ → Bool
-secondsAbove seconds = someBelow (λ k. ltb 3600 (get_or seconds k 0)) (length seconds)
+abbrev pub seconds_above : List ℕ → Bool
+seconds_above seconds = some_below (λ k. ltb 3600 (get_or seconds k 0)) (length seconds)
 
 -- 12: metres above 0 in 0 seconds, over all roads
-abbrev pub noTime : List ℕ → List ℕ → Bool
-noTime metres seconds = someBelow (λ k. ltb 0 (get_or metres k 0) && eqb (get_or seconds k 0) 0) (length seconds)
+abbrev pub no_time : List ℕ → List ℕ → Bool
+no_time metres seconds = some_below (λ k. ltb 0 (get_or metres k 0) && eqb (get_or seconds k 0) 0) (length seconds)
 
 -- 13: every road idle and longer than 0
-abbrev pub allPassedOver : (ℕ → Road) → ℕ → Bool
-allPassedOver road n = all_below (λ k. passedOver (road k)) n
+abbrev pub all_passed_over : (ℕ → Road) → ℕ → Bool
+all_passed_over road n = all_below (λ k. passed_over (road k)) n
 
 -- 10 to 13, in this order
-unfoldable pub openingCheck : List ℕ → List ℕ → List ℕ → Outcome
-openingCheck lengths metres seconds =
-    refuse (badLists lengths metres seconds) RoadLists
-    (refuse (secondsAbove seconds) Seconds
-    (refuse (noTime metres seconds) NoTime
-    (refuse (allPassedOver (roadAt lengths metres seconds) (length lengths)) AllIdle
+unfoldable pub opening_check : List ℕ → List ℕ → List ℕ → Outcome
+opening_check lengths metres seconds =
+    refuse (bad_lists lengths metres seconds) RoadLists
+    (refuse (seconds_above seconds) Seconds
+    (refuse (no_time metres seconds) NoTime
+    (refuse (all_passed_over (road_at lengths metres seconds) (length lengths)) AllIdle
     Accepted)))
 
 -- ---- the answer
 
 -- the road of least exact time among those that are not passed over
-abbrev pub leastRoad : (ℕ → Road) → ℕ → ℕ
-leastRoad road n = least (λ k. passedOver (road k)) (λ k. numerator (road k)) (λ k. denominator (road k)) n
+abbrev pub least_road : (ℕ → Road) → ℕ → ℕ
+least_road road n = least (λ k. passed_over (road k)) (λ k. numerator (road k)) (λ k. denominator (road k)) n
 
 -- Of roads: road k is not passed over, no road that takes part takes less exact time, and none of the same time has a lower number.
 abbrev pub LeastRoad : (ℕ → Road) → ℕ → ℕ → Type 0
-LeastRoad road n k = LeastBelow (λ j. passedOver (road j)) (λ j. numerator (road j)) (λ j. denominator (road j)) n k
+LeastRoad road n k = LeastBelow (λ j. passed_over (road j)) (λ j. numerator (road j)) (λ j. denominator (road j)) n k
 
 -- by the outcome of the check: crusher k where it accepts
-abbrev pub crusherAs : Outcome → ℕ → Opening
-crusherAs Accepted k = Crusher k
-crusherAs (Refused r) k = NoOpening r
+abbrev pub crusher_as : Outcome → ℕ → Opening
+crusher_as Accepted k = Crusher k
+crusher_as (Refused r) k = NoOpening r
 
 -- 01's opening, or the first of the refusals 10 to 13 that holds; road k leads to crusher k
-unfoldable pub openingOf : List ℕ → List ℕ → List ℕ → Opening
-openingOf lengths metres seconds =
-    crusherAs (openingCheck lengths metres seconds) (leastRoad (roadAt lengths metres seconds) (length lengths))
+unfoldable pub opening_of : List ℕ → List ℕ → List ℕ → Opening
+opening_of lengths metres seconds =
+    crusher_as (opening_check lengths metres seconds) (least_road (road_at lengths metres seconds) (length lengths))
 
 -- an answer by document 01's number and values: the crusher, where it is no refusal
-abbrev pub openingAnswer : Opening → ℕ × List ℕ
-openingAnswer (Crusher k) = (0, k ∷ [])
-openingAnswer (NoOpening r) = (number_of r, [])
+abbrev pub opening_answer : Opening → ℕ × List ℕ
+opening_answer (Crusher k) = (0, k ∷ [])
+opening_answer (NoOpening r) = (number_of r, [])

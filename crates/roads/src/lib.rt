@@ -1,9 +1,9 @@
 // The opening crusher (document 01, and F-2 of document 02): the road of least exact time. The code chooses by float estimates,
 // whose order is proved to be that of the exact fractions.
 ghost use Rattle.std.specs.Prelude.{◌≡◌, ◌≤◌, length};
-ghost use Rattle.roads.specs.Estimates.{legOf, estimateOf};
-ghost use Rattle.roads.specs.Opening.{badLists, secondsAbove, noTime, openingOf};
-ghost use Rattle.roads.specs.Choice.{betterOf, chosenBelow, estimateAt};
+ghost use Rattle.roads.specs.Estimates.{leg_of, estimate_of};
+ghost use Rattle.roads.specs.Opening.{bad_lists, seconds_above, no_time, opening_of};
+ghost use Rattle.roads.specs.Choice.{better_of, chosen_below, estimate_at};
 
 use refusals::Refusal;
 
@@ -39,7 +39,7 @@ enum Fastest {
 
 // Every 16-bit number is an f64, so the casts lose nothing.
 pub fn leg_of(length: u16, metres: u16, seconds: u16) -> Leg
-    ensures { result ≡ legOf length metres seconds }
+    ensures { result ≡ leg_of length metres seconds }
 {
     Leg {
         length: length as f64,
@@ -50,7 +50,7 @@ pub fn leg_of(length: u16, metres: u16, seconds: u16) -> Leg
 
 // One product and one division. Length 0 takes 0 seconds, and 0 metres are tested before a quotient is formed by them.
 pub fn estimate_of(leg: Leg) -> Estimate
-    ensures { result ≡ estimateOf leg }
+    ensures { result ≡ estimate_of leg }
 {
     if leg.length == 0.0 {
         return Estimate::Seconds(0.0);
@@ -63,7 +63,7 @@ pub fn estimate_of(leg: Leg) -> Estimate
 
 // Road k takes over where its estimate is smaller, so the lowest number stays on a tie.
 fn better(best: Fastest, k: u8, estimate: Estimate) -> Fastest
-    ensures { result ≡ betterOf best k estimate }
+    ensures { result ≡ better_of best k estimate }
 {
     match estimate {
         Estimate::Idle => best,
@@ -82,7 +82,7 @@ fn better(best: Fastest, k: u8, estimate: Estimate) -> Fastest
 
 // No roads, more than 16, or lists of unequal length.
 fn bad_lists(lengths: &[u16], metres: &[u16], seconds: &[u16]) -> bool
-    ensures { result ≡ badLists lengths.now metres.now seconds.now }
+    ensures { result ≡ bad_lists lengths.now metres.now seconds.now }
 {
     let n = lengths.len();
     (n == 0) | (16 < n) | (metres.len() != n) | (seconds.len() != n)
@@ -90,7 +90,7 @@ fn bad_lists(lengths: &[u16], metres: &[u16], seconds: &[u16]) -> bool
 
 // Some seconds are above the limit.
 fn above_limit(seconds: &[u16]) -> bool
-    ensures { result ≡ secondsAbove seconds.now }
+    ensures { result ≡ seconds_above seconds.now }
 {
     let mut k = 0;
     while k < seconds.len() {
@@ -105,7 +105,7 @@ fn above_limit(seconds: &[u16]) -> bool
 // Some road has metres above 0 in 0 seconds.
 fn without_time(metres: &[u16], seconds: &[u16]) -> bool
     requires { length metres.now ≡ length seconds.now }
-    ensures { result ≡ noTime metres.now seconds.now }
+    ensures { result ≡ no_time metres.now seconds.now }
 {
     let mut k = 0;
     while k < seconds.len() {
@@ -120,7 +120,7 @@ fn without_time(metres: &[u16], seconds: &[u16]) -> bool
 // The road of the smallest estimate, among those that are not passed over.
 fn fastest_road(lengths: &[u16], metres: &[u16], seconds: &[u16]) -> Fastest
     requires { (length metres.now ≡ length lengths.now) × (length seconds.now ≡ length lengths.now) × (length lengths.now ≤ 16) }
-    ensures { result ≡ chosenBelow (estimateAt lengths.now metres.now seconds.now) (length lengths.now) }
+    ensures { result ≡ chosen_below (estimate_at lengths.now metres.now seconds.now) (length lengths.now) }
 {
     let mut best = Fastest::NoRoad;
     let mut k = 0;
@@ -135,7 +135,7 @@ fn fastest_road(lengths: &[u16], metres: &[u16], seconds: &[u16]) -> Fastest
 // The crusher that a truck opens with, from the lengths, metres and seconds of its roads. Each check goes over all roads before
 // the next one starts.
 pub fn opening_crusher(lengths: &[u16], metres: &[u16], seconds: &[u16]) -> Opening
-    ensures { result ≡ openingOf lengths.now metres.now seconds.now }
+    ensures { result ≡ opening_of lengths.now metres.now seconds.now }
 {
     if bad_lists(lengths, metres, seconds) {
         return Opening::Refused(Refusal::RoadLists);

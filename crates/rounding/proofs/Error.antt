@@ -30,17 +30,17 @@ module _ (q u r : ℕ) (R : r < u) where
   even (suc zero) l e = subst (λ (z : ℕ). Within (z * u) (q * u + r) u) (sym (add-one q)) (up (le_of_eq (sym e)))
   even (suc (suc t)) l e = absurd (omega arith)
 
-  nearest-within : (o : Ordering) → (T (is_le o) → r * 2 ≤ u) → (T (not (is_le o)) → u < r * 2) → (T (compare_is_eq o) → r * 2 ≡ u) → Within (nearest q o * u) (q * u + r) u
-  nearest-within Ordering.lt h k e = down (h tt)
-  nearest-within Ordering.eq h k e = even (q % 2) (omega arith) (e tt)
-  nearest-within Ordering.gt h k e = up (le_trans (omega arith) (k tt))
+  nearest_within : (o : Ordering) → (T (is_le o) → r * 2 ≤ u) → (T (not (is_le o)) → u < r * 2) → (T (compare_is_eq o) → r * 2 ≡ u) → Within (nearest q o * u) (q * u + r) u
+  nearest_within Ordering.lt h k e = down (h tt)
+  nearest_within Ordering.eq h k e = even (q % 2) (omega arith) (e tt)
+  nearest_within Ordering.gt h k e = up (le_trans (omega arith) (k tt))
 
 -- the whole number nearest to n / u is off by at most a half
-pub closest-within : (n u : ℕ) → 0 < u → Within (closest n u * u) n u
-closest-within n u U =
+pub closest_within : (n u : ℕ) → 0 < u → Within (closest n u * u) n u
+closest_within n u U =
     let r = n % u in
     subst (λ (z : ℕ). Within (closest n u * u) z u) (div-add-mod' n u)
-    (nearest-within (n / u) u r (mod-lt n U) (compare (r * 2) u) (leb→le (r * 2) u) (nleb→lt (r * 2) u) (eqb→eq (r * 2) u))
+    (nearest_within (n / u) u r (mod-lt n U) (compare (r * 2) u) (leb→le (r * 2) u) (nleb→lt (r * 2) u) (eqb→eq (r * 2) u))
 
 -- g is n, off by at most one part in 2 ^ 53 of n
 abbrev pub Near : ℕ → ℕ → Type 0
@@ -61,8 +61,8 @@ enough a b l A B L = let h : l ≤ a * l = subst (λ (z : ℕ). l ≤ z) (mul_co
 turn : (p b q : ℕ) → p * (b * q) ≡ p * q * b
 turn p b q = ap (λ (z : ℕ). p * z) (mul_comm b q) ∙ sym (mul_assoc p q b)
 
-unit-small : (n b : ℕ) → 0 < b → 53 ≤ size (n / b) → 2 ^ 52 * (b * 2 ^ drop 53 n b) ≤ n
-unit-small n b B S =
+unit_small : (n b : ℕ) → 0 < b → 53 ≤ size (n / b) → 2 ^ 52 * (b * 2 ^ drop 53 n b) ≤ n
+unit_small n b B S =
     let k = drop 53 n b in
     let h : 2 ^ (52 + k) ≤ n / b = size_reaches (n / b) (52 + k) (omega arith) in
     le_trans (le_of_eq (turn (2 ^ 52) b (2 ^ k) ∙ ap (λ (z : ℕ). z * b) (sym (pow-add 2 52 k)))) ((le-div_iff_mul-le B).0 h)
@@ -75,13 +75,13 @@ near-at n b B s =
     let U : 0 < u = mul-pos B (pow_pos k) in
     subst (λ (z : ℕ). Near z n) (turn x b (2 ^ k))
     (elim s [
-      | inl z ↦ near-zero x u n U z (closest-within n u U)
-      | inr h ↦ (u, closest-within n u U, unit-small n b B h)
+      | inl z ↦ near-zero x u n U z (closest_within n u U)
+      | inr h ↦ (u, closest_within n u U, unit_small n b B h)
     ])
 
 -- a / b rounded, in units of the smallest value, is near a / b
-pub grid-near : (a b : ℕ) → 0 < b → b < 2 ^ 16 → Near (grid binary64 a b * b) (a * 2 ^ 1074)
-grid-near a b B S = near-at (a * 2 ^ 1074) b B (go (eq-zero-or-pos a))
+pub grid_near : (a b : ℕ) → 0 < b → b < 2 ^ 16 → Near (grid binary64 a b * b) (a * 2 ^ 1074)
+grid_near a b B S = near-at (a * 2 ^ 1074) b B (go (eq-zero-or-pos a))
   where
     go : (a ≡ 0) ⊎ (0 < a) → (a * 2 ^ 1074 ≡ 0) ⊎ (53 ≤ size (a * 2 ^ 1074 / b))
     go (inl z) = inl (ap (λ (x : ℕ). x * 2 ^ 1074) z ∙ zero-mul (2 ^ 1074))

@@ -11,7 +11,7 @@ use lib.Pow.{pow_pos}
 use lib.Ieee.{Float, binary64, round, lt}
 use lib.Ieee.Exact.{HasValue}
 use lib.Ieee.Scale.{grid, overflow, round_val, round_same}
-use Rattle.rounding.proofs.Error.{Near, grid-near}
+use Rattle.rounding.proofs.Error.{Near, grid_near}
 use Rattle.rounding.proofs.Values.{lt-values}
 
 -- ---- both quotients, in units of the format's smallest value
@@ -24,13 +24,13 @@ near_times g n d (u, w, h) =
     (u * d, (omega arith, omega arith), omega arith)
 
 -- below 2 ^ 48, two whole numbers are further apart than what rounding can move them
-unit-below : (u n l : ℕ) → 2 ^ 52 * u ≤ n → n ≤ 2 ^ 48 * l → 16 * u ≤ l
-unit-below u n l h k = omega arith
+unit_below : (u n l : ℕ) → 2 ^ 52 * u ≤ n → n ≤ 2 ^ 48 * l → 16 * u ≤ l
+unit_below u n l h k = omega arith
 
 apart : (p q x y l : ℕ) → Near p x → Near q y → x + l ≤ y → y ≤ 2 ^ 48 * l → 0 < l → p < q
 apart p q x y l s t h k L =
-    let u : 16 * s.0 ≤ l = unit-below s.0 x l s.2 (omega arith) in
-    let v : 16 * t.0 ≤ l = unit-below t.0 y l t.2 k in
+    let u : 16 * s.0 ≤ l = unit_below s.0 x l s.2 (omega arith) in
+    let v : 16 * t.0 ≤ l = unit_below t.0 y l t.2 k in
     close s.0 t.0 s.1.0 t.1.1 u v
   where
     close : (u v : ℕ) → p * 2 ≤ x * 2 + u → y * 2 ≤ q * 2 + v → 16 * u ≤ l → 16 * v ≤ l → p < q
@@ -57,10 +57,10 @@ Small a b = (0 < b) × (b < 2 ^ 16) × (a < 2 ^ 32)
 value : (a b : ℕ) → Small a b → HasValue (round binary64 false a b) false (grid binary64 a b) (2 ^ 1074)
 value a b s =
     round_val binary64 a b
-    (lt_of_lt_of_le (under (grid binary64 a b) b a (2 ^ 1074) s.0 (grid-near a b s.0 s.1) s.2 (pow_pos 1074)) (lit≤ {m = 2 ^ 34 * 2 ^ 1074} {n = overflow binary64} tt))
+    (lt_of_lt_of_le (under (grid binary64 a b) b a (2 ^ 1074) s.0 (grid_near a b s.0 s.1) s.2 (pow_pos 1074)) (lit≤ {m = 2 ^ 34 * 2 ^ 1074} {n = overflow binary64} tt))
 
-lt-grid : (a b c d : ℕ) → Small a b → Small c d → lt (round binary64 false a b) (round binary64 false c d) ≡ ltb (grid binary64 a b) (grid binary64 c d)
-lt-grid a b c d s t = lt-values (round binary64 false a b) (round binary64 false c d) (grid binary64 a b) (grid binary64 c d) (2 ^ 1074) (pow_pos 1074) (value a b s) (value c d t)
+lt_grid : (a b c d : ℕ) → Small a b → Small c d → lt (round binary64 false a b) (round binary64 false c d) ≡ ltb (grid binary64 a b) (grid binary64 c d)
+lt_grid a b c d s t = lt-values (round binary64 false a b) (round binary64 false c d) (grid binary64 a b) (grid binary64 c d) (2 ^ 1074) (pow_pos 1074) (value a b s) (value c d t)
 
 -- over any unit l: `omega` reads no number as long as 2 ^ 1074
 strict : (g b a h d c l : ℕ) → Near (g * b) (a * l) → Near (h * d) (c * l) → a * d < c * b → c * b ≤ 2 ^ 48 → 0 < l → g < h
@@ -74,7 +74,7 @@ strict g b a h d c l s t k m L =
 
 less : (a b c d : ℕ) → Small a b → Small c d → a * d < c * b → grid binary64 a b < grid binary64 c d
 less a b c d s t h =
-    strict (grid binary64 a b) b a (grid binary64 c d) d c (2 ^ 1074) (grid-near a b s.0 s.1) (grid-near c d t.0 t.1) h (mul-le-mul (le_of_lt t.2) (le_of_lt s.1)) (pow_pos 1074)
+    strict (grid binary64 a b) b a (grid binary64 c d) d c (2 ^ 1074) (grid_near a b s.0 s.1) (grid_near c d t.0 t.1) h (mul-le-mul (le_of_lt t.2) (le_of_lt s.1)) (pow_pos 1074)
 
 -- ---- the laws
 
@@ -87,11 +87,11 @@ pub order : (a b c d : ℕ) → Small a b → Small c d → lt (round binary64 f
 order a b c d s t = go (dec_lt (a * d) (c * b)) (dec_lt (c * b) (a * d))
   where
     go : Dec (a * d < c * b) → Dec (c * b < a * d) → lt (round binary64 false a b) (round binary64 false c d) ≡ ltb (a * d) (c * b)
-    go (yes h) k = lt-grid a b c d s t ∙ lt-ltb (grid binary64 a b) (grid binary64 c d) (less a b c d s t h) ∙ sym (lt-ltb (a * d) (c * b) h)
+    go (yes h) k = lt_grid a b c d s t ∙ lt-ltb (grid binary64 a b) (grid binary64 c d) (less a b c d s t h) ∙ sym (lt-ltb (a * d) (c * b) h)
     go (no h) (yes k) =
-        lt-grid a b c d s t ∙ le-ltb (grid binary64 a b) (grid binary64 c d) (le_of_lt (less c d a b t s k)) ∙ sym (le-ltb (a * d) (c * b) (le_of_lt k))
+        lt_grid a b c d s t ∙ le-ltb (grid binary64 a b) (grid binary64 c d) (le_of_lt (less c d a b t s k)) ∙ sym (le-ltb (a * d) (c * b) (le_of_lt k))
     go (no h) (no k) =
         ap (λ (x : Float). lt x (round binary64 false c d)) (equal a b c d s t (omega arith))
-        ∙ lt-grid c d c d t t
+        ∙ lt_grid c d c d t t
         ∙ le-ltb (grid binary64 c d) (grid binary64 c d) (le_refl (grid binary64 c d))
         ∙ sym (le-ltb (a * d) (c * b) (omega arith))

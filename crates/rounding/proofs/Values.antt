@@ -36,27 +36,27 @@ cross test scales p q r s g h l Q S L e f =
     ∙ scales g h (q * s) (mul-pos Q S)
 
 -- two floats with values that are not negative are finite, with the sign of such a value
-pub of-finite : (P : Float → Float → Type 0) (x y : Float) (a c b d : ℕ) → HasValue x false a c → HasValue y false b d
+pub of_finite : (P : Float → Float → Type 0) (x y : Float) (a c b d : ℕ) → HasValue x false a c → HasValue y false b d
     → ((m n : ℕ) (e g : ℤ) → HasValue (fin false m e) false a c → HasValue (fin false n g) false b d → P (fin false m e) (fin false n g)) → P x y
-of-finite P nan y a c b d p q h = absurd p
-of-finite P (inf s) y a c b d p q h = absurd p
-of-finite P (fin true m e) y a c b d p q h = absurd (true≢false p.0)
-of-finite P (fin false m e) nan a c b d p q h = absurd q
-of-finite P (fin false m e) (inf t) a c b d p q h = absurd q
-of-finite P (fin false m e) (fin true n g) a c b d p q h = absurd (true≢false q.0)
-of-finite P (fin false m e) (fin false n g) a c b d p q h = h m n e g p q
+of_finite P nan y a c b d p q h = absurd p
+of_finite P (inf s) y a c b d p q h = absurd p
+of_finite P (fin true m e) y a c b d p q h = absurd (true≢false p.0)
+of_finite P (fin false m e) nan a c b d p q h = absurd q
+of_finite P (fin false m e) (inf t) a c b d p q h = absurd q
+of_finite P (fin false m e) (fin true n g) a c b d p q h = absurd (true≢false q.0)
+of_finite P (fin false m e) (fin false n g) a c b d p q h = h m n e g p q
 
 module _ (x y : Float) (g h l : ℕ) (L : 0 < l) (p : HasValue x false g l) (q : HasValue y false h l) where
   pub lt-values : lt x y ≡ ltb g h
   unfolding lt
   lt-values =
-      of-finite (λ x y. lt x y ≡ ltb g h) x y g l h l p q
+      of_finite (λ x y. lt x y ≡ ltb g h) x y g l h l p q
       (λ m n e d p q. cross ltb ltb-scales (m * up e) (down e) (n * up d) (down d) g h l (down_pos e) (down_pos d) L p.1 q.1)
 
   pub eq-values : eq x y ≡ eqb g h
   unfolding eq
   eq-values =
-      of-finite (λ x y. eq x y ≡ eqb g h) x y g l h l p q
+      of_finite (λ x y. eq x y ≡ eqb g h) x y g l h l p q
       (λ m n e d p q.
       and-true (eqb (m * up e * down d) (n * up d * down e))
       ∙ cross eqb eqb-scales (m * up e) (down e) (n * up d) (down d) g h l (down_pos e) (down_pos d) L p.1 q.1)

@@ -15,10 +15,10 @@ use lib.ListN.{length, get_or, set, length-set}
 use lib.Seq.{ext_get_or, get_or-set_same, get_or-set_other}
 use Rattle.basics.specs.Bits.{bit}
 use Rattle.basics.specs.Lists.{filled}
-use Rattle.basics.proofs.Laws.{and_left, length-filled, getD-filled, getD-filled-past, filled-ext, filled-same}
+use Rattle.basics.proofs.Laws.{and_left, length-filled, get_or-filled, get_or-filled_past, filled_ext, filled-same}
 use Rattle.basics.proofs.Bits.{bit-and, bit-or, bit-xor, one_of}
-use Rattle.sets.proofs.Words.{bit-without, bit-power, bit_high, bit-zero, bit-removed, removed-lt}
-use Rattle.sets.specs.Sets.{Members, rest_of, lowestOnly}
+use Rattle.sets.proofs.Words.{bit-without, bit_power, bit_high, bit-zero, bit-removed, removed-lt}
+use Rattle.sets.specs.Sets.{Members, rest_of, lowest_only}
 
 pub set_below : (set n : ℕ) → set < 2 ^ n → (j : ℕ) → bit set j ≡ true → j < n
 set_below set n below j h = go (dec_lt j n)
@@ -41,24 +41,24 @@ taken_out {left} {p} {left'} some (lowest, is) e =
     record { below = (is some).0; held = (is some).1; rest = r; less = rw r (removed-lt left p (is some).1) }
 
 -- its set
-pub own_out : {left p own : ℕ} → (left ≡ 0 → ⊥) → p ≡ count_trailing_zeros 32 left → own ≡ lowestOnly left → own ≡ 2 ^ p
-unfolding lowestOnly
+pub own_out : {left p own : ℕ} → (left ≡ 0 → ⊥) → p ≡ count_trailing_zeros 32 left → own ≡ lowest_only left → own ≡ 2 ^ p
+unfolding lowest_only
 own_out {left} {p} some lowest e = e ∙ ap₂ (λ (b : Bool) (i : ℕ). cond b 0 (2 ^ i)) (ne_eqb left 0 some) (sym lowest)
 
 -- the set of one truck
-pub only-is : (i : ℕ) → i < 32 → 2 ^ i % 2 ^ 32 ≡ 2 ^ i
-only-is i l = mod-eq_of_lt (pow-lt l)
+pub only_is : (i : ℕ) → i < 32 → 2 ^ i % 2 ^ 32 ≡ 2 ^ i
+only_is i l = mod-eq_of_lt (pow-lt l)
 
 module _ {set n : ℕ} {p : ℕ → Bool} (m : Members set n p) where
   pub member_below : (j : ℕ) → bit set j ≡ true → j < n
   member_below = set_below set n m.below
 
   -- a member has p
-  pub member-has : (j : ℕ) → bit set j ≡ true → p j ≡ true
-  member-has j h = sym (m.each j (member_below j h)) ∙ h
+  pub member_has : (j : ℕ) → bit set j ≡ true → p j ≡ true
+  member_has j h = sym (m.each j (member_below j h)) ∙ h
 
-  pub members-ext : (q : ℕ → Bool) → ((j : ℕ) → j < n → p j ≡ q j) → Members set n q
-  members-ext q h = record { below = m.below; each = λ j l. m.each j l ∙ h j l }
+  pub members_ext : (q : ℕ → Bool) → ((j : ℕ) → j < n → p j ≡ q j) → Members set n q
+  members_ext q h = record { below = m.below; each = λ j l. m.each j l ∙ h j l }
 
   pub members-and : (b : ℕ) → Members (bit_and set b) n (λ j. p j && bit b j)
   members-and b =
@@ -102,12 +102,12 @@ members-next {m} {i} {p} s b e = record { below = below b; each = λ j l. each b
     below false = less
 
     last : (b : Bool) → bit (cond b (bit_or m (2 ^ i)) m) i ≡ b
-    last true = bit-or m (2 ^ i) i ∙ ap₂ ◌||◌ (bit_high m i i s.below (omega arith)) (bit-power i i ∙ eq-eqb i i refl)
+    last true = bit-or m (2 ^ i) i ∙ ap₂ ◌||◌ (bit_high m i i s.below (omega arith)) (bit_power i i ∙ eq-eqb i i refl)
     last false = bit_high m i i s.below (omega arith)
 
     each : (b : Bool) → b ≡ p i → (j : ℕ) → j < suc i → Dec (j < i) → bit (cond b (bit_or m (2 ^ i)) m) j ≡ p j
     each true e j l (yes o) =
-        bit-or m (2 ^ i) j ∙ ap (λ (x : Bool). bit m j || x) (bit-power i j ∙ ne_eqb i j (λ q. omega arith)) ∙ or-false (bit m j) ∙ s.each j o
+        bit-or m (2 ^ i) j ∙ ap (λ (x : Bool). bit m j || x) (bit_power i j ∙ ne_eqb i j (λ q. omega arith)) ∙ or-false (bit m j) ∙ s.each j o
     each false e j l (yes o) = s.each j o
     each b e j l (no o) = let q : j ≡ i = omega arith in rw q (last b ∙ e)
 
@@ -128,7 +128,7 @@ seen_none n left q h = members-none n (seen left q) (λ j l. go (bit left j) (q 
     go false false f = refl
 
 pub seen_all : {m n : ℕ} {q : ℕ → Bool} → Members m n (seen 0 q) → Members m n q
-seen_all {m} {n} {q} h = members-ext h q (λ j l. ap (λ (b : Bool). not b && q j) (bit-zero j))
+seen_all {m} {n} {q} h = members_ext h q (λ j l. ap (λ (b : Bool). not b && q j) (bit-zero j))
 
 module _ (m n left i : ℕ) (q : ℕ → Bool) (l : i < n) (h : bit left i ≡ true) (s : Members m n (seen left q)) where
   -- the others were seen or not as before
@@ -138,11 +138,11 @@ module _ (m n left i : ℕ) (q : ℕ → Bool) (l : i < n) (h : bit left i ≡ t
   same : seen (bit_xor left (2 ^ i)) q i ≡ q i
   same = ap (λ (b : Bool). not b && q i) (bit-removed left i i h ∙ ap (λ (b : Bool). bit left i && not b) (eq-eqb i i refl) ∙ and-false (bit left i))
 
-  pub seen-in : q i ≡ true → Members (bit_or m (2 ^ i)) n (seen (bit_xor left (2 ^ i)) q)
-  seen-in e =
+  pub seen_in : q i ≡ true → Members (bit_or m (2 ^ i)) n (seen (bit_xor left (2 ^ i)) q)
+  seen_in e =
       record {
         below = or_lt n m (2 ^ i) s.below (pow-lt l);
-        each = λ j lj. bit-or m (2 ^ i) j ∙ ap (λ (b : Bool). bit m j || b) (bit-power i j) ∙ go j lj (ℕ_discrete i j);
+        each = λ j lj. bit-or m (2 ^ i) j ∙ ap (λ (b : Bool). bit m j || b) (bit_power i j) ∙ go j lj (ℕ_discrete i j);
       }
     where
       top : (b : Bool) → (b || true) ≡ true
@@ -153,8 +153,8 @@ module _ (m n left i : ℕ) (q : ℕ → Bool) (l : i < n) (h : bit left i ≡ t
       go j lj (yes d) = rw (eq-eqb i j d) (top (bit m j) ∙ sym (ap (seen (bit_xor left (2 ^ i)) q) (sym d) ∙ same ∙ e))
       go j lj (no d) = rw (ne_eqb i j d) (or-false (bit m j) ∙ s.each j lj ∙ sym (other j d))
 
-  pub seen-out : q i ≡ false → Members m n (seen (bit_xor left (2 ^ i)) q)
-  seen-out e = members-ext s (seen (bit_xor left (2 ^ i)) q) (λ j lj. go j (ℕ_discrete i j))
+  pub seen_out : q i ≡ false → Members m n (seen (bit_xor left (2 ^ i)) q)
+  seen_out e = members_ext s (seen (bit_xor left (2 ^ i)) q) (λ j lj. go j (ℕ_discrete i j))
     where
       go : (j : ℕ) → Dec (i ≡ j) → seen left q j ≡ seen (bit_xor left (2 ^ i)) q j
       go j (yes d) =
@@ -164,8 +164,8 @@ module _ (m n left i : ℕ) (q : ℕ → Bool) (l : i < n) (h : bit left i ≡ t
 
   -- truck i joins where it has q
   pub seen-joined : (b : Bool) → b ≡ q i → Members (cond b (bit_or m (2 ^ i)) m) n (seen (bit_xor left (2 ^ i)) q)
-  seen-joined true e = seen-in (sym e)
-  seen-joined false e = seen-out (sym e)
+  seen-joined true e = seen_in (sym e)
+  seen-joined false e = seen_out (sym e)
 
 -- ---- those wanted are taken one by one, and `out` holds those of them that were taken already and have f
 abbrev pub Picked : ℕ → ℕ → (ℕ → Bool) → ℕ → ℕ → Type 0
@@ -198,7 +198,7 @@ module _ {A : Type 0} (z : A) (d : List A) (new : ℕ → A) (n : ℕ) where
   replaced left = filled (half left) n d
 
   pub replaced-all : replaced 0 ≡ filled new n d
-  replaced-all = filled-ext (half 0) new n d (λ j l. ap (λ (b : Bool). cond b (get_or d j z) (new j)) (bit-zero j))
+  replaced-all = filled_ext (half 0) new n d (λ j l. ap (λ (b : Bool). cond b (get_or d j z) (new j)) (bit-zero j))
 
 module _ {A : Type 0} (z : A) (d : List A) (new : ℕ → A) (n : ℕ) (long : n ≤ length d) where
   abbrev old : ℕ → ℕ → A
@@ -214,8 +214,8 @@ module _ {A : Type 0} (z : A) (d : List A) (new : ℕ → A) (n : ℕ) (long : n
       pick j true e f = refl
       pick j false e f = f e
 
-  pub replaced-more : (left i : ℕ) (a : A) → i < n → bit left i ≡ true → a ≡ new i → set (part left) i a ≡ part (bit_xor left (2 ^ i))
-  replaced-more left i a l h e =
+  pub replaced_more : (left i : ℕ) (a : A) → i < n → bit left i ≡ true → a ≡ new i → set (part left) i a ≡ part (bit_xor left (2 ^ i))
+  replaced_more left i a l h e =
       ext_get_or z (set (part left) i a) (part left')
       (length-set (part left) i a ∙ long' ∙ sym (length-filled (old left') n d long)) (λ j o. go j (ℕ_discrete j i) (dec_lt j n))
     where
@@ -230,14 +230,14 @@ module _ {A : Type 0} (z : A) (d : List A) (new : ℕ → A) (n : ℕ) (long : n
           ap (λ (k : ℕ). get_or (set (part left) i a) k z) s
           ∙ get_or-set_same (part left) i a z (omega (arith, long'))
           ∙ e
-          ∙ sym (ap (λ (k : ℕ). get_or (part left') k z) s ∙ getD-filled (old left') n d i z l
+          ∙ sym (ap (λ (k : ℕ). get_or (part left') k z) s ∙ get_or-filled (old left') n d i z l
           ∙ ap (λ (b : Bool). cond b (get_or d i z) (new i)) (bit-removed left i i h ∙ ap (λ (b : Bool). bit left i && not b) (eq-eqb i i refl) ∙ and-false (bit left i)))
       go j (no s) (yes o) =
           get_or-set_other (part left) i j a z s
-          ∙ getD-filled (old left) n d j z o
-          ∙ sym (getD-filled (old left') n d j z o
+          ∙ get_or-filled (old left) n d j z o
+          ∙ sym (get_or-filled (old left') n d j z o
           ∙ ap (λ (b : Bool). cond b (get_or d j z) (new j)) (bit-removed left i j h ∙ ap (λ (b : Bool). bit left j && not b) (ne_eqb i j (λ t. s (sym t))) ∙ and-true (bit left j)))
       go j (no s) (no o) =
           get_or-set_other (part left) i j a z s
-          ∙ getD-filled-past (old left) n d j z (omega arith)
-          ∙ sym (getD-filled-past (old left') n d j z (omega arith))
+          ∙ get_or-filled_past (old left) n d j z (omega arith)
+          ∙ sym (get_or-filled_past (old left') n d j z (omega arith))

@@ -15,7 +15,7 @@ use lib.ListN.{length, length-append}
 use Rattle.basics.specs.Bits.{digit, bit}
 use Rattle.basics.specs.Lists.{who}
 use Rattle.basics.proofs.Bits.{digits, bit-and, one_of, bit-xor}
-use Rattle.basics.proofs.Laws.{who-ext}
+use Rattle.basics.proofs.Laws.{who_ext}
 use Rattle.bitreader.proofs.Digits.{digit_lt, digit-mod, same_digits}
 
 pub positive : (n : ℕ) → (n ≡ 0 → ⊥) → 0 < n
@@ -36,8 +36,8 @@ bit_high w k j h l =
     ne_eqb (digit w j) 1 (λ e. omega (arith, ap (λ (d : ℕ). d % 2) (div-eq_of_lt (let s : w < 2 ^ j = omega (arith, pow_mono l) in s)), e))
 
 -- the word of one truck
-pub bit-power : (i j : ℕ) → bit (2 ^ i) j ≡ eqb i j
-bit-power i j = go (dec_lt i j) (dec_lt j i)
+pub bit_power : (i j : ℕ) → bit (2 ^ i) j ≡ eqb i j
+bit_power i j = go (dec_lt i j) (dec_lt j i)
   where
     go : Dec (i < j) → Dec (j < i) → bit (2 ^ i) j ≡ eqb i j
     go (yes l) e = bit_high (2 ^ i) j j (pow-lt l) (omega arith) ∙ sym (ne_eqb i j (λ s. omega arith))
@@ -67,10 +67,10 @@ pub no_bits : (w k : ℕ) → w < 2 ^ k → ((j : ℕ) → j < k → bit w j ≡
 no_bits w k p h = same_bits w 0 k p (pow_pos k) (λ j l. h j l ∙ sym (bit-zero j))
 
 -- a word that is not 0 has a member, and this is one
-pub trailing-bit : (k w : ℕ) → 0 < w → w < 2 ^ k → (count_trailing_zeros k w < k) × (bit w (count_trailing_zeros k w) ≡ true)
+pub trailing_bit : (k w : ℕ) → 0 < w → w < 2 ^ k → (count_trailing_zeros k w < k) × (bit w (count_trailing_zeros k w) ≡ true)
 unfolding count_trailing_zeros
-trailing-bit zero w p h = absurd (omega arith)
-trailing-bit (suc k) w p h = go (w % 2) refl (trailing-bit k (w / 2))
+trailing_bit zero w p h = absurd (omega arith)
+trailing_bit (suc k) w p h = go (w % 2) refl (trailing_bit k (w / 2))
   where
     go : (d : ℕ) → w % 2 ≡ d → (0 < w / 2 → w / 2 < 2 ^ k → (count_trailing_zeros k (w / 2) < k) × (bit (w / 2) (count_trailing_zeros k (w / 2)) ≡ true))
         → (under d (count_trailing_zeros k (w / 2)) < suc k) × (bit w (under d (count_trailing_zeros k (w / 2))) ≡ true)
@@ -86,10 +86,10 @@ trailing-bit (suc k) w p h = go (w % 2) refl (trailing-bit k (w / 2))
         (omega arith, ap (λ (x : ℕ). eqb (x % 2) 1) (div-one w) ∙ eq-eqb (w % 2) 1 (omega (arith, mod-lt w (let z : 0 < 2 = lit< tt in z))))
 
 -- the word without it
-pub trailing-rest : (k w : ℕ) → 0 < w → w < 2 ^ k → bit_and w (w - 1) ≡ bit_xor w (2 ^ count_trailing_zeros k w)
+pub trailing_rest : (k w : ℕ) → 0 < w → w < 2 ^ k → bit_and w (w - 1) ≡ bit_xor w (2 ^ count_trailing_zeros k w)
 unfolding count_trailing_zeros
-trailing-rest zero w p h = absurd (omega arith)
-trailing-rest (suc k) w p h = go (w % 2) refl (trailing-rest k (w / 2))
+trailing_rest zero w p h = absurd (omega arith)
+trailing_rest (suc k) w p h = go (w % 2) refl (trailing_rest k (w / 2))
   where
     t : ℕ
     t = count_trailing_zeros k (w / 2)
@@ -114,7 +114,7 @@ trailing-rest (suc k) w p h = go (w % 2) refl (trailing-rest k (w / 2))
 
 -- a member is taken out
 pub bit-removed : (w i j : ℕ) → bit w i ≡ true → bit (bit_xor w (2 ^ i)) j ≡ (bit w j && not (eqb i j))
-bit-removed w i j h = bit-xor w (2 ^ i) j ∙ ap (one_of (bit w j)) (bit-power i j) ∙ go (ℕ_discrete i j)
+bit-removed w i j h = bit-xor w (2 ^ i) j ∙ ap (one_of (bit w j)) (bit_power i j) ∙ go (ℕ_discrete i j)
   where
     two : (x : Bool) → one_of x false ≡ (x && not false)
     two true = refl
@@ -128,10 +128,10 @@ bit-removed w i j h = bit-xor w (2 ^ i) j ∙ ap (one_of (bit w j)) (bit-power i
     go (yes e) = rw (eq-eqb i j e) (one (bit w j) (ap (bit w) (sym e) ∙ h))
     go (no e) = rw (ne_eqb i j e) (two (bit w j))
 
-and-power : (w i : ℕ) → bit w i ≡ true → bit_and w (2 ^ i) ≡ 2 ^ i
-and-power w i h =
+and_power : (w i : ℕ) → bit w i ≡ true → bit_and w (2 ^ i) ≡ 2 ^ i
+and_power w i h =
     same_bits (bit_and w (2 ^ i)) (2 ^ i) (suc i) (omega (arith, and_le_r w (2 ^ i), pow-lt (let l : i < suc i = omega arith in l))) (pow-lt (omega arith))
-    (λ j l. bit-and w (2 ^ i) j ∙ ap (λ (b : Bool). bit w j && b) (bit-power i j) ∙ go j (ℕ_discrete i j) ∙ sym (bit-power i j))
+    (λ j l. bit-and w (2 ^ i) j ∙ ap (λ (b : Bool). bit w j && b) (bit_power i j) ∙ go j (ℕ_discrete i j) ∙ sym (bit_power i j))
   where
     go : (j : ℕ) → Dec (i ≡ j) → (bit w j && eqb i j) ≡ eqb i j
     go j (yes e) = rw (eq-eqb i j e, ap (bit w) (sym e) ∙ h)
@@ -139,19 +139,19 @@ and-power w i h =
 
 -- and the word falls
 pub removed-lt : (w i : ℕ) → bit w i ≡ true → bit_xor w (2 ^ i) < w
-removed-lt w i h = omega (arith, xor_add_and w (2 ^ i), and-power w i h, pow_pos i)
+removed-lt w i h = omega (arith, xor_add_and w (2 ^ i), and_power w i h, pow_pos i)
 
 -- the bits below the k-th
 pub bit-mod : (w k j : ℕ) → j < k → bit (w % 2 ^ k) j ≡ bit w j
 bit-mod w k j h = ap (λ (d : ℕ). eqb d 1) (digit-mod w k j h)
 
 -- the bits from the p-th on, counted from there
-pub bit-shr : (w p j : ℕ) → bit (w / 2 ^ p) j ≡ bit w (p + j)
-bit-shr w p j = ap (λ (x : ℕ). eqb (x % 2) 1) (shr-shr w p j)
+pub bit_shr : (w p j : ℕ) → bit (w / 2 ^ p) j ≡ bit w (p + j)
+bit_shr w p j = ap (λ (x : ℕ). eqb (x % 2) 1) (shr-shr w p j)
 
 -- a word moved up by k places holds each of its bits k places further
 pub bit_shifted : (a k p : ℕ) → bit (a * 2 ^ k) (k + p) ≡ bit a p
-bit_shifted a k p = sym (bit-shr (a * 2 ^ k) k p) ∙ ap (λ (x : ℕ). bit x p) (shl-shr a k)
+bit_shifted a k p = sym (bit_shr (a * 2 ^ k) k p) ∙ ap (λ (x : ℕ). bit x p) (shl-shr a k)
 
 -- and no bit below
 pub bit_below : (a k p : ℕ) → p < k → bit (a * 2 ^ k) p ≡ false
@@ -175,7 +175,7 @@ ones-count w (suc k) h =
     ap ones d.1
     ∙ ones_cat k (digit w k) (w % 2 ^ k) d.0
     ∙ ap₂ (λ (x y : ℕ). x + y) (top (digit w k) (mod-lt (w / 2 ^ k) (lit< tt)))
-    (ones-count (w % 2 ^ k) k d.0 ∙ ap length (who-ext (bit (w % 2 ^ k)) (bit w) k (bit-mod w k)))
+    (ones-count (w % 2 ^ k) k d.0 ∙ ap length (who_ext (bit (w % 2 ^ k)) (bit w) k (bit-mod w k)))
     ∙ add_comm (length (cond (bit w k) (k ∷ []) [])) (length (who (bit w) k))
     ∙ sym (length-append (who (bit w) k) (cond (bit w k) (k ∷ []) []))
   where
@@ -185,4 +185,4 @@ ones-count w (suc k) h =
     top (suc (suc x)) l = absurd (omega arith)
 
 pub some-bit : (w k : ℕ) → w < 2 ^ k → (w ≡ 0 → ⊥) → (j : ℕ) × (j < k) × (bit w j ≡ true)
-some-bit w k h z = let r = trailing-bit k w (omega arith) h in (count_trailing_zeros k w, r.0, r.1)
+some-bit w k h z = let r = trailing_bit k w (omega arith) h in (count_trailing_zeros k w, r.0, r.1)

@@ -18,5 +18,5 @@ unfoldable pub rest_of : ℕ → ℕ
 rest_of set = cond (eqb set 0) 0 (bit_xor set (2 ^ count_trailing_zeros 32 set))
 
 -- the set of the lowest truck of a set
-unfoldable pub lowestOnly : ℕ → ℕ
-lowestOnly set = cond (eqb set 0) 0 (2 ^ count_trailing_zeros 32 set)
+unfoldable pub lowest_only : ℕ → ℕ
+lowest_only set = cond (eqb set 0) 0 (2 ^ count_trailing_zeros 32 set)

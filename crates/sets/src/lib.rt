@@ -3,7 +3,7 @@ ghost use Rattle.std.specs.Prelude.{◌≡◌, true, cond, ◌<◌, ◌^◌, ◌
 ghost use Rattle.std.specs.Int.Bits.{bit_or};
 ghost use Rattle.std.specs.Int.Count.{count_trailing_zeros};
 ghost use Rattle.basics.specs.Bits.{bit};
-ghost use Rattle.sets.specs.Sets.{without, rest_of, lowestOnly};
+ghost use Rattle.sets.specs.Sets.{without, rest_of, lowest_only};
 
 // The lowest truck of a set, or 32 where it is empty.
 pub fn lowest(set: u32) -> usize
@@ -24,7 +24,7 @@ pub fn rest(set: u32) -> u32
 
 // The set of the lowest truck of a set.
 pub fn only_lowest(set: u32) -> u32
-    ensures { result ≡ lowestOnly set }
+    ensures { result ≡ lowest_only set }
 {
     set ^ rest(set)
 }

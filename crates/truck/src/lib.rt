@@ -1,8 +1,8 @@
 // What a round makes of one truck: by value, and where its record stands.
 ghost use Rattle.std.specs.Prelude.{cond, ◌≡◌, min};
-ghost use Rattle.protocol.specs.Rules.{runs, vetoes, isOne, isSeveral, counted, stops, proposed, vetoed, decides};
-ghost use Rattle.protocol.specs.Six.{stopsSix, afterPrepare, afterBit, accepts, afterAccept};
-ghost use Rattle.truck.specs.Events.{adds, happened, turned, updatedFirst};
+ghost use Rattle.protocol.specs.Rules.{runs, vetoes, is_one, is_several, counted, stops, proposed, vetoed, decides};
+ghost use Rattle.protocol.specs.Six.{stops_six, after_prepare, after_bit, accepts, after_accept};
+ghost use Rattle.truck.specs.Events.{adds, happened, turned, updated_first};
 
 use protocol::{Fleet, Heard, Sent, State, Truck};
 
@@ -55,7 +55,7 @@ pub fn runs(t: Truck) -> bool
 }
 
 fn is_several(heard: Heard) -> bool
-    ensures { result ≡ isSeveral heard }
+    ensures { result ≡ is_several heard }
 {
     match heard {
         Heard::Nothing => false,
@@ -114,7 +114,7 @@ fn after_proposals(t: Truck, sends: bool, mark: bool, heard: Heard, least: u8) -
 }
 
 fn is_one(heard: Heard) -> bool
-    ensures { result ≡ isOne heard }
+    ensures { result ≡ is_one heard }
 {
     match heard {
         Heard::Nothing => false,
@@ -157,7 +157,7 @@ fn after_vetoes(t: Truck, round: u16, sends: bool, mark: bool, veto: bool) -> Tr
 }
 
 fn after_stop_six(t: Truck, round: u16) -> Truck
-    ensures { result ≡ stopsSix round t }
+    ensures { result ≡ stops_six round t }
 {
     Truck {
         unwilling: false,
@@ -167,7 +167,7 @@ fn after_stop_six(t: Truck, round: u16) -> Truck
 }
 
 fn after_prepare(t: Truck, mark: bool, least: u8) -> Truck
-    ensures { result ≡ afterPrepare mark least t }
+    ensures { result ≡ after_prepare mark least t }
 {
     Truck {
         estimate: estimate_after(t, mark, least),
@@ -177,7 +177,7 @@ fn after_prepare(t: Truck, mark: bool, least: u8) -> Truck
 }
 
 fn after_bit(t: Truck, bit: bool, noticed: bool) -> Truck
-    ensures { result ≡ afterBit bit noticed t }
+    ensures { result ≡ after_bit bit noticed t }
 {
     let unwilling = t.unwilling | (!bit & noticed);
     Truck { unwilling, ..t }
@@ -191,7 +191,7 @@ fn accepts(t: Truck, noticed: bool) -> bool
 }
 
 fn after_accept(t: Truck, round: u16, noticed: bool) -> Truck
-    ensures { result ≡ afterAccept round noticed t }
+    ensures { result ≡ after_accept round noticed t }
 {
     let state = if accepts(t, noticed) {
         State::Decided(round)
@@ -246,7 +246,7 @@ pub fn update(t: &mut Truck, round: u16, event: Event)
 // The first n trucks of a fleet, each brought up to date where it stands in the fleet: events[i] is what the round is to truck i. There are 32 places, so a
 // larger n means all of them.
 pub fn update_first(mut f: Fleet, n: usize, round: u16, events: [Event; 32]) -> Fleet
-    ensures { result ≡ updatedFirst f (min n 32) round events }
+    ensures { result ≡ updated_first f (min n 32) round events }
 {
     let end = if n < 32 { n } else { 32 };
     let mut i = 0;

@@ -38,7 +38,7 @@ use denote.Triple.Table.{entered, cited}
 use denote.Triple.Walked.{says, Stays, stay_none_slice, stay_none, walk_of, AllGo, Goes-none_slice, Goes-none, Walks, ends_at, walked, walk_Meets}
 use denote.Exit.{yes}
 use Rattle.basics.proofs.Locals.{here, held}
-use Rattle.bitreader.specs.Bits.{placeAfter, movedBy}
+use Rattle.bitreader.specs.Bits.{place_after, moved_by}
 use Rattle.bitreader.specs.declared.Reader.{Reader}
 use Rattle.bitcalls.specs.declared.Taken.{Taken}
 use Rattle.bitcalls.specs.contracts.Taken as Tk
@@ -88,12 +88,12 @@ module _ {M : Type 1} {𝓤 : Ura M} (𝓛 : Logic 𝓤) (at_mem : Memory → SP
   Own = (ShrSlice (named 0) κ u8).own_val s (v ∷ [])
 
   -- the place after the bits read fits
-  after-fits : placeAfter n k < 2 ^ 64
+  after-fits : place_after n k < 2 ^ 64
   after-fits = omega arith
 
   -- the answer
   abbrev made : ℕ → Taken
-  made w = record { value = w; next = placeAfter n k }
+  made w = record { value = w; next = place_after n k }
 
   exits : (w : ℕ) → w < 2 ^ 32 → w ≡ bits_of r k → ent 𝓤 (⋆ 𝓛 (‵ (flft κ q) ∷ ‵ Own ∷ [])) (Post (Tk'.lowered (made w)))
   exits w fw e =
@@ -126,7 +126,7 @@ module _ {M : Type 1} {𝓤 : Ura M} (𝓛 : Logic 𝓤) (at_mem : Memory → SP
         peeks ! u32 (Is u32) (shows 𝓛 u32) w (u' ∷ []) (λ is'.
         -- [the bits; the token; the reader; the slice; the numbers; _8 at 5; _7 at 7; _6 at 9; _5 at 11; _4's end at 13; _3 at 14; …; _0 at 20]
         land ! (here !) (init ! 11 refl ((uint_Lawful 𝓛 w32).typed w _ is').0) $ rewrite ! 11 (λ (y : Val). ‵ (fat full_share (ty_int w32) l5 0 y)) (ap only is'.0) refl $
-        move ! (2 ∷ []) $ use1 𝓛 (‵ (fat full_share (T'.mir erased) l4 0 (T'.lowered (movedBy r k)))) (cell 𝓛 κ (movedBy r k) l4) $
+        move ! (2 ∷ []) $ use1 𝓛 (‵ (fat full_share (T'.mir erased) l4 0 (T'.lowered (moved_by r k)))) (cell 𝓛 κ (moved_by r k) l4) $
         -- the reader's local stands first, and its place is read from there
         assigns ! (of_opd ! (load ! (from ! (fld ! refl (stop !))) (look_in ! 0 (sub ! 1 refl (whole !))))) (here !) (init ! 5 refl (tt, record { fits = after-fits })) $
         assigns ! (agg ! (and_then ! (held ! 11 refl) (and_then ! (held ! 5 refl) (no_more !)))) (here !) (init ! 20 refl (tt, (record { fits = is'.1 }, (record { fits = after-fits }, tt)))) $

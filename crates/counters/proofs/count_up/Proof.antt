@@ -11,7 +11,7 @@ use lib.Bits.{bit_and, bit_xor}
 use lib.Dec.{eqb, ltb}
 use lib.ListN.{get_or, set}
 use Rattle.basics.proofs.Laws.{and_right}
-use Rattle.counters.specs.Counters.{carried, raised, countedUp}
+use Rattle.counters.specs.Counters.{carried, raised, counted_up}
 use Rattle.counters.proofs.Counts.{raised-next, carried-next, raised-done}
 use Rattle.counters.proofs.count_up.Statement.{statement}
 use Rattle.counters.proofs.count_up.Tie as tie
@@ -44,10 +44,10 @@ loop-again c =
     )
 
 -- all eight words are raised, or nothing is carried to the next
-ended : (old words : List ℕ) (who carry i : ℕ) → i ≤ 8 → words ≡ raised old who i → carry ≡ carried old who i → (not (eqb carry 0) && ltb i 8) ≡ false → words ≡ countedUp old who
+ended : (old words : List ℕ) (who carry i : ℕ) → i ≤ 8 → words ≡ raised old who i → carry ≡ carried old who i → (not (eqb carry 0) && ltb i 8) ≡ false → words ≡ counted_up old who
 ended old words who carry i l e f h = go (eqb carry 0) refl h
   where
-    go : (b : Bool) → eqb carry 0 ≡ b → (not b && ltb i 8) ≡ false → words ≡ countedUp old who
+    go : (b : Bool) → eqb carry 0 ≡ b → (not b && ltb i 8) ≡ false → words ≡ counted_up old who
     go true eb g =
         e ∙ sym (raised-done old who i (8 - i) (sym f ∙ eqb-true carry 0 eb)).1
         ∙ ap (raised old who) (let z : i + (8 - i) ≡ 8 = omega arith in z)

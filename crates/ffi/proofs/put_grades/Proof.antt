@@ -2,7 +2,7 @@
 use native.Mathlib.Omega.{arith}
 use lib.ListN.{length-set}
 use borrow.Author.Rules.{rules}
-use Rattle.ffi.proofs.Answers.{grades-0, grades-9, grades-refused}
+use Rattle.ffi.proofs.Answers.{grades_0, grades_9, grades-refused}
 use Rattle.ffi.proofs.put_grades.Statement.{statement}
 use Rattle.ffi.proofs.put_grades.Tie as tie
 
@@ -14,11 +14,11 @@ put-grades-spec =
     (λ c κs. search rules)
     (λ c. search rules)
     (λ c κs. search rules)
-    (λ c. search grades-9)
+    (λ c. search grades_9)
     (λ c. search rules)
     (λ c. simp length-set (omega arith))
     (λ c. simp length-set (omega arith))
     (λ c. simp length-set (omega arith))
     (λ c. search grades-refused)
     (λ c. simp length-set)
-    (λ c. search grades-0))
+    (λ c. search grades_0))

@@ -1,6 +1,6 @@
 -- `rajvokshul_opening` meets its contract: a law for each return.
 use borrow.Author.Rules.{rules}
-use Rattle.ffi.proofs.Answers.{opening-call-0, opening-call-refused}
+use Rattle.ffi.proofs.Answers.{opening_call_0, opening_call_refused}
 use Rattle.ffi.proofs.rajvokshul_opening.Statement.{statement}
 use Rattle.ffi.proofs.rajvokshul_opening.Tie as tie
 
@@ -12,5 +12,5 @@ rajvokshul-opening-spec =
     (λ c. search rules)
     (λ c. search rules)
     (λ c κs. search rules)
-    (λ c. search opening-call-0)
-    (λ c. search opening-call-refused))
+    (λ c. search opening_call_0)
+    (λ c. search opening_call_refused))

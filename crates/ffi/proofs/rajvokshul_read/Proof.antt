@@ -1,6 +1,6 @@
 -- `rajvokshul_read` meets its contract: a law for each return.
 use borrow.Author.Rules.{rules}
-use Rattle.ffi.proofs.Answers.{read-call-0, read-call-refused}
+use Rattle.ffi.proofs.Answers.{read_call_0, read_call_refused}
 use Rattle.ffi.proofs.rajvokshul_read.Statement.{statement}
 use Rattle.ffi.proofs.rajvokshul_read.Tie as tie
 
@@ -16,7 +16,7 @@ rajvokshul-read-spec =
     (λ c κs. search rules)
     (λ c. search rules)
     (λ c. search rules)
-    (λ c. search read-call-0)
+    (λ c. search read_call_0)
     (λ c. search rules)
     (λ c. search rules)
-    (λ c. search read-call-refused))
+    (λ c. search read_call_refused))

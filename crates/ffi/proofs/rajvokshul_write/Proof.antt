@@ -1,14 +1,14 @@
 -- `rajvokshul_write` meets its contract: a law for each return.
 use borrow.Author.Rules.{rules}
-use Rattle.ffi.proofs.Answers.{write-call-0, write-call-refused}
+use Rattle.ffi.proofs.Answers.{write_call_0, write_call_refused}
 use Rattle.ffi.proofs.rajvokshul_write.Statement.{statement}
 use Rattle.ffi.proofs.rajvokshul_write.Tie as tie
 
 returns : tie.Need-returns
-returns c = search write-call-0
+returns c = search write_call_0
 
 returns-2 : tie.Need-returns-2
-returns-2 c = search write-call-refused
+returns-2 c = search write_call_refused
 
 pub rajvokshul-write-spec : {M : Type 1} → statement M
 rajvokshul-write-spec =

@@ -1,6 +1,6 @@
 -- `store` meets its contract: a law for each return.
 use borrow.Author.Rules.{rules}
-use Rattle.ffi.proofs.Records.{store-refused, store-0}
+use Rattle.ffi.proofs.Records.{store_refused, store_0}
 use Rattle.ffi.proofs.store.Statement.{statement}
 use Rattle.ffi.proofs.store.Tie as tie
 
@@ -13,6 +13,6 @@ store_spec =
     (λ c. search rules)
     (λ c κs. search rules)
     (λ c κs. search rules)
-    (λ c. search store-refused)
+    (λ c. search store_refused)
     (λ c. search rules)
-    (λ c. search store-0))
+    (λ c. search store_0))

@@ -2,7 +2,7 @@
 use mathlib.Core.Path.{sym, ◌∙◌}
 use borrow.Author.Rules.{rules}
 use Rattle.protocol.specs.Fleets.{chosen}
-use Rattle.fleet.proofs.ByPlaces.{check-undamaged, check-is, bytes-accepted, bytes-refused}
+use Rattle.fleet.proofs.ByPlaces.{check_undamaged, check_is, bytes-accepted, bytes-refused}
 use Rattle.fleet.proofs.step_bytes.Statement.{statement}
 use Rattle.fleet.proofs.step_bytes.Tie as tie
 
@@ -11,15 +11,15 @@ next-bytes-requires c κs =
     let a = c.before.before.before.before.before.before.before.args in
     let p = chosen a.cycle in
     let taken = sym c.before.before.before.check.ensures ∙ c.before.enum_told.given.1 in
-    let sound = check-undamaged p a.d.now a.words.now taken in
-    (sound, check-is p a.d.now a.words.now sound ∙ taken)
+    let sound = check_undamaged p a.d.now a.words.now taken in
+    (sound, check_is p a.d.now a.words.now sound ∙ taken)
 
 returns : tie.Need-returns
 returns c =
     let a = c.before.before.before.before.before.before.before.before.before.before.args in
     let p = chosen a.cycle in
     let taken = sym c.before.before.before.before.before.before.check.ensures ∙ c.before.before.before.before.enum_told.given.1 in
-    let sound = check-undamaged p a.d.now a.words.now taken in
+    let sound = check_undamaged p a.d.now a.words.now taken in
     (sym taken, bytes-accepted p a.d.now a.words.now sound taken c.before.before.next-bytes.new.1.0 c.before.before.next-bytes.ensures)
 
 returns-2 : tie.Need-returns-2

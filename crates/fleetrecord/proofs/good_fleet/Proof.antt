@@ -2,20 +2,20 @@
 use mathlib.Core.Path.{sym, ◌∙◌}
 use borrow.Author.Rules.{rules}
 use Rattle.protocol.specs.Fleets.{chosen}
-use Rattle.recording.proofs.Accepted.{trucks-in}
-use Rattle.fleetrecord.proofs.Records.{bad-count, bad-done, good-count}
+use Rattle.recording.proofs.Accepted.{trucks_in_lem}
+use Rattle.fleetrecord.proofs.Records.{bad_count, bad_done, good-count}
 use Rattle.fleetrecord.proofs.good_fleet.Statement.{statement}
 use Rattle.fleetrecord.proofs.good_fleet.Tie as tie
 
 returns : tie.Need-returns
-returns c = sym (bad-count (chosen c.before.before.args.cycle) c.before.before.args.f (sym c.before.bad-trucks.ensures ∙ c.if1.true))
+returns c = sym (bad_count (chosen c.before.before.args.cycle) c.before.before.args.f (sym c.before.bad-trucks.ensures ∙ c.if1.true))
 
 returns-2 : tie.Need-returns-2
 returns-2 c =
-    sym (bad-done (chosen c.before.before.before.before.args.cycle) c.before.before.before.before.args.f (sym c.before.before.before.bad-trucks.ensures ∙ c.before.before.if1.false) c.if2.true)
+    sym (bad_done (chosen c.before.before.before.before.args.cycle) c.before.before.before.before.args.f (sym c.before.before.before.bad-trucks.ensures ∙ c.before.before.if1.false) c.if2.true)
 
 good-trucks-requires : tie.Need-good-trucks-requires
-good-trucks-requires c κs = (trucks-in c.before.before.before.before.args.f.n (sym c.before.before.before.bad-trucks.ensures ∙ c.before.before.if1.false)).1
+good-trucks-requires c κs = (trucks_in_lem c.before.before.before.before.args.f.n (sym c.before.before.before.bad-trucks.ensures ∙ c.before.before.if1.false)).1
 
 returns-3 : tie.Need-returns-3
 returns-3 c =

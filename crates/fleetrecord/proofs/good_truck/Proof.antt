@@ -5,7 +5,7 @@ use Prim.Native.Nat.{ℕ}
 use borrow.Author.Rules.{rules}
 use lib.Dec.{leb}
 use Rattle.protocol.specs.declared.Truck.{Truck}
-use Rattle.protocol.specs.Fleets.{Protocol, chosen, goodStateIn, goodTruckIn}
+use Rattle.protocol.specs.Fleets.{Protocol, chosen, good_state_in, good_truck_in}
 use Rattle.fleetrecord.proofs.good_truck.Statement.{statement}
 use Rattle.fleetrecord.proofs.good_truck.Tie as tie
 
@@ -15,9 +15,9 @@ and_assoc false b c = refl
 
 -- what is asked of a truck, its memory and counts at once
 by-rest : (p : Protocol) (done : ℕ) (t : Truck)
-    → (leb t.opening 15 && leb t.estimate 15 && goodStateIn p done t.state && (p.goodMemory done t && p.goodCounts done t.sent)) ≡ goodTruckIn p done t
-unfolding goodTruckIn
-by-rest p done t = and_assoc (leb t.opening 15 && leb t.estimate 15 && goodStateIn p done t.state) (p.goodMemory done t) (p.goodCounts done t.sent)
+    → (leb t.opening 15 && leb t.estimate 15 && good_state_in p done t.state && (p.good_memory done t && p.good_counts done t.sent)) ≡ good_truck_in p done t
+unfolding good_truck_in
+by-rest p done t = and_assoc (leb t.opening 15 && leb t.estimate 15 && good_state_in p done t.state) (p.good_memory done t) (p.good_counts done t.sent)
 
 returns : tie.Need-returns
 returns c =

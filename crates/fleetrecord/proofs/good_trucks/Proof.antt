@@ -7,12 +7,12 @@ use native.Mathlib.Numerals.{add-one}
 use borrow.Author.Rules.{rules}
 use Rattle.basics.specs.Lists.{all_below}
 use Rattle.protocol.specs.Rules.{truck}
-use Rattle.protocol.specs.Fleets.{chosen, goodTruckIn}
+use Rattle.protocol.specs.Fleets.{chosen, good_truck_in}
 use Rattle.fleetrecord.proofs.good_trucks.Statement.{statement}
 use Rattle.fleetrecord.proofs.good_trucks.Tie as tie
 
 abbrev invariant-loop : tie.invariant-loop
-invariant-loop cycle f n done ok₀ i₀ ok i = (i ≤ n) × (ok ≡ all_below (λ i. goodTruckIn (chosen cycle) done (truck f.trucks i)) i)
+invariant-loop cycle f n done ok₀ i₀ ok i = (i ≤ n) × (ok ≡ all_below (λ i. good_truck_in (chosen cycle) done (truck f.trucks i)) i)
 
 abbrev decreases-loop : tie.decreases-loop
 decreases-loop cycle f n done ok₀ i₀ ok i = n - i
@@ -30,7 +30,7 @@ returns c =
     let f = c.before.before.args.t2 in
     let cycle = c.before.before.args.cycle in
     let i = c.before.loop.i in
-    c.before.loop.invariant.1 ∙ ap (all_below (λ i. goodTruckIn (chosen cycle) f.done (truck f.trucks i))) (let e : i ≡ f.n = omega (arith, c.before.loop.invariant.0, c.loop-test.false) in e)
+    c.before.loop.invariant.1 ∙ ap (all_below (λ i. good_truck_in (chosen cycle) f.done (truck f.trucks i))) (let e : i ≡ f.n = omega (arith, c.before.loop.invariant.0, c.loop-test.false) in e)
 
 pub good-trucks-spec : {M : Type 1} → statement M
 good-trucks-spec =

@@ -4,13 +4,13 @@ use Prim.Native.Nat.{◌≤◌, ◌-◌}
 use native.Mathlib.Omega.{arith}
 use borrow.Author.Rules.{rules}
 use lib.ListN.{length}
-use Rattle.fleetrecord.proofs.Records.{openingFleet, open-starts, open_more, open_done}
+use Rattle.fleetrecord.proofs.Records.{opening_fleet, open-starts, open_more, open_done}
 use Rattle.protocol.specs.Rules.{opened}
 use Rattle.fleetrecord.proofs.open_fleet.Statement.{statement}
 use Rattle.fleetrecord.proofs.open_fleet.Tie as tie
 
 abbrev invariant-loop : tie.invariant-loop
-invariant-loop n openings f₀ i₀ f i = (i ≤ length openings) × (f ≡ openingFleet n openings i)
+invariant-loop n openings f₀ i₀ f i = (i ≤ length openings) × (f ≡ opening_fleet n openings i)
 
 abbrev decreases-loop : tie.decreases-loop
 decreases-loop n openings f₀ i₀ f i = length openings - i

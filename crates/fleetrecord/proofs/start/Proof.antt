@@ -1,17 +1,17 @@
 -- `start` meets its contract: a law for each return, refusal 2 before 7.
 use mathlib.Core.Path.{sym, ◌∙◌}
 use borrow.Author.Rules.{rules}
-use Rattle.protocol.specs.Fleets.{started, startCheck}
-use Rattle.recording.proofs.Accepted.{trucks-in, openings-in}
+use Rattle.protocol.specs.Fleets.{started, start_check}
+use Rattle.recording.proofs.Accepted.{trucks_in_lem, openings_in}
 use Rattle.fleetrecord.proofs.start.Statement.{statement}
 use Rattle.fleetrecord.proofs.start.Tie as tie
 
 returns : tie.Need-returns
-unfolding started startCheck
+unfolding started start_check
 returns c = c.refused.ensures ∙ rw (sym c.before.before.bad-trucks.ensures ∙ c.before.if1.true)
 
 returns-2 : tie.Need-returns-2
-unfolding started startCheck
+unfolding started start_check
 returns-2 c =
     c.refused2.ensures
     ∙ rw (sym c.before.before.before.before.bad-trucks.ensures ∙ c.before.before.before.if1.false, sym c.before.before.bad-openings.ensures ∙ c.before.if2.true)
@@ -19,12 +19,12 @@ returns-2 c =
 open-fleet-requires : tie.Need-open-fleet-requires
 open-fleet-requires c κs =
     let a = c.before.before.before.before.before.args in (
-      (openings-in a.n a.openings.now (sym c.before.bad-openings.ensures ∙ c.if2.false)).count,
-      (trucks-in a.n (sym c.before.before.before.bad-trucks.ensures ∙ c.before.before.if1.false)).1,
+      (openings_in a.n a.openings.now (sym c.before.bad-openings.ensures ∙ c.if2.false)).count,
+      (trucks_in_lem a.n (sym c.before.before.before.bad-trucks.ensures ∙ c.before.before.if1.false)).1,
     )
 
 returns-3 : tie.Need-returns-3
-unfolding started startCheck
+unfolding started start_check
 returns-3 c =
     rw (sym c.before.before.before.before.bad-trucks.ensures ∙ c.before.before.before.if1.false, sym c.before.before.bad-openings.ensures ∙ c.before.if2.false, c.open-fleet.ensures)
 

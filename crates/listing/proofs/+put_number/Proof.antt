@@ -4,7 +4,7 @@ use Prim.Native.Nat.{ℕ, ◌<◌}
 use borrow.Fn.Kinds.{In}
 use borrow.Fn.PlainCycle.{Measures, is, falls, and}
 use native.Mathlib.Omega.{arith}
-use Rattle.listing.proofs.Laws.{length-tenth, put_last, put-digits}
+use Rattle.listing.proofs.Laws.{length_tenth, put_last, put-digits}
 use Rattle.listing.proofs.put_number.Reads as put-number
 use Rattle.listing.proofs.put_number.Kinds as put-number-kinds
 use Rattle.listing.proofs.+put_number.Lts-put_number as put-number-lts
@@ -32,7 +32,7 @@ pub +put-number-spec : {M : Type 1} → statement M
     (λ c κs. search rules)
     (λ c κs.
     let s = c.before.before.before.before.before.before.before in
-    omega (arith, length-tenth s.args.k s.ranges.k.fits, c.before.before.before.put-number.ensures.0.next, s.requires))
+    omega (arith, length_tenth s.args.k s.ranges.k.fits, c.before.before.before.put-number.ensures.0.next, s.requires))
     (λ c. search rules)
     (λ c. put_last c.before.before.before.before.before.before.args.k (omega arith) c.before.before.put_byte.ensures)
     (λ c. search rules)

@@ -6,7 +6,7 @@ use Prim.Native.Nat.{ℕ, ◌+◌, ◌-◌, ◌≤◌}
 use native.Mathlib.Nat.{add-zero}
 use native.Mathlib.Omega.{arith}
 use lib.ListN.{length, get_or, take, drop, set, length-set}
-use Rattle.listing.proofs.Laws.{put-more, rest_more, put-done}
+use Rattle.listing.proofs.Laws.{put_more, rest_more, put-done}
 use Rattle.listing.proofs.put.Statement.{statement}
 use Rattle.listing.proofs.put.Tie as tie
 
@@ -30,7 +30,7 @@ loop-again c =
     let a = c.before.before.before.args in (
       omega arith,
       length-set l.buf (a.at + l.i) (get_or a.t.now l.i 0) ∙ l.invariant.1,
-      put-more a.buf.now l.buf a.t.now a.at l.i l.invariant.2 (omega arith) (omega arith),
+      put_more a.buf.now l.buf a.t.now a.at l.i l.invariant.2 (omega arith) (omega arith),
       ap (λ (k : ℕ). drop k (set l.buf (a.at + l.i) (get_or a.t.now l.i 0))) (let e : a.at + (l.i + 1) ≡ a.at + l.i + 1 = omega arith in e)
           ∙ rest_more a.buf.now l.buf (a.at + l.i) (get_or a.t.now l.i 0) l.invariant.3
           ∙ ap (λ (k : ℕ). drop k a.buf.now) (let e : a.at + l.i + 1 ≡ a.at + (l.i + 1) = omega arith in e),

@@ -1,12 +1,12 @@
 -- `put_header` meets its contract.
 use native.Mathlib.Omega.{arith}
-use Rattle.listing.proofs.Laws.{put-join}
+use Rattle.listing.proofs.Laws.{put_join}
 use borrow.Author.Rules.{rules}
 use Rattle.listing.proofs.put_header.Statement.{statement}
 use Rattle.listing.proofs.put_header.Tie as tie
 
 returns : tie.Need-returns
-returns c = (put-join c.before.before.before.before.before.before.before.put_two.ensures.0 c.before.before.put.ensures, omega arith)
+returns c = (put_join c.before.before.before.before.before.before.before.put_two.ensures.0 c.before.before.put.ensures, omega arith)
 
 pub put-header-spec : {M : Type 1} → statement M
 put-header-spec =

@@ -1,6 +1,6 @@
 -- `put_line` meets its contract.
 use native.Mathlib.Omega.{arith}
-use Rattle.listing.proofs.Laws.{put-join, put_as, line-text}
+use Rattle.listing.proofs.Laws.{put_join, put_as, line_text}
 use borrow.Author.Rules.{rules}
 use Rattle.listing.proofs.put_line.Statement.{statement}
 use Rattle.listing.proofs.put_line.Tie as tie
@@ -12,8 +12,8 @@ returns c =
     let state = space.before.before.before.before.before in
     let opening = state.before.before.before.before in
     let a = opening.before.before.before.args in (
-      put_as (line-text a.i a.t)
-          (put-join (put-join (put-join opening.put-opening.ensures.0 state.put-state.ensures.0) space.put.ensures) sent.put-sent.ensures.0),
+      put_as (line_text a.i a.t)
+          (put_join (put_join (put_join opening.put-opening.ensures.0 state.put-state.ensures.0) space.put.ensures) sent.put-sent.ensures.0),
       omega arith,
     )
 

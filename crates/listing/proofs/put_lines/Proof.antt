@@ -3,7 +3,7 @@ use mathlib.Core.Path.{◌≡◌, ap}
 use Prim.Native.Nat.{◌+◌, ◌*◌, ◌-◌, ◌≤◌}
 use native.Mathlib.Omega.{arith}
 use lib.ListN.{length}
-use Rattle.listing.specs.Text.{truckLines}
+use Rattle.listing.specs.Text.{truck_lines}
 use Rattle.listing.specs.Writing.{Put}
 use Rattle.listing.proofs.Laws.{put_as, lines_none, lines_more}
 use borrow.Author.Rules.{rules}
@@ -12,7 +12,7 @@ use Rattle.listing.proofs.put_lines.Tie as tie
 
 abbrev invariant-loop : tie.invariant-loop
 invariant-loop buf₀ at f n r₀ i₀ buf r i =
-    Put buf₀ at (truckLines f.trucks i) buf r × (r ≤ at + 69 * i) × (length buf ≡ length buf₀) × (i ≤ n)
+    Put buf₀ at (truck_lines f.trucks i) buf r × (r ≤ at + 69 * i) × (length buf ≡ length buf₀) × (i ≤ n)
 
 abbrev decreases-loop : tie.decreases-loop
 decreases-loop buf₀ at f n r₀ i₀ buf r i = n - i
@@ -29,7 +29,7 @@ returns : tie.Need-returns invariant-loop decreases-loop
 returns c =
     let l = c.before.loop in
     let f = c.before.before.before.args.t3 in
-    (put_as (ap (truckLines f.trucks) (let e : l.i ≡ f.n = omega arith in e)) l.invariant.0, omega arith)
+    (put_as (ap (truck_lines f.trucks) (let e : l.i ≡ f.n = omega arith in e)) l.invariant.0, omega arith)
 
 pub put-lines-spec : {M : Type 1} → statement M
 put-lines-spec =

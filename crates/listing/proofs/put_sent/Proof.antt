@@ -1,14 +1,14 @@
 -- `put_sent` meets its contract.
 use native.Mathlib.Omega.{arith}
-use Rattle.listing.specs.Text.{sentText}
-use Rattle.listing.proofs.Laws.{put-join}
+use Rattle.listing.specs.Text.{sent_text}
+use Rattle.listing.proofs.Laws.{put_join}
 use borrow.Author.Rules.{rules}
 use Rattle.listing.proofs.put_sent.Statement.{statement}
 use Rattle.listing.proofs.put_sent.Tie as tie
 
 returns : tie.Need-returns
-unfolding sentText
-returns c = (put-join c.before.before.before.before.before.before.before.put_two.ensures.0 c.before.before.put.ensures, omega arith)
+unfolding sent_text
+returns c = (put_join c.before.before.before.before.before.before.before.put_two.ensures.0 c.before.before.put.ensures, omega arith)
 
 pub put-sent-spec : {M : Type 1} → statement M
 put-sent-spec =

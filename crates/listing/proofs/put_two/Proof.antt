@@ -1,6 +1,6 @@
 -- `put_two` meets its contract.
 use native.Mathlib.Omega.{arith}
-use Rattle.listing.proofs.Laws.{put-join}
+use Rattle.listing.proofs.Laws.{put_join}
 use borrow.Author.Rules.{rules}
 use Rattle.listing.proofs.put_two.Statement.{statement}
 use Rattle.listing.proofs.put_two.Tie as tie
@@ -11,7 +11,7 @@ returns c =
     let second = last.before.before.before.before in
     let number = second.before.before.before.before in
     let first = number.before.before.before.before in
-    (put-join (put-join (put-join first.put.ensures number.put-number.ensures.0) second.put2.ensures) last.put-number2.ensures.0, omega arith)
+    (put_join (put_join (put_join first.put.ensures number.put-number.ensures.0) second.put2.ensures) last.put-number2.ensures.0, omega arith)
 
 pub put-two-spec : {M : Type 1} → statement M
 put-two-spec =

@@ -2,8 +2,8 @@
 use mathlib.Core.Path.{◌≡◌, ap, ◌∙◌}
 use Prim.Native.Nat.{ℕ, ◌+◌, ◌*◌, ◌-◌, ◌≤◌}
 use native.Mathlib.Omega.{arith}
-use Rattle.basics.specs.Lists.{sumBelow}
-use Rattle.basics.proofs.Laws.{sum-none, sum_more}
+use Rattle.basics.specs.Lists.{sum_below}
+use Rattle.basics.proofs.Laws.{sum_none, sum_more}
 use Rattle.protocol.specs.Rules.{truck}
 use borrow.Author.Rules.{rules}
 use Rattle.listing.proofs.sum_sent.Statement.{statement}
@@ -11,14 +11,14 @@ use Rattle.listing.proofs.sum_sent.Tie as tie
 
 abbrev invariant-loop : tie.invariant-loop
 invariant-loop f below proposals₀ vetoes₀ i₀ proposals vetoes i =
-    (proposals ≡ sumBelow (λ k. (truck f.trucks k).sent.proposals) i) × (vetoes ≡ sumBelow (λ k. (truck f.trucks k).sent.vetoes) i)
+    (proposals ≡ sum_below (λ k. (truck f.trucks k).sent.proposals) i) × (vetoes ≡ sum_below (λ k. (truck f.trucks k).sent.vetoes) i)
     × (proposals ≤ 255 * i) × (vetoes ≤ 255 * i) × (i ≤ below)
 
 abbrev decreases-loop : tie.decreases-loop
 decreases-loop f below proposals₀ vetoes₀ i₀ proposals vetoes i = below - i
 
 loop-holds : tie.Need-loop-init invariant-loop decreases-loop
-loop-holds c = (sum-none _, sum-none _, omega arith, omega arith, omega arith)
+loop-holds c = (sum_none _, sum_none _, omega arith, omega arith, omega arith)
 
 loop-again : tie.Need-loop-preserved invariant-loop decreases-loop
 loop-again c =
@@ -33,7 +33,7 @@ returns c =
     let l = c.before.loop in
     let f = c.before.before.args.t1 in
     let e : l.i ≡ f.n = omega arith in
-    (l.invariant.0 ∙ ap (sumBelow (λ k. (truck f.trucks k).sent.proposals)) e, l.invariant.1 ∙ ap (sumBelow (λ k. (truck f.trucks k).sent.vetoes)) e)
+    (l.invariant.0 ∙ ap (sum_below (λ k. (truck f.trucks k).sent.proposals)) e, l.invariant.1 ∙ ap (sum_below (λ k. (truck f.trucks k).sent.vetoes)) e)
 
 pub sum-sent-spec : {M : Type 1} → statement M
 sum-sent-spec =

@@ -8,9 +8,9 @@ use borrow.Author.Rules.{rules}
 use borrow.Author.Tests.{le-ltb}
 use lib.Dec.{ltb}
 use lib.ListN.{length, get_or}
-use Rattle.basics.specs.Lists.{someBelow}
+use Rattle.basics.specs.Lists.{some_below}
 use Rattle.basics.proofs.Laws.{some-none, none_more}
-use Rattle.plain.proofs.Tests.{openings-count, openings-above, openings-fine}
+use Rattle.plain.proofs.Tests.{openings-count, openings_above, openings_fine}
 use Rattle.plain.proofs.bad_openings.Statement.{statement}
 use Rattle.plain.proofs.bad_openings.Tie as tie
 
@@ -18,7 +18,7 @@ abbrev above : List ℕ → ℕ → Bool
 above openings k = ltb 15 (get_or openings k 0)
 
 abbrev invariant-loop : tie.invariant-loop
-invariant-loop n openings i₀ i = (i ≤ length openings) × (someBelow (above openings) i ≡ false)
+invariant-loop n openings i₀ i = (i ≤ length openings) × (some_below (above openings) i ≡ false)
 
 abbrev decreases-loop : tie.decreases-loop
 decreases-loop n openings i₀ i = length openings - i
@@ -32,7 +32,7 @@ loop-holds c = (omega arith, some-none (above c.before.args.openings.now))
 returns-2 : tie.Need-returns-2 invariant-loop decreases-loop
 returns-2 c =
     let a = c.before.before.before.before.before.args in
-    openings-above a.n a.openings.now c.before.before.before.loop.i (omega arith) c.if2.true
+    openings_above a.n a.openings.now c.before.before.before.loop.i (omega arith) c.if2.true
 
 loop-again : tie.Need-loop-preserved invariant-loop decreases-loop
 loop-again c =
@@ -44,7 +44,7 @@ returns-3 : tie.Need-returns-3 invariant-loop decreases-loop
 returns-3 c =
     let a = c.before.before.before.args in
     let e : c.before.loop.i ≡ length a.openings.now = omega arith in
-    openings-fine a.n a.openings.now c.before.before.if1.false (rw e at c.before.loop.invariant.1)
+    openings_fine a.n a.openings.now c.before.before.if1.false (rw e at c.before.loop.invariant.1)
 
 pub bad-openings-spec : {M : Type 1} → statement M
 bad-openings-spec =

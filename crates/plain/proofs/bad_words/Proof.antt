@@ -6,18 +6,18 @@ use Prim.Native.Nat.{ℕ, ◌≤◌, ◌-◌}
 use native.Mathlib.Omega.{arith}
 use borrow.Author.Rules.{rules}
 use lib.ListN.{length, get_or}
-use Rattle.basics.specs.Lists.{someBelow}
+use Rattle.basics.specs.Lists.{some_below}
 use Rattle.basics.proofs.Laws.{some-none, some_more}
-use Rattle.recording.specs.Checks.{highBit}
-use Rattle.plain.proofs.Tests.{words_count, words-tested, words_small, high_zero, high-or}
+use Rattle.recording.specs.Checks.{high_bit}
+use Rattle.plain.proofs.Tests.{words_count, words_tested, words_small, high_zero, high_or}
 use Rattle.plain.proofs.bad_words.Statement.{statement}
 use Rattle.plain.proofs.bad_words.Tie as tie
 
 abbrev high : ℕ → List ℕ → ℕ → Bool
-high n words k = highBit n (get_or words k 0)
+high n words k = high_bit n (get_or words k 0)
 
 abbrev invariant-loop : tie.invariant-loop
-invariant-loop n rounds words all₀ i₀ all i = (i ≤ length words) × (highBit n all ≡ someBelow (high n words) i)
+invariant-loop n rounds words all₀ i₀ all i = (i ≤ length words) × (high_bit n all ≡ some_below (high n words) i)
 
 abbrev decreases-loop : tie.decreases-loop
 decreases-loop n rounds words all₀ i₀ all i = length words - i
@@ -41,13 +41,13 @@ loop-again : tie.Need-loop-preserved invariant-loop decreases-loop
 loop-again c =
     let a = c.before.before.before.before.before.args in
     let l = c.before.before.loop in
-    (omega arith, high-or a.n l.all (get_or a.words.now l.i 0) ∙ ap (λ (b : Bool). b || high a.n a.words.now l.i) l.invariant.1 ∙ some_more (high a.n a.words.now) l.i)
+    (omega arith, high_or a.n l.all (get_or a.words.now l.i 0) ∙ ap (λ (b : Bool). b || high a.n a.words.now l.i) l.invariant.1 ∙ some_more (high a.n a.words.now) l.i)
 
 returns-2 : tie.Need-returns-2 invariant-loop decreases-loop
 returns-2 c =
     let a = c.before.before.before.before.before.args in
-    words-tested a.n a.rounds a.words.now c.high_bit.result c.before.before.before.if1.false
-    (c.high_bit.ensures ∙ c.before.before.loop.invariant.1 ∙ ap (someBelow (high a.n a.words.now)) (omega arith))
+    words_tested a.n a.rounds a.words.now c.high_bit.result c.before.before.before.if1.false
+    (c.high_bit.ensures ∙ c.before.before.loop.invariant.1 ∙ ap (some_below (high a.n a.words.now)) (omega arith))
 
 pub bad-words-spec : {M : Type 1} → statement M
 bad-words-spec =

@@ -5,14 +5,14 @@ use native.Mathlib.Nat.{mul-le-mul}
 use native.Mathlib.Omega.{arith}
 use borrow.Author.Rules.{rules}
 use Rattle.basics.specs.Lists.{filled}
-use Rattle.basics.proofs.Laws.{filled_none, fill-length, fill_step}
-use Rattle.plain.specs.Steps.{swapped, gatheredWord}
-use Rattle.recording.specs.Packed.{bitAt, num_at, wordPlace}
+use Rattle.basics.proofs.Laws.{filled_none, fill_length, fill_step}
+use Rattle.plain.specs.Steps.{swapped, gathered_word}
+use Rattle.recording.specs.Packed.{bit_at, num_at, word_place}
 use Rattle.plain.proofs.gather_words.Statement.{statement}
 use Rattle.plain.proofs.gather_words.Tie as tie
 
 abbrev invariant-loop : tie.invariant-loop
-invariant-loop s words₀ trucks count n at₀ w₀ words at w = (w ≤ count) × (at ≡ wordPlace n w) × (words ≡ filled (gatheredWord s n) w words₀)
+invariant-loop s words₀ trucks count n at₀ w₀ words at w = (w ≤ count) × (at ≡ word_place n w) × (words ≡ filled (gathered_word s n) w words₀)
 
 abbrev decreases-loop : tie.decreases-loop
 decreases-loop s words₀ trucks count n at₀ w₀ words at w = count - w
@@ -20,13 +20,13 @@ decreases-loop s words₀ trucks count n at₀ w₀ words at w = count - w
 loop-holds : tie.Need-loop-init invariant-loop decreases-loop
 loop-holds c =
     let a = c.before.before.before.args in
-    (omega arith, omega (arith, c.word-place.ensures), sym (filled_none (gatheredWord a.s.now a.trucks) a.words.now))
+    (omega arith, omega (arith, c.word-place.ensures), sym (filled_none (gathered_word a.s.now a.trucks) a.words.now))
 
 slice-write-words : tie.Need-slice-write-words invariant-loop decreases-loop
 slice-write-words c =
     let a = c.before.before.before.before.before.before.before.args in
     let l = c.before.before.before.loop in
-    omega (arith, fill-length (gatheredWord a.s.now a.trucks) a.words.now l.words l.w l.invariant.2 (omega arith))
+    omega (arith, fill_length (gathered_word a.s.now a.trucks) a.words.now l.words l.w l.invariant.2 (omega arith))
 
 add_at : tie.Need-overflow-add-at invariant-loop decreases-loop
 add_at c =
@@ -41,19 +41,19 @@ loop-again c =
     let s = c.before.before.before.before.before.before.before in
     let a = s.args in
     let l = c.before.before.before.loop in
-    (omega arith, omega (arith, l.invariant.1), fill_step (gatheredWord a.s.now a.trucks) a.words.now l.words l.w l.invariant.2 c.swap_bytes.result (omega arith) (c.swap_bytes.ensures ∙ ap swapped (c.before.read_at.ensures ∙ ap (λ (p : ℕ). num_at (bitAt a.s.now) p 32) l.invariant.1)))
+    (omega arith, omega (arith, l.invariant.1), fill_step (gathered_word a.s.now a.trucks) a.words.now l.words l.w l.invariant.2 c.swap_bytes.result (omega arith) (c.swap_bytes.ensures ∙ ap swapped (c.before.read_at.ensures ∙ ap (λ (p : ℕ). num_at (bit_at a.s.now) p 32) l.invariant.1)))
 
 same_length : tie.Need-same-length invariant-loop decreases-loop
 same_length c =
     let a = c.before.before.before.before.before.args in
     let l = c.before.loop in
-    fill-length (gatheredWord a.s.now a.trucks) a.words.now l.words l.w l.invariant.2 (omega arith)
+    fill_length (gathered_word a.s.now a.trucks) a.words.now l.words l.w l.invariant.2 (omega arith)
 
 returns : tie.Need-returns invariant-loop decreases-loop
 returns c =
     let a = c.before.before.before.before.before.args in
     let l = c.before.loop in
-    l.invariant.2 ∙ ap (λ (k : ℕ). filled (gatheredWord a.s.now a.trucks) k a.words.now) (omega arith)
+    l.invariant.2 ∙ ap (λ (k : ℕ). filled (gathered_word a.s.now a.trucks) k a.words.now) (omega arith)
 
 pub gather-words-spec : {M : Type 1} → statement M
 gather-words-spec =

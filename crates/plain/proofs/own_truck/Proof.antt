@@ -8,25 +8,25 @@ use lib.ListN.{get_or}
 use Rattle.basics.specs.Bits.{digit}
 use Rattle.basics.specs.Lists.{first}
 use Rattle.basics.proofs.Laws.{first-none, first_step, first_found}
-use Rattle.plain.proofs.Tests.{ownPlain}
+use Rattle.plain.proofs.Tests.{own_plain}
 use Rattle.plain.proofs.own_truck.Statement.{statement}
 use Rattle.plain.proofs.own_truck.Tie as tie
 
 abbrev invariant-loop : tie.invariant-loop
-invariant-loop words base n i₀ i = (i ≤ n) × (first (ownPlain words base) i ≡ i)
+invariant-loop words base n i₀ i = (i ≤ n) × (first (own_plain words base) i ≡ i)
 
 abbrev decreases-loop : tie.decreases-loop
 decreases-loop words base n i₀ i = n - i
 
 loop-holds : tie.Need-loop-init invariant-loop decreases-loop
-loop-holds c = (omega arith, first-none (ownPlain c.args.words.now c.args.base))
+loop-holds c = (omega arith, first-none (own_plain c.args.words.now c.args.base))
 
 returns : tie.Need-returns invariant-loop decreases-loop
 returns c =
     let a = c.before.before.before.before.args in
     let l = c.before.before.before.loop in
     sym
-    (first_found (ownPlain a.words.now a.base) a.n l.i (omega arith) l.invariant.1
+    (first_found (own_plain a.words.now a.base) a.n l.i (omega arith) l.invariant.1
     (eq-eqb (digit (get_or a.words.now (a.base + (3 + l.i)) 0) l.i) 1 c.if1.true))
 
 loop-again : tie.Need-loop-preserved invariant-loop decreases-loop
@@ -34,7 +34,7 @@ loop-again c =
     let a = c.before.before.before.before.args in
     let l = c.before.before.before.loop in (
       omega arith,
-      first_step (ownPlain a.words.now a.base) l.i l.invariant.1
+      first_step (own_plain a.words.now a.base) l.i l.invariant.1
           (ne_eqb (digit (get_or a.words.now (a.base + (3 + l.i)) 0) l.i) 1 c.if1.false),
     )
 

@@ -4,7 +4,7 @@ use Prim.Native.Nat.{ℕ, ◌+◌, ◌-◌, ◌/◌, ◌%◌, ◌^◌}
 use native.Mathlib.Omega.{arith}
 use borrow.Author.Rules.{rules}
 use Rattle.plain.specs.Steps.{over, byte_of, added}
-use Rattle.plain.proofs.Putting.{added-fits, over_none, over-ext, four_bytes}
+use Rattle.plain.proofs.Putting.{added-fits, over_none, over_ext, four_bytes}
 use Rattle.plain.proofs.put.Statement.{statement}
 use Rattle.plain.proofs.put.Tie as tie
 
@@ -27,7 +27,7 @@ returns-2 c =
     let h : ℕ = p.have + a.k in
     let x : ℕ = added p.acc a.v a.k in (
       c.before.before.put_four.ensures
-          ∙ over-ext (byte_of (x / 2 ^ (h - 32) % 2 ^ 32) 32) p.at (byte_of x h) 4 a.buf.now (λ j l. four_bytes x h j (omega arith) l)
+          ∙ over_ext (byte_of (x / 2 ^ (h - 32) % 2 ^ 32) 32) p.at (byte_of x h) 4 a.buf.now (λ j l. four_bytes x h j (omega arith) l)
           ∙ ap (λ (m : ℕ). over (byte_of x h) p.at m a.buf.now) (omega arith),
       (refl, (omega arith, omega arith)),
     )

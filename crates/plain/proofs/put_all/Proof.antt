@@ -8,42 +8,42 @@ use lib.ListN.{length, get_or}
 use Rattle.basics.specs.Lists.{filled}
 use Rattle.basics.proofs.Laws.{length-filled}
 use Rattle.bitreader.specs.Bits.{mirrored}
-use Rattle.recording.specs.Packed.{num_at, openingPlace, wordPlace, packBit, bitsFor, bytesFor}
-use Rattle.recording.proofs.Accepted.{GoodPlain, plain-good, in-openings}
-use Rattle.recording.proofs.Packing.{packBit-lt, bits-flat, bytes-enough}
-use Rattle.plain.specs.Steps.{over, byte_of, packedByte, BitsPut}
-use Rattle.plain.proofs.Fields.{word_number, word_room, end-number, last_byte}
-use Rattle.plain.proofs.Putting.{bits-put-at, bits-put-anew, bits-put-since, bits-put-length, bits-put-asks, bits-put-more, bits-put-end}
+use Rattle.recording.specs.Packed.{num_at, opening_place, word_place, pack_bit, bits_for, bytes_for}
+use Rattle.recording.proofs.Accepted.{GoodPlain, plain-good, in_openings}
+use Rattle.recording.proofs.Packing.{pack_bit-lt, bits_flat, bytes_enough}
+use Rattle.plain.specs.Steps.{over, byte_of, packed_byte, BitsPut}
+use Rattle.plain.proofs.Fields.{word_number, word_room, end_number, last_byte}
+use Rattle.plain.proofs.Putting.{bits-put-at, bits-put_anew, bits-put_since, bits-put-length, bits-put-asks, bits-put_more, bits-put_end}
 use Rattle.plain.proofs.put_all.Statement.{statement}
 use Rattle.plain.proofs.put_all.Tie as tie
 
 abbrev invariant-loop : tie.invariant-loop
 invariant-loop buf₀ trucks rounds openings words n p₀ w₀ buf p w =
-    (w ≤ length words) × BitsPut (packBit trucks rounds openings words) (wordPlace trucks w) p.at p.have p.acc buf₀ buf
+    (w ≤ length words) × BitsPut (pack_bit trucks rounds openings words) (word_place trucks w) p.at p.have p.acc buf₀ buf
 
 abbrev decreases-loop : tie.decreases-loop
 decreases-loop buf₀ trucks rounds openings words n p₀ w₀ buf p w = length words - w
 
 -- the packed form's bits, and what was checked of openings and words
 abbrev F : tie.Start invariant-loop decreases-loop → ℕ → ℕ
-F s = packBit s.args.trucks s.args.rounds s.args.openings.now s.args.words.now
+F s = pack_bit s.args.trucks s.args.rounds s.args.openings.now s.args.words.now
 
 bits : (s : tie.Start invariant-loop decreases-loop) (i : ℕ) → F s i < 2
-bits s = packBit-lt s.args.trucks s.args.rounds s.args.openings.now s.args.words.now
+bits s = pack_bit-lt s.args.trucks s.args.rounds s.args.openings.now s.args.words.now
 
 good : (s : tie.Start invariant-loop decreases-loop) → GoodPlain s.args.trucks s.args.rounds s.args.openings.now s.args.words.now
 good s = plain-good s.args.trucks s.args.rounds s.args.openings.now s.args.words.now s.requires.0
 
-enough : (s : tie.Start invariant-loop decreases-loop) → bitsFor s.args.trucks s.args.rounds ≤ 8 * length s.args.buf.now
-enough s = omega (arith, s.requires.1, (bytes-enough s.args.trucks s.args.rounds).0)
+enough : (s : tie.Start invariant-loop decreases-loop) → bits_for s.args.trucks s.args.rounds ≤ 8 * length s.args.buf.now
+enough s = omega (arith, s.requires.1, (bytes_enough s.args.trucks s.args.rounds).0)
 
-front-room : (s : tie.Start invariant-loop decreases-loop) → openingPlace s.args.trucks ≤ 8 * length s.args.buf.now
-front-room s = omega (arith, enough s, bits-flat s.args.trucks s.args.rounds)
+front-room : (s : tie.Start invariant-loop decreases-loop) → opening_place s.args.trucks ≤ 8 * length s.args.buf.now
+front-room s = omega (arith, enough s, bits_flat s.args.trucks s.args.rounds)
 
 put-front-requires : tie.Need-put-front-requires invariant-loop decreases-loop
 put-front-requires c κs =
     let s = c.before.before.before.before in
-    ((good s).most, ((good s).rounds, (in-openings s.args.trucks s.args.openings.now (good s).openings-good, front-room s)))
+    ((good s).most, ((good s).rounds, (in_openings s.args.trucks s.args.openings.now (good s).openings-good, front-room s)))
 
 -- the entry, and the place of a word, as seen from later
 abbrev S-front : tie.After-put-front invariant-loop decreases-loop → tie.Start invariant-loop decreases-loop
@@ -59,26 +59,26 @@ abbrev S-end : tie.After-put-bytes invariant-loop decreases-loop → tie.Start i
 S-end c = S-loop c.before.before.before.before
 
 abbrev place : tie.Start invariant-loop decreases-loop → ℕ → ℕ
-place s w = wordPlace s.args.trucks w
+place s w = word_place s.args.trucks w
 
 -- after header and openings
 front : (c : tie.After-put-front invariant-loop decreases-loop)
-    → BitsPut (F (S-front c)) (openingPlace (S-front c).args.trucks) c.put_front.result.at c.put_front.result.have c.put_front.result.acc (S-front c).args.buf.now c.put_front.new.0
+    → BitsPut (F (S-front c)) (opening_place (S-front c).args.trucks) c.put_front.result.at c.put_front.result.have c.put_front.result.acc (S-front c).args.buf.now c.put_front.new.0
 front c = c.put_front.ensures (S-front c).args.words.now
 
 kept : (c : tie.After-put-front invariant-loop decreases-loop) → length c.put_front.new.0 ≡ length (S-front c).args.buf.now
 kept c =
     let s = S-front c in
     let r = c.put_front in
-    bits-put-length (F s) (openingPlace s.args.trucks) r.result.at r.result.have r.result.acc s.args.buf.now r.new.0 (front c) (front-room s)
+    bits-put-length (F s) (opening_place s.args.trucks) r.result.at r.result.have r.result.acc s.args.buf.now r.new.0 (front c) (front-room s)
 
 loop-holds : tie.Need-loop-init invariant-loop decreases-loop
 loop-holds c =
     let h = c.before.before in
     let s = S-front h in
-    let first = openingPlace s.args.trucks in
+    let first = opening_place s.args.trucks in
     let r = h.put_front in
-    (omega arith, bits-put-at (F s) first (place s 0) r.result.at r.result.have r.result.acc r.new.0 r.new.0 (omega arith) (bits-put-anew (F s) first r.result.at r.result.have r.result.acc s.args.buf.now r.new.0 (front h)))
+    (omega arith, bits-put-at (F s) first (place s 0) r.result.at r.result.have r.result.acc r.new.0 r.new.0 (omega arith) (bits-put_anew (F s) first r.result.at r.result.have r.result.acc s.args.buf.now r.new.0 (front h)))
 
 -- the word, as bits of the packed form
 value : (c : tie.After-mirror invariant-loop decreases-loop) → c.mirror.result ≡ num_at (F (S-word c)) (place (S-word c) c.before.before.before.before.loop.w) (S-word c).args.trucks
@@ -88,13 +88,13 @@ value c =
     let w = c.before.before.before.before.loop.w in
     c.mirror.ensures
     ∙ ap (λ (k : ℕ). mirrored k (get_or a.words.now w 0)) (min-eq_left (good s).most)
-    ∙ word_number a.trucks a.rounds a.openings.now a.words.now w (omega (arith, (good s).rounds-good.count))
+    ∙ word_number a.trucks a.rounds a.openings.now a.words.now w (omega (arith, (good s).rounds_good.count))
 
 room : (c : tie.After-mirror invariant-loop decreases-loop)
     → place (S-word c) c.before.before.before.before.loop.w + (S-word c).args.trucks ≤ 8 * length c.before.before.before.before.before.before.before.put_front.new.0
 room c =
     let s = S-word c in
-    omega (arith, word_room s.args.trucks s.args.rounds c.before.before.before.before.loop.w (omega (arith, (good s).rounds-good.count)), enough s, kept c.before.before.before.before.before.before.before)
+    omega (arith, word_room s.args.trucks s.args.rounds c.before.before.before.before.loop.w (omega (arith, (good s).rounds_good.count)), enough s, kept c.before.before.before.before.before.before.before)
 
 put-requires : tie.Need-put-requires invariant-loop decreases-loop
 put-requires c κs =
@@ -112,11 +112,11 @@ loop-again c =
     let n = s.args.trucks in
     let r = c.before.before.put in
     let e = r.ensures in
-    (omega arith, bits-put-at (F s) (place s l.w + n) (place s (l.w + 1)) r.result.at r.result.have r.result.acc h.put_front.new.0 r.new.0 (omega arith) (bits-put-more (F s) (place s l.w) l.p.at l.p.have l.p.acc h.put_front.new.0 l.buf l.invariant.1 (bits s) v.mirror.result n (value v) (room v) (good s).most r.result.at r.result.have r.result.acc r.new.0 e.0 e.1.0 e.1.1.0 e.1.1.1))
+    (omega arith, bits-put-at (F s) (place s l.w + n) (place s (l.w + 1)) r.result.at r.result.have r.result.acc h.put_front.new.0 r.new.0 (omega arith) (bits-put_more (F s) (place s l.w) l.p.at l.p.have l.p.acc h.put_front.new.0 l.buf l.invariant.1 (bits s) v.mirror.result n (value v) (room v) (good s).most r.result.at r.result.have r.result.acc r.new.0 e.0 e.1.0 e.1.1.0 e.1.1.1))
 
 -- after the last word
 all-put : (c : tie.After-loop invariant-loop decreases-loop)
-    → BitsPut (F (S-loop c)) (bitsFor (S-loop c).args.trucks (S-loop c).args.rounds) c.before.loop.p.at c.before.loop.p.have c.before.loop.p.acc (S-loop c).args.buf.now c.before.loop.buf
+    → BitsPut (F (S-loop c)) (bits_for (S-loop c).args.trucks (S-loop c).args.rounds) c.before.loop.p.at c.before.loop.p.have c.before.loop.p.acc (S-loop c).args.buf.now c.before.loop.buf
 all-put c =
     let h = c.before.before.before.before in
     let s = S-loop c in
@@ -124,12 +124,12 @@ all-put c =
     let R : ℕ = s.args.rounds in
     let l = c.before.loop in
     let r = h.put_front in
-    let e : l.w ≡ R * (3 + n) = omega (arith, (good s).rounds-good.count) in
-    bits-put-since (F s) (openingPlace n) r.result.at r.result.have r.result.acc s.args.buf.now r.new.0 (front h) (bitsFor n R) l.p.at l.p.have l.p.acc l.buf (omega (arith, bits-flat n R))
-    (bits-put-at (F s) (place s l.w) (bitsFor n R) l.p.at l.p.have l.p.acc r.new.0 l.buf (ap (place s) e ∙ sym (bits-flat n R)) l.invariant.1)
+    let e : l.w ≡ R * (3 + n) = omega (arith, (good s).rounds_good.count) in
+    bits-put_since (F s) (opening_place n) r.result.at r.result.have r.result.acc s.args.buf.now r.new.0 (front h) (bits_for n R) l.p.at l.p.have l.p.acc l.buf (omega (arith, bits_flat n R))
+    (bits-put-at (F s) (place s l.w) (bits_for n R) l.p.at l.p.have l.p.acc r.new.0 l.buf (ap (place s) e ∙ sym (bits_flat n R)) l.invariant.1)
 
 -- the bytes up to the last
-ended : (c : tie.After-loop invariant-loop decreases-loop) → c.before.loop.p.at + (c.before.loop.p.have + 7) / 8 ≡ bytesFor (S-loop c).args.trucks (S-loop c).args.rounds
+ended : (c : tie.After-loop invariant-loop decreases-loop) → c.before.loop.p.at + (c.before.loop.p.have + 7) / 8 ≡ bytes_for (S-loop c).args.trucks (S-loop c).args.rounds
 ended c = last_byte (S-loop c).args.trucks (S-loop c).args.rounds c.before.loop.p.at c.before.loop.p.have (all-put c).bytes (all-put c).left
 
 put-bytes-requires : tie.Need-put-bytes-requires invariant-loop decreases-loop
@@ -137,28 +137,28 @@ put-bytes-requires c κs =
     let o = c.before.before.before in
     let s = S-loop o in
     let l = o.before.loop in
-    (omega (arith, (all-put o).left), omega (arith, ended o, s.pre.1, bits-put-length (F s) (bitsFor s.args.trucks s.args.rounds) l.p.at l.p.have l.p.acc s.args.buf.now l.buf (all-put o) (enough s)))
+    (omega (arith, (all-put o).left), omega (arith, ended o, s.pre.1, bits-put-length (F s) (bits_for s.args.trucks s.args.rounds) l.p.at l.p.have l.p.acc s.args.buf.now l.buf (all-put o) (enough s)))
 
 -- after the zeros
 abbrev G : tie.Start invariant-loop decreases-loop → ℕ → ℕ
-G s = packedByte s.args.trucks s.args.rounds s.args.openings.now s.args.words.now
+G s = packed_byte s.args.trucks s.args.rounds s.args.openings.now s.args.words.now
 
 written : (c : tie.After-put-bytes invariant-loop decreases-loop)
-    → c.put-bytes.new.0 ≡ filled (G (S-end c)) (bytesFor (S-end c).args.trucks (S-end c).args.rounds) (S-end c).args.buf.now
+    → c.put-bytes.new.0 ≡ filled (G (S-end c)) (bytes_for (S-end c).args.trucks (S-end c).args.rounds) (S-end c).args.buf.now
 written c =
     let o = c.before.before.before.before in
     let s = S-end c in
     let a = s.args in
     let l = o.before.loop in
     let p = l.p in
-    bits-put-end (F s) (bitsFor a.trucks a.rounds) p.at p.have p.acc a.buf.now l.buf (all-put o) (bits s) 0 7 (end-number a.trucks a.rounds a.openings.now a.words.now 7) (omega arith) (omega (arith, ended o, s.pre.1)) c.put-bytes.new.0
+    bits-put_end (F s) (bits_for a.trucks a.rounds) p.at p.have p.acc a.buf.now l.buf (all-put o) (bits s) 0 7 (end_number a.trucks a.rounds a.openings.now a.words.now 7) (omega arith) (omega (arith, ended o, s.pre.1)) c.put-bytes.new.0
     (c.put-bytes.ensures ∙ ap (λ (x : ℕ). over (byte_of x (p.have + 7)) p.at ((p.have + 7) / 8) l.buf) (sym (add-zero (p.acc * 2 ^ 7 % 2 ^ 64))))
     ∙ ap (λ (m : ℕ). filled (G s) m a.buf.now) (ended o)
 
 same_length : tie.Need-same-length invariant-loop decreases-loop
 same_length c =
     let s = S-end c.before.before in
-    ap length (written c.before.before) ∙ length-filled (G s) (bytesFor s.args.trucks s.args.rounds) s.args.buf.now s.pre.1
+    ap length (written c.before.before) ∙ length-filled (G s) (bytes_for s.args.trucks s.args.rounds) s.args.buf.now s.pre.1
 
 returns : tie.Need-returns invariant-loop decreases-loop
 returns c = written c.before.before

@@ -5,7 +5,7 @@ use native.Mathlib.Omega.{arith}
 use borrow.Author.Rules.{rules}
 use lib.ListN.{length}
 use Rattle.plain.specs.Steps.{over, byte_of}
-use Rattle.plain.proofs.Putting.{length_over, over_none, over-step}
+use Rattle.plain.proofs.Putting.{length_over, over_none, over_step}
 use Rattle.plain.proofs.put_bytes.Statement.{statement}
 use Rattle.plain.proofs.put_bytes.Tie as tie
 
@@ -28,7 +28,7 @@ loop-again : tie.Need-loop-preserved invariant-loop decreases-loop
 loop-again c =
     let a = c.before.before.args in
     let l = c.before.loop in
-    (omega arith, over-step (byte_of a.acc a.have) a.at l.j a.buf.now l.buf l.invariant.1)
+    (omega arith, over_step (byte_of a.acc a.have) a.at l.j a.buf.now l.buf l.invariant.1)
 
 same_length : tie.Need-same-length invariant-loop decreases-loop
 same_length c =

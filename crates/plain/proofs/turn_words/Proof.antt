@@ -7,7 +7,7 @@ use native.Mathlib.Omega.{arith}
 use borrow.Author.Rules.{rules}
 use lib.ListN.{get_or}
 use Rattle.basics.specs.Lists.{filled}
-use Rattle.basics.proofs.Laws.{filled_none, getD-filled-past, fill-length, fill_step}
+use Rattle.basics.proofs.Laws.{filled_none, get_or-filled_past, fill_length, fill_step}
 use Rattle.plain.specs.Steps.{turned_word}
 use Rattle.plain.proofs.turn_words.Statement.{statement}
 use Rattle.plain.proofs.turn_words.Tie as tie
@@ -31,13 +31,13 @@ slice-read-turned-word : tie.Need-slice-read-turned-word invariant-loop decrease
 slice-read-turned-word c =
     let a = c.before.before.before.before.args in
     let l = c.before.before.loop in
-    omega (arith, fill-length (turned a.words.now a.n) a.words.now l.words l.w l.invariant.1 (omega arith))
+    omega (arith, fill_length (turned a.words.now a.n) a.words.now l.words l.w l.invariant.1 (omega arith))
 
 slice-write-words : tie.Need-slice-write-words invariant-loop decreases-loop
 slice-write-words c =
     let a = c.before.before.before.before.before.args in
     let l = c.before.before.before.loop in
-    omega (arith, fill-length (turned a.words.now a.n) a.words.now l.words l.w l.invariant.1 (omega arith))
+    omega (arith, fill_length (turned a.words.now a.n) a.words.now l.words l.w l.invariant.1 (omega arith))
 
 loop-again : tie.Need-loop-preserved invariant-loop decreases-loop
 loop-again c =
@@ -45,14 +45,14 @@ loop-again c =
     let l = c.before.before.before.loop in
     let g : ℕ → ℕ = turned a.words.now a.n in
     let here : get_or l.words l.w 0 ≡ get_or a.words.now l.w 0 =
-    ap (λ (d : List ℕ). get_or d l.w 0) l.invariant.1 ∙ getD-filled-past g l.w a.words.now l.w 0 (le_refl l.w) in
+    ap (λ (d : List ℕ). get_or d l.w 0) l.invariant.1 ∙ get_or-filled_past g l.w a.words.now l.w 0 (le_refl l.w) in
     (omega arith, fill_step g a.words.now l.words l.w l.invariant.1 c.turned-word.result (omega arith) (c.turned-word.ensures ∙ ap (turned_word a.n) here))
 
 same_length : tie.Need-same-length invariant-loop decreases-loop
 same_length c =
     let a = c.before.before.before.args in
     let l = c.before.loop in
-    fill-length (turned a.words.now a.n) a.words.now l.words l.w l.invariant.1 (omega arith)
+    fill_length (turned a.words.now a.n) a.words.now l.words l.w l.invariant.1 (omega arith)
 
 returns : tie.Need-returns invariant-loop decreases-loop
 returns c =

@@ -2,7 +2,7 @@
 use mathlib.Core.Path.{sym, ◌∙◌}
 use native.Mathlib.Omega.{arith}
 use borrow.Author.Rules.{rules}
-use Rattle.recording.specs.Checks.{frameCheck, ownCheck, checkOf}
+use Rattle.recording.specs.Checks.{frame_check, own_check, check_of}
 use Rattle.refusals.proofs.Outcomes.{then-first}
 use Rattle.protocol.specs.Fleets.{chosen}
 use Rattle.playback.proofs.Put.{run-refused, run_short, run-put}
@@ -15,10 +15,10 @@ returns c =
     run_short (chosen a.cycle) a.s.now a.d.now (sym c.before.before.before.check.ensures ∙ c.before.enum_told.given.1) (omega arith)
 
 run-into-requires : tie.Need-run-into-requires
-unfolding checkOf
+unfolding check_of
 run-into-requires c κs =
     let s = c.before.before.before.before.before.before.before.args.s.now in
-    (then-first (frameCheck s) (ownCheck s) (sym c.before.before.before.before.check.ensures ∙ c.before.before.enum_told.given.1), omega arith)
+    (then-first (frame_check s) (own_check s) (sym c.before.before.before.before.check.ensures ∙ c.before.before.enum_told.given.1), omega arith)
 
 returns-2 : tie.Need-returns-2
 returns-2 c =

@@ -1,11 +1,11 @@
 -- `damaged_at` meets its contract.
 use borrow.Author.Rules.{rules}
-use Rattle.recordbytes.proofs.Laws.{damaged-is}
+use Rattle.recordbytes.proofs.Laws.{damaged_is}
 use Rattle.recordbytes.proofs.damaged_at.Statement.{statement}
 use Rattle.recordbytes.proofs.damaged_at.Tie as tie
 
 returns : tie.Need-returns
-returns c = search damaged-is
+returns c = search damaged_is
 
 pub damaged-at-spec : {M : Type 1} → statement M
 damaged-at-spec =

@@ -1,15 +1,15 @@
 -- `pack` meets its contract.
 use borrow.Author.Rules.{rules}
-use Rattle.recording.proofs.Accepted.{trucks-in}
-use Rattle.recordbytes.specs.Layout.{packedRecord}
+use Rattle.recording.proofs.Accepted.{trucks_in_lem}
+use Rattle.recordbytes.specs.Layout.{packed_record}
 use Rattle.recordbytes.proofs.pack.Statement.{statement}
 use Rattle.recordbytes.proofs.pack.Tie as tie
 
 pack-places-requires : tie.Need-pack-places-requires
-pack-places-requires c κs = λ h. (trucks-in _ h).1
+pack-places-requires c κs = λ h. (trucks_in_lem _ h).1
 
 returns : tie.Need-returns
-unfolding packedRecord
+unfolding packed_record
 returns c = search rules
 
 pub pack-spec : {M : Type 1} → statement M

@@ -5,13 +5,13 @@ use native.Mathlib.Omega.{arith}
 use lib.ListN.{length-set}
 use borrow.Author.Rules.{rules}
 use Rattle.basics.specs.Lists.{filled}
-use Rattle.recordbytes.specs.Layout.{size_for, recordByte}
+use Rattle.recordbytes.specs.Layout.{size_for, record_byte}
 use Rattle.recordbytes.proofs.Laws.{put_holds, put-now, put-length, put_step}
 use Rattle.recordbytes.proofs.put.Statement.{statement}
 use Rattle.recordbytes.proofs.put.Tie as tie
 
 abbrev invariant-loop : tie.invariant-loop
-invariant-loop m d₀ f i₀ d i = (i ≤ m) × (d ≡ filled (recordByte f) (size_for i) d₀)
+invariant-loop m d₀ f i₀ d i = (i ≤ m) × (d ≡ filled (record_byte f) (size_for i) d₀)
 
 abbrev decreases-loop : tie.decreases-loop
 decreases-loop m d₀ f i₀ d i = m - i
@@ -45,7 +45,7 @@ returns c =
     let s = c.before.before.before in
     let a = s.args in
     let l = c.before.loop in
-    put-now a.t1 a.d.now s.requires.1 l.d l.i (omega arith) l.invariant.1 ∙ ap (λ (k : ℕ). filled (recordByte a.t1) (size_for k) a.d.now) (omega arith)
+    put-now a.t1 a.d.now s.requires.1 l.d l.i (omega arith) l.invariant.1 ∙ ap (λ (k : ℕ). filled (record_byte a.t1) (size_for k) a.d.now) (omega arith)
 
 pub put_spec : {M : Type 1} → statement M
 put_spec =

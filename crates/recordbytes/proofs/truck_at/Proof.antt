@@ -1,11 +1,11 @@
 -- `truck_at` meets its contract.
 use borrow.Author.Rules.{rules}
-use Rattle.recordbytes.proofs.Laws.{truck-is}
+use Rattle.recordbytes.proofs.Laws.{truck_is}
 use Rattle.recordbytes.proofs.truck_at.Statement.{statement}
 use Rattle.recordbytes.proofs.truck_at.Tie as tie
 
 returns : tie.Need-returns
-returns c = search truck-is
+returns c = search truck_is
 
 pub truck-at-spec : {M : Type 1} → statement M
 truck-at-spec =

@@ -1,8 +1,8 @@
 -- `unpack` meets its contract: a law for each return.
 use mathlib.Core.Path.{sym, ◌∙◌}
 use borrow.Author.Rules.{rules}
-use Rattle.recording.proofs.Accepted.{trucks-in}
-use Rattle.recordbytes.proofs.Laws.{unpack-7, unpack-0}
+use Rattle.recording.proofs.Accepted.{trucks_in_lem}
+use Rattle.recordbytes.proofs.Laws.{unpack_7, unpack_0}
 use Rattle.recordbytes.proofs.RoundTrip.{undamaged}
 use Rattle.recordbytes.proofs.unpack.Statement.{statement}
 use Rattle.recordbytes.proofs.unpack.Tie as tie
@@ -11,7 +11,7 @@ record-of-requires : tie.Need-record-of-requires
 record-of-requires c κs =
     let d = c.before.before.before.args.d.now in
     let u = undamaged d (sym c.before.damaged.ensures ∙ c.if1.false) in
-    ((trucks-in _ u.range).1, u.whole)
+    ((trucks_in_lem _ u.range).1, u.whole)
 
 pub unpack-spec : {M : Type 1} → statement M
 unpack-spec =
@@ -19,6 +19,6 @@ unpack-spec =
     (tie.spec
     (λ c κs. search rules)
     (λ c κs. search rules)
-    (λ c. search unpack-7)
+    (λ c. search unpack_7)
     record-of-requires
-    (λ c. search unpack-0))
+    (λ c. search unpack_0))

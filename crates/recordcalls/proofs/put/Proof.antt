@@ -1,6 +1,6 @@
 -- `put` meets its contract: a law for each return.
 use borrow.Author.Rules.{rules}
-use Rattle.recordcalls.proofs.Records.{put_refused, put-0}
+use Rattle.recordcalls.proofs.Records.{put_refused, put_0}
 use Rattle.recordcalls.proofs.put.Statement.{statement}
 use Rattle.recordcalls.proofs.put.Tie as tie
 
@@ -15,4 +15,4 @@ put_spec =
     (λ c κs. search rules)
     (λ c. search put_refused)
     (λ c. search rules)
-    (λ c. search put-0))
+    (λ c. search put_0))

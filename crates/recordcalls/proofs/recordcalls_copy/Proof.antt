@@ -1,6 +1,6 @@
 -- `recordcalls_copy` meets its contract: a law for each return.
 use borrow.Author.Rules.{rules}
-use Rattle.recordcalls.proofs.Records.{copy-put}
+use Rattle.recordcalls.proofs.Records.{copy_put}
 use Rattle.recordcalls.proofs.recordcalls_copy.Statement.{statement}
 use Rattle.recordcalls.proofs.recordcalls_copy.Tie as tie
 
@@ -11,4 +11,4 @@ recordcalls-copy-spec =
     (λ c κs. search rules)
     (λ c κs. search rules)
     (λ c. search rules)
-    (λ c. search copy-put))
+    (λ c. search copy_put))

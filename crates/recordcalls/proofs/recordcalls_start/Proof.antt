@@ -1,6 +1,6 @@
 -- `recordcalls_start` meets its contract: a law for each return.
 use borrow.Author.Rules.{rules}
-use Rattle.recordcalls.proofs.Records.{start-refused, start-0}
+use Rattle.recordcalls.proofs.Records.{start-refused, start_0}
 use Rattle.recordcalls.proofs.recordcalls_start.Statement.{statement}
 use Rattle.recordcalls.proofs.recordcalls_start.Tie as tie
 
@@ -17,4 +17,4 @@ recordcalls-start-spec =
     (λ c κs. search rules)
     (λ c. search start-refused)
     (λ c. search rules)
-    (λ c. search start-0))
+    (λ c. search start_0))

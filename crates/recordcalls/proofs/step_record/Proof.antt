@@ -1,6 +1,6 @@
 -- `step_record` meets its contract: a law for each return.
 use borrow.Author.Rules.{rules}
-use Rattle.recordcalls.proofs.Records.{step-7, step-put}
+use Rattle.recordcalls.proofs.Records.{step_7, step_put}
 use Rattle.recordcalls.proofs.step_record.Statement.{statement}
 use Rattle.recordcalls.proofs.step_record.Tie as tie
 
@@ -15,6 +15,6 @@ step-record-spec =
     (λ c κs. search rules)
     (λ c κs. search rules)
     (λ c. search rules)
-    (λ c. search step-7)
+    (λ c. search step_7)
     (λ c. search rules)
-    (λ c. search step-put))
+    (λ c. search step_put))

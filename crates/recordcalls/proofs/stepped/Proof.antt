@@ -1,6 +1,6 @@
 -- `stepped` meets its contract: a law for each return.
 use borrow.Author.Rules.{rules}
-use Rattle.recordcalls.proofs.Records.{two-step, six-step}
+use Rattle.recordcalls.proofs.Records.{two_step, six_step}
 use Rattle.recordcalls.proofs.stepped.Statement.{statement}
 use Rattle.recordcalls.proofs.stepped.Tie as tie
 
@@ -12,5 +12,5 @@ stepped-spec =
     (λ c κs. search rules)
     (λ c. search rules)
     (λ c κs. search rules)
-    (λ c. search two-step)
-    (λ c. search six-step))
+    (λ c. search two_step)
+    (λ c. search six_step))

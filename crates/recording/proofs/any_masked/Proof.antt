@@ -5,14 +5,14 @@ use Prim.Native.Nat.{◌≤◌, ◌-◌}
 use native.Mathlib.Omega.{arith}
 use borrow.Author.Rules.{rules}
 use lib.Dec.{eqb}
-use Rattle.basics.specs.Lists.{someBelow}
+use Rattle.basics.specs.Lists.{some_below}
 use Rattle.basics.proofs.Laws.{some-none}
-use Rattle.recording.proofs.Masks.{masked, masked-more}
+use Rattle.recording.proofs.Masks.{masked, masked_more}
 use Rattle.recording.proofs.any_masked.Statement.{statement}
 use Rattle.recording.proofs.any_masked.Tie as tie
 
 abbrev invariant-loop : tie.invariant-loop
-invariant-loop s b mask m any₀ j₀ any j = (j ≤ m) × (not (eqb any 0) ≡ someBelow (masked s b mask) j)
+invariant-loop s b mask m any₀ j₀ any j = (j ≤ m) × (not (eqb any 0) ≡ some_below (masked s b mask) j)
 
 abbrev decreases-loop : tie.decreases-loop
 decreases-loop s b mask m any₀ j₀ any j = m - j
@@ -26,7 +26,7 @@ loop-again : tie.Need-loop-preserved invariant-loop decreases-loop
 loop-again c =
     let a = c.before.before.before.before.args in
     let l = c.before.before.before.loop in
-    (omega arith, masked-more a.s.now a.b a.mask.now l.j l.any l.invariant.1)
+    (omega arith, masked_more a.s.now a.b a.mask.now l.j l.any l.invariant.1)
 
 returns : tie.Need-returns invariant-loop decreases-loop
 returns c =

@@ -3,7 +3,7 @@ use mathlib.Core.Path.{ap}
 use Prim.Native.Nat.{ℕ, ◌+◌, ◌/◌}
 use native.Mathlib.Omega.{arith}
 use borrow.Author.Rules.{rules}
-use Rattle.recording.specs.Packed.{bytesFor}
+use Rattle.recording.specs.Packed.{bytes_for}
 use Rattle.recording.proofs.Sizes.{bits_small}
 use Rattle.recording.proofs.bytes_for.Statement.{statement}
 use Rattle.recording.proofs.bytes_for.Tie as tie
@@ -14,7 +14,7 @@ add-result c =
     omega (arith, c.bits-for.ensures, bits_small s.args.trucks s.args.rounds s.ranges.trucks.fits s.ranges.rounds.fits)
 
 returns : tie.Need-returns
-unfolding bytesFor
+unfolding bytes_for
 returns c = ap (λ (b : ℕ). (b + 7) / 8) c.bits-for.ensures
 
 pub bytes-for-spec : {M : Type 1} → statement M

@@ -6,8 +6,8 @@ use mathlib.Core.Path.{ap, ◌∙◌}
 use lib.ListN.{length}
 use borrow.Author.Rules.{rules}
 use Rattle.bitreader.proofs.Digits.{bit_at_lt}
-use Rattle.recording.specs.Packed.{bitAt, num_at}
-use Rattle.recording.proofs.Searches.{number-tests}
+use Rattle.recording.specs.Packed.{bit_at, num_at}
+use Rattle.recording.proofs.Searches.{number_tests}
 use Rattle.recording.proofs.end_bit.Statement.{statement}
 use Rattle.recording.proofs.end_bit.Tie as tie
 
@@ -16,8 +16,8 @@ returns c =
     let a = c.before.before.args in
     let s = a.s.now in
     let k = 8 * length s - a.total in
-    number-tests (bitAt s) (bit_at_lt s) a.total k c.read_at.result
-    (c.read_at.ensures ∙ ap (num_at (bitAt s) a.total) (min-eq_left (omega arith)))
+    number_tests (bit_at s) (bit_at_lt s) a.total k c.read_at.result
+    (c.read_at.ensures ∙ ap (num_at (bit_at s) a.total) (min-eq_left (omega arith)))
 
 pub end-bit-spec : {M : Type 1} → statement M
 end-bit-spec = tie.close (tie.spec (λ c. search rules) (λ c. search rules) (λ c κs. search rules) returns)

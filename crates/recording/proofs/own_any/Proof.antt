@@ -4,14 +4,14 @@ use Prim.Native.Nat.{◌≤◌, ◌+◌, ◌*◌, ◌-◌, ◌/◌}
 use native.Mathlib.Omega.{arith}
 use borrow.Author.Rules.{rules}
 use Rattle.basics.specs.Bits.{bit}
-use Rattle.basics.specs.Lists.{someBelow}
+use Rattle.basics.specs.Lists.{some_below}
 use Rattle.basics.proofs.Laws.{some-none}
-use Rattle.recording.proofs.Searches.{ownPacked, own-near, union_more, within-rows}
+use Rattle.recording.proofs.Searches.{own_packed, own-near, union_more, within_rows}
 use Rattle.recording.proofs.own_any.Statement.{statement}
 use Rattle.recording.proofs.own_any.Tie as tie
 
 abbrev invariant-loop : tie.invariant-loop
-invariant-loop s at n seen₀ p₀ any₀ seen p any = (p ≡ at + seen * (n + 1)) × (seen ≤ n) × (bit any 7 ≡ someBelow (ownPacked s at n) seen)
+invariant-loop s at n seen₀ p₀ any₀ seen p any = (p ≡ at + seen * (n + 1)) × (seen ≤ n) × (bit any 7 ≡ some_below (own_packed s at n) seen)
 
 abbrev decreases-loop : tie.decreases-loop
 decreases-loop s at n seen₀ p₀ any₀ seen p any = n - seen
@@ -19,13 +19,13 @@ decreases-loop s at n seen₀ p₀ any₀ seen p any = n - seen
 loop-holds : tie.Need-loop-init invariant-loop decreases-loop
 loop-holds c =
     let a = c.args in
-    (omega arith, omega arith, sym (some-none (ownPacked a.s.now a.at a.n)))
+    (omega arith, omega arith, sym (some-none (own_packed a.s.now a.at a.n)))
 
 shared-slice-read-any : tie.Need-shared-slice-read-any invariant-loop decreases-loop
 shared-slice-read-any c =
     let a = c.before.before.before.args in
     let l = c.before.before.loop in
-    omega (arith, l.invariant.0, within-rows a.n l.seen (omega arith))
+    omega (arith, l.invariant.0, within_rows a.n l.seen (omega arith))
 
 cast-any : tie.Need-overflow-cast-any invariant-loop decreases-loop
 cast-any c = omega (arith, c.shared-slice-known.given (c.before.before.loop.p / 8))

@@ -5,7 +5,7 @@ use native.Mathlib.Omega.{arith}
 use borrow.Author.Rules.{rules}
 use lib.Bits.{bit_or}
 use lib.ListN.{length, get_or, length-set, length-replicate}
-use Rattle.recording.proofs.Masks.{OwnMask, mask-begins, mask-more}
+use Rattle.recording.proofs.Masks.{OwnMask, mask_begins, mask_more}
 use Rattle.recording.proofs.Searches.{own-near}
 use Rattle.recording.proofs.own_mask.Statement.{statement}
 use Rattle.recording.proofs.own_mask.Tie as tie
@@ -17,7 +17,7 @@ abbrev decreases-loop : tie.decreases-loop
 decreases-loop at n mask₀ marked₀ p₀ mask marked p = n - marked
 
 loop-holds : tie.Need-loop-init invariant-loop decreases-loop
-loop-holds c = (omega arith, omega arith, ap length c.requires.2 ∙ length-replicate {A = ℕ} 136 0, rw c.requires.2 (mask-begins 136 c.args.at c.args.n))
+loop-holds c = (omega arith, omega arith, ap length c.requires.2 ∙ length-replicate {A = ℕ} 136 0, rw c.requires.2 (mask_begins 136 c.args.at c.args.n))
 
 element-copy-out-mask : tie.Need-element-copy-out-mask invariant-loop decreases-loop
 element-copy-out-mask c =
@@ -41,7 +41,7 @@ loop-again c =
       omega (arith, l.invariant.0),
       omega arith,
       length-set l.mask (l.p / 8) (bit_or (get_or l.mask (l.p / 8) 0) (128 / 2 ^ (l.p % 8))) ∙ l.invariant.2,
-      mask-more l.mask a.at a.n l.marked l.p (omega (arith, l.invariant.0, l.invariant.2, own-near a.n l.marked (omega arith) (omega arith))) l.invariant.0 l.invariant.3,
+      mask_more l.mask a.at a.n l.marked l.p (omega (arith, l.invariant.0, l.invariant.2, own-near a.n l.marked (omega arith) (omega arith))) l.invariant.0 l.invariant.3,
     )
 
 returns : tie.Need-returns invariant-loop decreases-loop

@@ -7,12 +7,12 @@ use borrow.Author.Tests.{eq-eqb, ne_eqb}
 use lib.Dec.{eqb}
 use Rattle.basics.specs.Lists.{first}
 use Rattle.basics.proofs.Laws.{first-none, first_step, first_found}
-use Rattle.recording.proofs.Searches.{ownPacked, own-near, bit-read}
+use Rattle.recording.proofs.Searches.{own_packed, own-near, bit-read}
 use Rattle.recording.proofs.own_truck.Statement.{statement}
 use Rattle.recording.proofs.own_truck.Tie as tie
 
 abbrev invariant-loop : tie.invariant-loop
-invariant-loop s at n i₀ p₀ i p = (p ≡ at + i * (n + 1)) × (i ≤ n) × (first (ownPacked s at n) i ≡ i)
+invariant-loop s at n i₀ p₀ i p = (p ≡ at + i * (n + 1)) × (i ≤ n) × (first (own_packed s at n) i ≡ i)
 
 abbrev decreases-loop : tie.decreases-loop
 decreases-loop s at n i₀ p₀ i p = n - i
@@ -20,11 +20,11 @@ decreases-loop s at n i₀ p₀ i p = n - i
 loop-holds : tie.Need-loop-init invariant-loop decreases-loop
 loop-holds c =
     let a = c.before.args in
-    (omega arith, omega arith, first-none (ownPacked a.s.now a.at a.n))
+    (omega arith, omega arith, first-none (own_packed a.s.now a.at a.n))
 
 -- what the bit read says of the round's bit
 read : (c : tie.After-read-at invariant-loop decreases-loop)
-    → eqb c.read_at.result 1 ≡ ownPacked c.before.before.before.before.args.s.now c.before.before.before.before.args.at c.before.before.before.before.args.n c.before.before.loop.i
+    → eqb c.read_at.result 1 ≡ own_packed c.before.before.before.before.args.s.now c.before.before.before.before.args.at c.before.before.before.before.args.n c.before.before.loop.i
 read c =
     let a = c.before.before.before.before.args in
     let l = c.before.before.loop in
@@ -35,7 +35,7 @@ returns c =
     let a = c.before.before.before.before.before.args in
     let l = c.before.before.before.loop in
     sym
-    (first_found (ownPacked a.s.now a.at a.n) a.n l.i (omega arith) l.invariant.2
+    (first_found (own_packed a.s.now a.at a.n) a.n l.i (omega arith) l.invariant.2
     (sym (read c.before) ∙ eq-eqb c.before.read_at.result 1 c.if1.true))
 
 add-p-2 : tie.Need-overflow-add-p-2 invariant-loop decreases-loop
@@ -48,7 +48,7 @@ loop-again : tie.Need-loop-preserved invariant-loop decreases-loop
 loop-again c =
     let a = c.before.before.before.before.before.args in
     let l = c.before.before.before.loop in
-    (omega (arith, l.invariant.0), omega arith, first_step (ownPacked a.s.now a.at a.n) l.i l.invariant.2 (sym (read c.before) ∙ ne_eqb c.before.read_at.result 1 c.if1.false))
+    (omega (arith, l.invariant.0), omega arith, first_step (own_packed a.s.now a.at a.n) l.i l.invariant.2 (sym (read c.before) ∙ ne_eqb c.before.read_at.result 1 c.if1.false))
 
 returns-2 : tie.Need-returns-2 invariant-loop decreases-loop
 returns-2 c =

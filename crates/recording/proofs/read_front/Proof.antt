@@ -41,7 +41,7 @@ use denote.Ref.{Bor, NamedLft}
 use denote.Signature.{plain}
 use denote.Slice.{slice_ty, slice_val, ShrSlice, MutSlice, heres, room, coded_holeys, shr_slice_vals, mut_slice_vals, shr_slice_Tells, shr_slice_Lawful, shr_slice_copy, mut_slice_Tells, mut_slice_Lawful}
 use denote.Lend.{Held}
-use denote.Index.{row, place_byte, elem_out, elem_put, opens_slice, closes_slice}
+use denote.Index.{row, place_byte_lem, elem_out, elem_put, opens_slice, closes_slice}
 use denote.Steps.{only, owned, peeks, heard, nothing}
 use denote.Struct.Laws as LL
 use denote.Triple.Entry.{on_entry}
@@ -64,9 +64,9 @@ use Rattle.bitreader.proofs.new.Met as new-thm
 use Rattle.bitreader.proofs.take.Symbol as take-def
 use Rattle.bitreader.proofs.take.Symbol.{name as #bitreader·take}
 use Rattle.bitreader.proofs.take.Met as take-thm
-use Rattle.recording.specs.Packed.{trucksOf, roundsOf, countsOf, openingPlace, openingAt}
+use Rattle.recording.specs.Packed.{trucks_of, rounds_of, counts_of, opening_place, opening_at}
 use Rattle.recording.specs.declared.Counts.{Counts}
-use Rattle.recording.proofs.Fronts.{after-counts, after-opening, trucks-lt, rounds-lt, opening-lt}
+use Rattle.recording.proofs.Fronts.{after-counts, after-opening, trucks-lt, rounds_lt, opening-lt}
 use Rattle.recording.specs.contracts.Counts as Counts-t
 use Rattle.recording.proofs.Counts.TheLaws as Counts-l
 use Rattle.recording.specs.contracts.openings_read as openings-read
@@ -119,28 +119,28 @@ module _ {M : Type 1} {𝓤 : Ura M} (𝓛 : Logic 𝓤) (at_mem : Memory → SP
 
   -- the two counts, where the loop ends, and the lent places after i turns
   abbrev n : ℕ
-  n = trucksOf s.now
+  n = trucks_of s.now
 
   abbrev rounds : ℕ
-  rounds = roundsOf s.now
+  rounds = rounds_of s.now
 
   abbrev m : ℕ
   m = min n (length xs)
 
   abbrev read : ℕ → List ℕ
-  read i = filled (openingAt s.now) i xs
+  read i = filled (opening_at s.now) i xs
 
   abbrev counted : Counts
-  counted = countsOf s.now
+  counted = counts_of s.now
 
   length-is : (i : ℕ) → i ≤ m → length (read i) ≡ length xs
-  length-is i le = length-filled (openingAt s.now) i xs (omega arith)
+  length-is i le = length-filled (opening_at s.now) i xs (omega arith)
 
   few : (i : ℕ) → i < m → i < 64
   few i less = omega (arith, trucks-lt s.now)
 
   counted_is : Is Counts-t.the_row counted (Counts-l.lowered counted ∷ [])
-  counted_is = LL.owes Counts-t.the_type Counts-l.the_laws counted ((refl, omega (arith, trucks-lt s.now)), ((refl, omega (arith, rounds-lt s.now)), tt))
+  counted_is = LL.owes Counts-t.the_type Counts-l.the_laws counted ((refl, omega (arith, trucks-lt s.now)), ((refl, omega (arith, rounds_lt s.now)), tt))
 
   exits : ent 𝓤 (⋆ 𝓛 (‵ (fobs γ ((coded_holeys u8).code (heres u8 (read m)))) ∷ ‵ (fbor κ' (Held u8 (length (read m)) b o γ)) ∷ ‵ (flft κ' q') ∷ ‵ (flft κ q) ∷ ‵ Own ∷ ‵ (room u8 (length xs)) ∷ [])) (Post (Counts-l.lowered counted))
   exits =
@@ -166,8 +166,8 @@ module _ {M : Type 1} {𝓤 : Ura M} (𝓛 : Logic 𝓤) (at_mem : Memory → SP
   in-read : (i : ℕ) → i < m → i < length (read i)
   in-read i less = omega (arith, length-is i (omega arith))
 
-  step_is : (i : ℕ) → i < m → set (read i) i (openingAt s.now i) ≡ read (i + 1)
-  step_is i less = fill_step (openingAt s.now) xs (read i) i refl (openingAt s.now i) (omega arith) refl
+  step_is : (i : ℕ) → i < m → set (read i) i (opening_at s.now i) ≡ read (i + 1)
+  step_is i less = fill_step (opening_at s.now) xs (read i) i refl (opening_at s.now i) (omega arith) refl
 
   module _ (𝓣 : Tables 𝓤 H) (known-take : Triple 𝓤 (𝓣.C #bitreader·take) (Take 𝓛 at_mem run)) (l0 l1 l2 l3 l4 l5 l6 l7 l8 l9 l10 l11 l12 l13 l14 l15 l16 l17 : ℕ) where
     abbrev C : Calls 𝓤 H
@@ -206,23 +206,23 @@ module _ {M : Type 1} {𝓤 : Ura M} (𝓛 : Logic 𝓤) (at_mem : Memory → SP
         ‵ (fat full_share shared l1 0 v) ∷ ‵ (fdies shared l1) ∷ ‵ (froom Counts-l.mir l0 0) ∷ ‵ (fdies Counts-l.mir l0) ∷ []
 
     abbrev At : Upto → List (Item 𝓤)
-    At i = Going (read i.0) (openingPlace i.0) i.0
+    At i = Going (read i.0) (opening_place i.0) i.0
 
     -- a turn's postcondition: it ends nearer to m, or the loop is left and the rest of the body runs
     abbrev Turned : Upto → Out → SProp 𝓤
     Turned i = after_turn 𝓤 H (Below 𝓛 Nearer At i) (after_block 𝓤 H (after_seq 𝓤 H (Wp 𝓤 H C Λ En body.t-13 (at_return 𝓤 H En Post)) (at_return 𝓤 H En Post)))
 
     goes_on : (i : ℕ) (le : i ≤ m) → ltb i m ≡ true → Sq 𝓛 (At (i, le)) (runs C Λ En body.turn-1 (any_q (Turned (i, le))))
-    unfolding after_turn openingAt
+    unfolding after_turn opening_at
     goes_on i le test =
         let less : i < m = ltb→lt i m (subst T (sym test) tt) in
         assigns ! (bin ! (held ! 28 refl) (held ! 30 refl) tt) (here !) (init ! 16 refl (tt, tt)) $
         rewrite ! 16 (λ (y : Bool). ‵ (fat full_share ty_bool l13 0 (vbool y))) test refl $ stays ! (held ! 16 refl) $
         -- the reader reads four bits, and is at the place of the next opening
         assigns ! (addr ! (here !)) (here !) (init ! 12 refl (tt, tt)) $ move ! (1 ∷ 2 ∷ []) $
-        use2 𝓛 (later (Lent 𝓛 at_mem run κ q (reader s (openingPlace i)) l3 4)) (lends 𝓛 at_mem run κ q (reader s (openingPlace i)) l3 4 (refl, lit< tt)) $ await ! tt $ pick ! (λ ν. pick ! (λ δ. split ! $
-        calls_at ! (fm_of 𝓤 H 𝓛.laws 𝓣) (Take 𝓛 at_mem run) known-take (to 𝓛 at_mem run κ q (reader s (openingPlace i)) l3 4 ν δ) (and_then ! (held ! 12 refl) (and_then ! (lit ! tt) (no_more !))) (λ u.
-        use2 𝓛 (later (Back 𝓛 at_mem run κ q (reader s (openingPlace i)) l3 4 u)) (comes_back 𝓛 at_mem run κ q (reader s (openingPlace i)) l3 4 ν δ u) $ await ! tt $ pick ! (λ w. learn ! (λ e.
+        use2 𝓛 (later (Lent 𝓛 at_mem run κ q (reader s (opening_place i)) l3 4)) (lends 𝓛 at_mem run κ q (reader s (opening_place i)) l3 4 (refl, lit< tt)) $ await ! tt $ pick ! (λ ν. pick ! (λ δ. split ! $
+        calls_at ! (fm_of 𝓤 H 𝓛.laws 𝓣) (Take 𝓛 at_mem run) known-take (to 𝓛 at_mem run κ q (reader s (opening_place i)) l3 4 ν δ) (and_then ! (held ! 12 refl) (and_then ! (lit ! tt) (no_more !))) (λ u.
+        use2 𝓛 (later (Back 𝓛 at_mem run κ q (reader s (opening_place i)) l3 4 u)) (comes_back 𝓛 at_mem run κ q (reader s (opening_place i)) l3 4 ν δ u) $ await ! tt $ pick ! (λ w. learn ! (λ e.
         split ! $ move ! (1 ∷ []) $ split ! $ move ! (2 ∷ []) $ peeks ! u32 (Is u32) (shows 𝓛 u32) w (u ∷ []) (λ is.
         land ! (here !) (init ! 15 refl ((uint_Lawful 𝓛 w32).typed w _ is).0) $ drop ! $
         -- [the token; the reader; the places; the slice; …]
@@ -233,11 +233,11 @@ module _ {M : Type 1} {𝓤 : Ura M} (𝓛 : Logic 𝓤) (at_mem : Memory → SP
         assigns ! (bin ! (load ! (from ! (fld ! refl (stop !))) (look_in ! 37 (sub ! 0 refl (whole !)))) (held ! 28 refl) tt) (here !) (init ! 8 refl (tt, tt)) $
         move ! (2 ∷ []) $ elem_out ! u8 (Is u8) (shows 𝓛 u8) (uint_vals w8) (uint_Tells w8) full_share (read i) i 0 b o (in-read i less) (λ _.
         -- [the cell; what it owns; the other places; the token; the reader; …; _17 at 10; _16 at 12; …]
-        rewrite ! 0 (λ (p : ℕ). ‵ (cell_at full_share u8.mir (vint w8 (get_or (read i) i 0) ∷ []) b p)) (place_byte o i) refl $
+        rewrite ! 0 (λ (p : ℕ). ‵ (cell_at full_share u8.mir (vint w8 (get_or (read i) i 0) ∷ []) b p)) (place_byte_lem o i) refl $
         assigns ! (of_opd ! (held ! 12 refl)) (from ! (hop ! (look ! 10 refl) (stop !))) (store_raw ! 0 refl (tt, record { fits = omega (arith, opening-lt s.now i) })) $
-        rewrite ! 0 (λ (p : ℕ). ‵ (cell_at full_share u8.mir (vint w8 (openingAt s.now i) ∷ []) b p)) (sym (place_byte o i)) refl $
-        move ! (1 ∷ []) $ drop ! $ owned ! u8 (Is u8) (uint_Makes 𝓛 w8) (openingAt s.now i) _ (refl, omega (arith, opening-lt s.now i)) $ move ! (1 ∷ 0 ∷ []) $
-        elem_put ! u8 full_share (read i) i (openingAt s.now i) (vint w8 (openingAt s.now i) ∷ []) b o (in-read i less) $ rewrite ! 0 (λ (ys : List ℕ). ‵ (row u8 full_share ys b o)) (step_is i less) refl $
+        rewrite ! 0 (λ (p : ℕ). ‵ (cell_at full_share u8.mir (vint w8 (opening_at s.now i) ∷ []) b p)) (sym (place_byte_lem o i)) refl $
+        move ! (1 ∷ []) $ drop ! $ owned ! u8 (Is u8) (uint_Makes 𝓛 w8) (opening_at s.now i) _ (refl, omega (arith, opening-lt s.now i)) $ move ! (1 ∷ 0 ∷ []) $
+        elem_put ! u8 full_share (read i) i (opening_at s.now i) (vint w8 (opening_at s.now i) ∷ []) b o (in-read i less) $ rewrite ! 0 (λ (ys : List ℕ). ‵ (row u8 full_share ys b o)) (step_is i less) refl $
         -- [the places; the token; the reader; the slice; …]
         assigns_last ! (bin ! (held ! 28 refl) (lit ! tt) (record { fits = omega (arith, few i less) })) (here !) (store ! 28 refl (tt, record { fits = omega (arith, few i less) })) $
         forget ! 8 refl $ forget ! 10 refl $ forget ! 12 refl $ forget ! 14 refl $ forget ! 16 refl $
@@ -253,7 +253,7 @@ module _ {M : Type 1} {𝓤 : Ura M} (𝓛 : Logic 𝓤) (at_mem : Memory → SP
         assigns ! (agg ! (and_then ! (held ! 34 refl) (and_then ! (held ! 32 refl) (no_more !)))) (here !) (init ! 41 refl ((LL.lawful Counts-t.the_type Counts-l.the_laws 𝓛).typed counted _ counted_is).0) $
         move ! (0 ∷ 4 ∷ 5 ∷ 6 ∷ []) $ closes_slice ! tt u8 xs (read m) (length-is m (omega arith)) b o $
         -- [what is known of the places; the borrow; its token; the token; the reader; the slice; room; _17 at 7; …]
-        move ! (4 ∷ []) $ use1 𝓛 (‵ (fat full_share (Reader-l.mir erased) l3 0 (Reader-l.lowered (reader s (openingPlace i))))) (cell 𝓛 κ (reader s (openingPlace i)) l3) $
+        move ! (4 ∷ []) $ use1 𝓛 (‵ (fat full_share (Reader-l.mir erased) l3 0 (Reader-l.lowered (reader s (opening_place i))))) (cell 𝓛 κ (reader s (opening_place i)) l3) $
         returns ! (look ! 40 refl) $ forget ! 0 refl $ forget ! 15 refl $ forget ! 27 refl $ forget ! 29 refl $ forget ! 31 refl $ forget ! 33 refl $ forget ! 36 refl $ forget ! 38 refl $ forget ! 40 refl $
         move ! (40 ∷ 41 ∷ []) $ free1 ! $ move ! (38 ∷ 39 ∷ []) $ free1 ! $ move ! (36 ∷ 37 ∷ []) $ free1 ! $ move ! (0 ∷ 35 ∷ []) $ free1 ! $
         -- [what is known of the places; the borrow; its token; the token; the slice; room; _17 at 6; …; _4 at 32]
@@ -294,7 +294,7 @@ module _ {M : Type 1} {𝓤 : Ura M} (𝓛 : Logic 𝓤) (at_mem : Memory → SP
     αᵉ = record { mir = erased; lft = κ }
 
     walk : ent 𝓤 (on_entry 𝓛 this.signature (κ, (κ', tt)) (q, (q', tt)) x at) (WpFn 𝓤 H 𝓣.C 𝓣.Λ code.function (v ∷ v' ∷ []) Post)
-    unfolding trucksOf roundsOf
+    unfolding trucks_of rounds_of
     walk =
         qed 𝓛 ((‵ (flft κ q) ⊛ ‵ (flft κ' q') ⊛ ‵ ftrue) ∷ ‵ (owns (ShrSlice (named 0) κ u8 ∷ MutSlice (named 1) κ' u8 ∷ []) x at) ∷ []) ∵ enter ! 𝓣.C 𝓣.Λ code.function (v ∷ v' ∷ []) _ $
         alloc1 ! (λ l0. alloc1 ! (λ l1. alloc1 ! (λ l2. alloc1 ! (λ l3. alloc1 ! (λ l4. alloc1 ! (λ l5. alloc1 ! (λ l6. alloc1 ! (λ l7. alloc1 ! (λ l8. alloc1 ! (λ l9. alloc1 ! (λ l10.
@@ -330,7 +330,7 @@ module _ {M : Type 1} {𝓤 : Ura M} (𝓛 : Logic 𝓤) (at_mem : Memory → SP
         split ! $ move ! (1 ∷ []) $ split ! $ move ! (2 ∷ []) $ peeks ! u32 (Is u32) (shows 𝓛 u32) w₂ (u₂ ∷ []) (λ is₂.
         land ! (here !) (store ! 25 refl ((uint_Lawful 𝓛 w32).typed w₂ _ is₂).0) $ drop ! $ forget ! 20 refl $
         rewrite ! 24 (λ (y : Val). ‵ (fat full_share (ty_int w32) l9 0 y)) (ap only is₂.0 ∙ ap (vint w32) e₂) refl $
-        assigns ! (un ! (held ! 24 refl) (record { fits = omega (arith, rounds-lt s.now) })) (here !) (init ! 32 refl (tt, record { fits = omega (arith, rounds-lt s.now) })) $ forget ! 24 refl $
+        assigns ! (un ! (held ! 24 refl) (record { fits = omega (arith, rounds_lt s.now) })) (here !) (init ! 32 refl (tt, record { fits = omega (arith, rounds_lt s.now) })) $ forget ! 24 refl $
         rewrite ! 1 (λ (p : ℕ). ‵ (part_at (R κ) full_share (reader s p) l3 0)) after-counts refl $
         -- how many openings are read
         assigns ! (of_opd ! (load ! (from ! (fld ! refl (stop !))) (look_in ! 37 (sub ! 1 refl (whole !))))) (here !) (init ! 18 refl (tt, record { fits = fits })) $
@@ -339,7 +339,7 @@ module _ {M : Type 1} {𝓤 : Ura M} (𝓛 : Logic 𝓤) (at_mem : Memory → SP
         split ! $ move ! (1 ∷ []) $ use1 𝓛 (raw (fact 𝓤 (c ≡ m))) (count-said c) $ heard ! (c ≡ m) (λ e₃. split ! $ drop ! $ peeks ! usize (Is usize) (shows 𝓛 usize) c (u₃ ∷ []) (λ is₃.
         land ! (here !) (init ! 31 refl ((uint_Lawful 𝓛 w64).typed c _ is₃).0) $ drop ! $ rewrite ! 30 (λ (y : Val). ‵ (fat full_share (ty_int w64) l6 0 y)) (ap only is₃.0 ∙ ap (vint w64) e₃) refl $ forget ! 18 refl $
         assigns ! (of_opd ! (lit ! tt)) (here !) (init ! 28 refl (tt, record { fits = lit< tt })) $
-        move ! (2 ∷ []) $ rewrite ! 0 (λ (ys : List ℕ). ‵ (row u8 full_share ys b o)) (sym (filled_none (openingAt s.now) xs)) refl $
+        move ! (2 ∷ []) $ rewrite ! 0 (λ (ys : List ℕ). ‵ (row u8 full_share ys b o)) (sym (filled_none (opening_at s.now) xs)) refl $
         looped 𝓣 known-take l0 l1 l2 l3 l4 l5 l6 l7 l8 l9 l10 l11 l12 l13 l14 l15 l16 l17)))))))))))))))))))))))))))))))))))))
 
 module _ {M : Type 1} {𝓤 : Ura M} (𝓛 : Logic 𝓤) (mem : Memory → SProp 𝓤) (run : Routine → Fun 𝓤) where

@@ -1,12 +1,12 @@
 -- `location_number` meets its contract.
 use mathlib.Core.Path.{ap, sym}
 use borrow.Author.Rules.{rules}
-use Rattle.refusals.specs.Locations.{locationNumber}
+use Rattle.refusals.specs.Locations.{location_number}
 use Rattle.refusals.proofs.location_number.Statement.{statement}
 use Rattle.refusals.proofs.location_number.Tie as tie
 
 returns-2 : tie.Need-returns-2
-returns-2 c = ap locationNumber (sym c.before.p.given.1)
+returns-2 c = ap location_number (sym c.before.p.given.1)
 
 returns : tie.Need-returns
 returns c = search rules

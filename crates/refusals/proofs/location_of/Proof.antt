@@ -4,8 +4,8 @@ use mathlib.Core.List.{List, [], ◌∷◌}
 use Prim.Native.Nat.{ℕ}
 use types.Run.{miss}
 use borrow.Author.Rules.{rules}
-use Rattle.refusals.specs.Locations.{locationOf}
-use Rattle.refusals.proofs.Locations.{unnamed-by}
+use Rattle.refusals.specs.Locations.{location_of}
+use Rattle.refusals.proofs.Locations.{unnamed_by}
 use Rattle.refusals.proofs.location_of.Statement.{statement}
 use Rattle.refusals.proofs.location_of.Tie as tie
 
@@ -14,10 +14,10 @@ abbrev others : List ℕ
 others = 0 ∷ 1 ∷ 2 ∷ 3 ∷ 4 ∷ 6 ∷ 7 ∷ 8 ∷ 9 ∷ 10 ∷ 11 ∷ 12 ∷ 13 ∷ 14 ∷ 15 ∷ []
 
 returns : tie.Need-returns
-returns c = unnamed-by c.before.args.r (λ round truck e. miss others 5 tt (rw e at c.match.keys2))
+returns c = unnamed_by c.before.args.r (λ round truck e. miss others 5 tt (rw e at c.match.keys2))
 
 returns-2 : tie.Need-returns-2
-returns-2 c = ap locationOf (sym c.before.r.given.1)
+returns-2 c = ap location_of (sym c.before.r.given.1)
 
 pub location-of-spec : {M : Type 1} → statement M
 location-of-spec = tie.close (tie.spec (λ c. search rules) returns returns-2)

@@ -1,6 +1,6 @@
 -- `line_of` meets its contract: its buffer has room for the line, so that it is never refused.
-use Rattle.listing.proofs.Laws.{refusal-fits}
-use Rattle.listing.proofs.Prints.{line-text, line_refused}
+use Rattle.listing.proofs.Laws.{refusal_fits}
+use Rattle.listing.proofs.Prints.{line_text, line_refused}
 use borrow.Author.Rules.{rules}
 use Rattle.replay.proofs.line_of.Statement.{statement}
 use Rattle.replay.proofs.line_of.Tie as tie
@@ -14,8 +14,8 @@ returns : tie.Need-returns
 returns c =
     let l = c.before.before.before.before.before.refusal-line in
     let r = c.before.before.before.before.before.before.before.before.args.r in (
-      rw l.auto.1.0 (refusal-fits r _ l.new.1.0 l.result _ l.ensures c.before.listed.given.1),
-      line-text r _ l.new.1.0 l.result l.ensures _ c.before.listed.given.1,
+      rw l.auto.1.0 (refusal_fits r _ l.new.1.0 l.result _ l.ensures c.before.listed.given.1),
+      line_text r _ l.new.1.0 l.result l.ensures _ c.before.listed.given.1,
     )
 
 returns-2 : tie.Need-returns-2

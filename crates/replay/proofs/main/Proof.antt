@@ -2,13 +2,13 @@
 use mathlib.Core.Path.{ap, sym}
 use native.Mathlib.Omega.{arith}
 use lib.Seq.{length-take-le}
-use Rattle.replay.specs.Input.{bytesRead}
+use Rattle.replay.specs.Input.{bytes_read}
 use borrow.Author.Rules.{rules}
 use Rattle.replay.proofs.main.Statement.{statement}
 use Rattle.replay.proofs.main.Tie as tie
 
 array-share-prefix-buf : tie.Need-array-share-prefix-buf
-array-share-prefix-buf c = omega (arith, ap bytesRead c.before.input.given.1, c.before.before.before.before.read-input.ensures)
+array-share-prefix-buf c = omega (arith, ap bytes_read c.before.input.given.1, c.before.before.before.before.read-input.ensures)
 
 slice-aggregate-replay : tie.Need-slice-aggregate-replay
 slice-aggregate-replay c = sym (length-take-le _ _ (array-share-prefix-buf c.before))

@@ -9,7 +9,7 @@ use lib.ListN.{length, get_or}
 use borrow.Author.Rules.{rules}
 use borrow.Author.Tests.{lt-ltb, le-ltb}
 use borrow.Author.Count.{below_none, below_more}
-use Rattle.basics.proofs.Laws.{some-hit, some_end}
+use Rattle.basics.proofs.Laws.{some_hit, some_end}
 use Rattle.roads.proofs.above_limit.Statement.{statement}
 use Rattle.roads.proofs.above_limit.Tie as tie
 
@@ -30,7 +30,7 @@ returns : tie.Need-returns invariant-loop decreases-loop
 returns c =
     let s = c.before.before.before.before.args.seconds.now in
     let k = c.before.before.before.loop.k in
-    some-hit (above s) (length s) k c.before.before.loop-test.true (lt-ltb 3600 (get_or s k 0) c.if1.true)
+    some_hit (above s) (length s) k c.before.before.loop-test.true (lt-ltb 3600 (get_or s k 0) c.if1.true)
 
 loop-again : tie.Need-loop-preserved invariant-loop decreases-loop
 loop-again c = (search rules, below_more _ _ c.before.before.before.loop.invariant.1 (le-ltb 3600 _ c.if1.false))

@@ -1,10 +1,10 @@
 -- `estimate_of` meets its contract, for every leg.
-use Rattle.roads.proofs.Estimates.{estimate-length-0, estimate-idle, estimate-seconds}
+use Rattle.roads.proofs.Estimates.{estimate-length_0, estimate-idle, estimate-seconds}
 use Rattle.roads.proofs.estimate_of.Statement.{statement}
 use Rattle.roads.proofs.estimate_of.Tie as tie
 
 returns : tie.Need-returns
-returns c = estimate-length-0 c.before.before.args.leg c.if1.true
+returns c = estimate-length_0 c.before.before.args.leg c.if1.true
 
 returns-2 : tie.Need-returns-2
 returns-2 c = estimate-idle c.before.before.before.before.args.leg c.before.before.if1.false c.if2.true

@@ -8,7 +8,7 @@ use lib.Dec.{ltb, eqb}
 use lib.ListN.{length, get_or}
 use borrow.Author.Rules.{rules}
 use borrow.Author.Count.{below_none, below_more}
-use Rattle.basics.proofs.Laws.{some-hit, some_end}
+use Rattle.basics.proofs.Laws.{some_hit, some_end}
 use Rattle.roads.proofs.without_time.Statement.{statement}
 use Rattle.roads.proofs.without_time.Tie as tie
 
@@ -30,7 +30,7 @@ returns c =
     let at-start = c.before.before.before.before.before in
     let s = at-start.args.seconds.now in
     let k = c.before.before.before.before.loop.k in
-    some-hit (timeless at-start.args.metres.now s) (length s) k c.before.before.before.loop-test.true c.if1.true
+    some_hit (timeless at-start.args.metres.now s) (length s) k c.before.before.before.loop-test.true c.if1.true
 
 loop-again : tie.Need-loop-preserved invariant-loop decreases-loop
 loop-again c = (search rules, below_more _ _ c.before.before.before.before.loop.invariant.1 c.if1.false)

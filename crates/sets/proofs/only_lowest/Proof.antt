@@ -11,8 +11,8 @@ use lib.Dec.{eqb}
 use lib.Pow.{pow-lt}
 use Rattle.basics.specs.Bits.{bit}
 use Rattle.basics.proofs.Bits.{bit-xor, one_of}
-use Rattle.sets.specs.Sets.{rest_of, lowestOnly}
-use Rattle.sets.proofs.Words.{same_bits, positive, trailing-bit}
+use Rattle.sets.specs.Sets.{rest_of, lowest_only}
+use Rattle.sets.proofs.Words.{same_bits, positive, trailing_bit}
 use Rattle.sets.proofs.only_lowest.Statement.{statement}
 use Rattle.sets.proofs.only_lowest.Tie as tie
 
@@ -28,7 +28,7 @@ xor-twice k a b la lb =
     (λ j l. bit-xor a (bit_xor a b) j ∙ ap (one_of (bit a j)) (bit-xor a b j) ∙ twice (bit a j) (bit b j))
 
 returns : tie.Need-returns
-unfolding rest_of lowestOnly
+unfolding rest_of lowest_only
 returns c = rw c.rest.ensures (go (ℕ_discrete c.before.args.set 0))
   where
     x : ℕ
@@ -37,7 +37,7 @@ returns c = rw c.rest.ensures (go (ℕ_discrete c.before.args.set 0))
     go : Dec (x ≡ 0) → bit_xor x (cond (eqb x 0) 0 (bit_xor x (2 ^ count_trailing_zeros 32 x))) ≡ cond (eqb x 0) 0 (2 ^ count_trailing_zeros 32 x)
     go (yes e) = rw (eq-eqb x 0 e) (ap (λ (y : ℕ). bit_xor y 0) e ∙ xor_zero_r 0)
     go (no h) =
-        rw (ne_eqb x 0 h) (xor-twice 32 x (2 ^ count_trailing_zeros 32 x) c.before.ranges.set.fits (pow-lt (trailing-bit 32 x (positive x h) c.before.ranges.set.fits).0))
+        rw (ne_eqb x 0 h) (xor-twice 32 x (2 ^ count_trailing_zeros 32 x) c.before.ranges.set.fits (pow-lt (trailing_bit 32 x (positive x h) c.before.ranges.set.fits).0))
 
 pub only-lowest-spec : {M : Type 1} → statement M
 only-lowest-spec = tie.close (tie.spec (λ c κs. search rules) returns)

@@ -52,7 +52,7 @@ use Rattle.truck.specs.contracts.update.Key.{name as #this}
 use Rattle.truck.specs.contracts.update as this
 use Rattle.truck.proofs.update.Statement as stated
 use Rattle.truck.proofs.update.Code as code
-use Rattle.truck.proofs.Values.{truckVal, eventVal, owns-truck, owns-event, owns-round, peeks-truck, spelt-truck}
+use Rattle.truck.proofs.Values.{truck_val, event_val, owns_truck, owns_event, owns_round, peeks_truck, spelt_truck}
 
 abbrev stayed : Stays (this.ended).signature.params (this.ended).kept
 stayed = (stay_ref (0 ∷ []) tt (plain (λ _. Truck-t.the_row)), (stay_none (λ _. u16) yes, (stay_none (λ _. Event-t.the_row) yes, tt)))
@@ -61,23 +61,23 @@ stayed = (stay_ref (0 ∷ []) tt (plain (λ _. Truck-t.the_row)), (stay_none (λ
 abbrev Callee : {M : Type 1} {𝓤 : Ura M} (𝓛 : Logic 𝓤) (mem : Memory → SProp 𝓤) (run : Routine → Fun 𝓤) → Contract 𝓤
 Callee 𝓛 mem run = triple_of 𝓛 callee.signature (callee.spec 𝓛 mem run)
 
-module _ {M : Type 1} {𝓤 : Ura M} (𝓛 : Logic 𝓤) (at_mem : Memory → SProp 𝓤) (run : Routine → Fun 𝓤) (κ : Lft) (q : Share) (b o : ℕ) (γ : GName) (h : Truck) (k : ℕ) (e : Event) (k-is : Is u16 k (vint w16 k ∷ [])) (e-is : Is Event-t.the_row e (eventVal e ∷ [])) where
+module _ {M : Type 1} {𝓤 : Ura M} (𝓛 : Logic 𝓤) (at_mem : Memory → SProp 𝓤) (run : Routine → Fun 𝓤) (κ : Lft) (q : Share) (b o : ℕ) (γ : GName) (h : Truck) (k : ℕ) (e : Event) (k-is : Is u16 k (vint w16 k ∷ [])) (e-is : Is Event-t.the_row e (event_val e ∷ [])) where
   open 𝓛 use {H, A}
 
   abbrev x : MutBor Truck × (ℕ × (Event × Unit {0}))
   x = (record { ref_ptr = (b, o); ghost_name = γ; now = h }, (k, (e, tt)))
 
   abbrev at : List Val × (List Val × (List Val × Unit {0}))
-  at = (vptr b o ∷ [], (vint w16 k ∷ [], (eventVal e ∷ [], tt)))
+  at = (vptr b o ∷ [], (vint w16 k ∷ [], (event_val e ∷ [], tt)))
 
   abbrev Post : Val → SProp 𝓤
   Post = (walk_of 𝓛 this.ended stayed (this.clauses 𝓛 at_mem run)).post (((κ, tt), (q, tt), tt, x, at), tt)
 
   abbrev to : (Callee 𝓛 at_mem run).Ghost
-  to = ((tt, tt, tt, (h, (k, (e, tt))), (truckVal h ∷ [], (vint w16 k ∷ [], (eventVal e ∷ [], tt)))), tt)
+  to = ((tt, tt, tt, (h, (k, (e, tt))), (truck_val h ∷ [], (vint w16 k ∷ [], (event_val e ∷ [], tt)))), tt)
 
-  goes : Is Truck-t.the_row h (truckVal h ∷ []) → ent 𝓤 (emp 𝓤) ((Callee 𝓛 at_mem run).pre to)
-  goes g = qed 𝓛 [] ∵ nothing ! $ owns-event ! e e-is $ fjoin ! $ owns-round ! k k-is $ fjoin ! $ owns-truck ! h g $ fjoin ! $ nothing ! $ join ! $ frame ! $ done !
+  goes : Is Truck-t.the_row h (truck_val h ∷ []) → ent 𝓤 (emp 𝓤) ((Callee 𝓛 at_mem run).pre to)
+  goes g = qed 𝓛 [] ∵ nothing ! $ owns_event ! e e-is $ fjoin ! $ owns_round ! k k-is $ fjoin ! $ owns_truck ! h g $ fjoin ! $ nothing ! $ join ! $ frame ! $ done !
 
   said : (r : Truck) → ent 𝓤 (ensured 𝓛 callee.ended (callee.clauses 𝓛 at_mem run) tt (h, (k, (e, tt))) tt r) (fact 𝓤 (r ≡ turned k e h))
   said r = ex_e 𝓤 _ (λ ws. snd∗ 𝓤 (sem 𝓛 (lasts callee.ended tt (h, (k, (e, tt))) ws)) (fact 𝓤 (r ≡ turned k e h)))
@@ -86,22 +86,22 @@ module _ {M : Type 1} {𝓤 : Ura M} (𝓛 : Logic 𝓤) (at_mem : Memory → SP
   exits r p =
       qed 𝓛 (‵ (fobs γ ((Truck-t.the_row).coded.code r)) ∷ ‵ (fbor κ (Body (mem Truck-t.the_row) b o γ)) ∷ ‵ (flft κ q) ∷ []) ∵
       suffices ! _ (ends_at 𝓛 this.ended stayed (this.clauses 𝓛 at_mem run) (((κ, tt), (q, tt), tt, x, at), tt) vunit tt (r, (tt, (tt, tt))) (tt, (tt, (tt, tt)))) $ says ! p $ nothing ! $ move ! (3 ∷ 0 ∷ []) $ join ! $
-      frame ! $ feq_i ! (List Val) (vptr b o ∷ []) (vptr b o ∷ []) refl $ fjoin3 ! $ nothing ! $ owns-event ! e e-is $ fjoin ! $ owns-round ! k k-is $ fjoin ! $ move ! (1 ∷ 0 ∷ []) $ fjoin ! $ feq_i ! (List Val) (vunit ∷ []) (vunit ∷ []) refl $ move ! (1 ∷ 0 ∷ []) $ done !
+      frame ! $ feq_i ! (List Val) (vptr b o ∷ []) (vptr b o ∷ []) refl $ fjoin3 ! $ nothing ! $ owns_event ! e e-is $ fjoin ! $ owns_round ! k k-is $ fjoin ! $ move ! (1 ∷ 0 ∷ []) $ fjoin ! $ feq_i ! (List Val) (vunit ∷ []) (vunit ∷ []) refl $ move ! (1 ∷ 0 ∷ []) $ done !
 
   module _ (C : Calls 𝓤 H) (Λ : Loops 𝓤 H) (fm : FmC 𝓤 H 𝓛.laws C) (known : Triple 𝓤 (C #callee) (Callee 𝓛 at_mem run)) where
-    walk : ent 𝓤 (on_entry 𝓛 this.signature (κ, tt) (q, tt) x at) (WpFn 𝓤 H C Λ code.function (vptr b o ∷ vint w16 k ∷ eventVal e ∷ []) Post)
+    walk : ent 𝓤 (on_entry 𝓛 this.signature (κ, tt) (q, tt) x at) (WpFn 𝓤 H C Λ code.function (vptr b o ∷ vint w16 k ∷ event_val e ∷ []) Post)
     walk =
-        qed 𝓛 ((‵ (flft κ q) ⊛ ‵ ftrue) ∷ ‵ (owns (MutRef (named 0) κ Truck-t.the_row ∷ u16 ∷ Event-t.the_row ∷ []) x at) ∷ []) ∵ enter ! C Λ code.function (vptr b o ∷ vint w16 k ∷ eventVal e ∷ []) _ $
+        qed 𝓛 ((‵ (flft κ q) ⊛ ‵ ftrue) ∷ ‵ (owns (MutRef (named 0) κ Truck-t.the_row ∷ u16 ∷ Event-t.the_row ∷ []) x at) ∷ []) ∵ enter ! C Λ code.function (vptr b o ∷ vint w16 k ∷ event_val e ∷ []) _ $
         alloc1 ! (λ l0. alloc1 ! (λ l1. alloc1 ! (λ l2. alloc1 ! (λ l3. alloc1 ! (λ l4. alloc1 ! (λ l5. alloc0 ! $ params1 ! $
         pass1 ! (init ! 8 refl (tt, tt)) $ pass1 ! (init ! 6 refl (tt, record { fits = k-is.1 })) $ pass1 ! (init ! 4 refl ((EL.lawful Event-t.the_type Event-l.the_laws 𝓛 tt).typed e _ e-is).0) $ pass0 ! $
         move ! (13 ∷ []) $ fsplit ! $ fsplit3 ! $ drop ! $ move ! (15 ∷ []) $ split ! $ move ! (2 ∷ 3 ∷ 0 ∷ []) $
-        opens ! tt Truck-t.the_row {h = h} b o (λ vs. spelt-truck ! full_share h vs b o $ move ! (1 ∷ []) $ peeks-truck ! h (truckVal h ∷ []) (λ g. move ! (1 ∷ 0 ∷ []) $
+        opens ! tt Truck-t.the_row {h = h} b o (λ vs. spelt_truck ! full_share h vs b o $ move ! (1 ∷ []) $ peeks_truck ! h (truck_val h ∷ []) (λ g. move ! (1 ∷ 0 ∷ []) $
         -- [the cell; what h owns; the open borrow; obs; auth; true; the others' own; the locals from 7 on, the last first]
         assigns ! (of_opd ! (load ! (from ! (hop ! (look ! 15 refl) (stop !))) (look_raw ! 0 refl))) (from ! (stop !)) (init ! 7 refl ((LL.lawful Truck-t.the_type Truck-l.the_laws 𝓛).typed h _ g).0) $
         use0 𝓛 (raw ((Callee 𝓛 at_mem run).pre to)) (goes g) $
         calls_at ! fm (Callee 𝓛 at_mem run) known to (and_then ! (load ! (from ! (stop !)) (look ! 8 refl)) (and_then ! (load ! (from ! (stop !)) (look ! 14 refl)) (and_then ! (load ! (from ! (stop !)) (look ! 12 refl)) (no_more !)))) (λ v.
         use1 𝓛 (later (some (λ (r : Truck). (‵ ftrue ⊛ ‵ ((Truck-t.the_row).own_val r (v ∷ []))) ⊛ raw (ensured 𝓛 callee.ended (callee.clauses 𝓛 at_mem run) tt (h, (k, (e, tt))) tt r)))) (id⊢ 𝓤 _) $ await ! tt $ pick ! (λ r.
-        split ! $ move ! (1 ∷ []) $ use1 𝓛 (raw (fact 𝓤 (r ≡ turned k e h))) (said r) $ heard ! (r ≡ turned k e h) (λ p. split ! $ drop ! $ peeks-truck ! r (v ∷ []) (λ is.
+        split ! $ move ! (1 ∷ []) $ use1 𝓛 (raw (fact 𝓤 (r ≡ turned k e h))) (said r) $ heard ! (r ≡ turned k e h) (λ p. split ! $ drop ! $ peeks_truck ! r (v ∷ []) (λ is.
         -- [what r owns; the cell; what h owns; the open borrow; obs; auth; true; the others' own; the locals from 8 on]
         land ! (from ! (stop !)) (init ! 10 refl ((LL.lawful Truck-t.the_type Truck-l.the_laws 𝓛).typed r _ is).0) $
         assigns ! (of_opd ! (load ! (from ! (stop !)) (look ! 10 refl))) (from ! (hop ! (look ! 16 refl) (stop !))) (store_raw ! 1 refl ((LL.lawful Truck-t.the_type Truck-l.the_laws 𝓛).typed r _ is).0) $

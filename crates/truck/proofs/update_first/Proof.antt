@@ -64,14 +64,14 @@ use denote.Triple.Walked.{says, Stays, stay_none, walk_of, AllGo, Goes-none, Wal
 use denote.Exit.{yes}
 use Rattle.basics.specs.Lists.{filled}
 use Rattle.basics.proofs.Locals.{here, held}
-use Rattle.basics.proofs.Laws.{filled_none, length-filled, getD-filled-past, fill_step}
+use Rattle.basics.proofs.Laws.{filled_none, length-filled, get_or-filled_past, fill_step}
 use Rattle.protocol.specs.Rules.{opened, truck}
 use Rattle.protocol.specs.declared.Fleet.{Fleet}
 use Rattle.protocol.specs.declared.Truck.{Truck}
 use Rattle.protocol.specs.contracts.Fleet as Fleet-t
 use Rattle.protocol.proofs.Fleet.TheLaws as Fleet-l
 use Rattle.protocol.specs.contracts.Truck as Truck-t
-use Rattle.truck.specs.Events.{turned, updatedFirst}
+use Rattle.truck.specs.Events.{turned, updated_first}
 use Rattle.truck.specs.declared.Event.{Event}
 use Rattle.truck.specs.declared.Event.TheVariants.{Stop}
 use Rattle.truck.specs.contracts.Event as Event-t
@@ -85,7 +85,7 @@ use Rattle.truck.specs.contracts.update_first as this
 use Rattle.truck.proofs.update_first.Statement as stated
 use Rattle.truck.proofs.update_first.Code as code
 use Rattle.truck.proofs.update_first.Code.Mir as body
-use Rattle.truck.proofs.Values.{eventVal, fleetVal, Events, eventsVal, owns-event, owns-fleet, owns-events, owns-round}
+use Rattle.truck.proofs.Values.{event_val, fleet_val, Events, events_val, owns_event, owns_fleet, owns_events, owns_round}
 
 abbrev stayed : Stays (this.ended).signature.params (this.ended).kept
 stayed = (stay_none (λ _. Fleet-t.the_row) yes, (stay_none (λ _. usize) yes, (stay_none (λ _. u16) yes, (stay_none (λ _. Events) yes, tt))))
@@ -95,14 +95,14 @@ abbrev Callee : {M : Type 1} {𝓤 : Ura M} (𝓛 : Logic 𝓤) (mem : Memory �
 Callee 𝓛 mem run = triple_of 𝓛 callee.signature (callee.spec 𝓛 mem run)
 
 module _ {M : Type 1} {𝓤 : Ura M} (𝓛 : Logic 𝓤) (at_mem : Memory → SProp 𝓤) (run : Routine → Fun 𝓤) (f : Fleet) (n k : ℕ) (es : List Event)
-    (f-is : Is Fleet-t.the_row f (fleetVal f ∷ [])) (n-is : Is usize n (vint w64 n ∷ [])) (k-is : Is u16 k (vint w16 k ∷ [])) (es-is : Is Events es (eventsVal es ∷ [])) where
+    (f-is : Is Fleet-t.the_row f (fleet_val f ∷ [])) (n-is : Is usize n (vint w64 n ∷ [])) (k-is : Is u16 k (vint w16 k ∷ [])) (es-is : Is Events es (events_val es ∷ [])) where
   open 𝓛 use {H, A}
 
   abbrev x : Fleet × (ℕ × (ℕ × (List Event × Unit {0})))
   x = (f, (n, (k, (es, tt))))
 
   abbrev at : List Val × (List Val × (List Val × (List Val × Unit {0})))
-  at = (fleetVal f ∷ [], (vint w64 n ∷ [], (vint w16 k ∷ [], (eventsVal es ∷ [], tt))))
+  at = (fleet_val f ∷ [], (vint w64 n ∷ [], (vint w16 k ∷ [], (events_val es ∷ [], tt))))
 
   abbrev Post : Val → SProp 𝓤
   Post = (walk_of 𝓛 this.ended stayed (this.clauses 𝓛 at_mem run)).post ((tt, tt, tt, x, at), tt)
@@ -112,7 +112,7 @@ module _ {M : Type 1} {𝓤 : Ura M} (𝓛 : Logic 𝓤) (at_mem : Memory → SP
   m = min n 32
 
   abbrev f' : Fleet
-  f' = updatedFirst f m k es
+  f' = updated_first f m k es
 
   -- what the round is to truck i, and what it makes of it; the trucks after i turns, and truck i as turn i finds it
   abbrev e : ℕ → Event
@@ -146,11 +146,11 @@ module _ {M : Type 1} {𝓤 : Ura M} (𝓛 : Logic 𝓤) (at_mem : Memory → SP
       cut-records 𝓛 full_share Fleet-t.the_row Truck-t.the_type 32 4 f f' f.trucks f'.trucks (l, 0)
       (put_at 𝓛 full_share Fleet-t.the_type Fleet-l.the_laws 2 4 refl refl (l, 0) f f' ((Fleet-t.struct).as_values f) f'.trucks refl refl)
 
-  exits : ent 𝓤 (sem 𝓛 ((Fleet-t.the_row).own_val f' (fleetVal f' ∷ []))) (Post (fleetVal f'))
+  exits : ent 𝓤 (sem 𝓛 ((Fleet-t.the_row).own_val f' (fleet_val f' ∷ []))) (Post (fleet_val f'))
   exits =
-      qed 𝓛 (‵ ((Fleet-t.the_row).own_val f' (fleetVal f' ∷ [])) ∷ []) ∵
-      suffices ! _ (ends_at 𝓛 this.ended stayed (this.clauses 𝓛 at_mem run) ((tt, tt, tt, x, at), tt) (fleetVal f') f' (tt, (tt, (tt, (tt, tt)))) (tt, (tt, (tt, (tt, tt))))) $ says ! refl $
-      nothing ! $ owns-events ! es es-is $ fjoin ! $ owns-round ! k k-is $ fjoin ! $ owned ! usize (Is usize) (uint_Makes 𝓛 w64) n _ n-is $ fjoin ! $ owns-fleet ! f f-is $ fjoin ! $ nothing ! $ done !
+      qed 𝓛 (‵ ((Fleet-t.the_row).own_val f' (fleet_val f' ∷ [])) ∷ []) ∵
+      suffices ! _ (ends_at 𝓛 this.ended stayed (this.clauses 𝓛 at_mem run) ((tt, tt, tt, x, at), tt) (fleet_val f') f' (tt, (tt, (tt, (tt, tt)))) (tt, (tt, (tt, (tt, tt))))) $ says ! refl $
+      nothing ! $ owns_events ! es es-is $ fjoin ! $ owns_round ! k k-is $ fjoin ! $ owned ! usize (Is usize) (uint_Makes 𝓛 w64) n _ n-is $ fjoin ! $ owns_fleet ! f f-is $ fjoin ! $ nothing ! $ done !
 
   -- where truck i lies in the fleet; its reference, under the name δ, and what `update`'s triple binds outside
   abbrev off : ℕ → ℕ
@@ -163,15 +163,15 @@ module _ {M : Type 1} {𝓤 : Ura M} (𝓛 : Logic 𝓤) (at_mem : Memory → SP
   passed i l δ = (ref i l δ, (k, (e i, tt)))
 
   abbrev to : ℕ → ℕ → ℕ → GName → (Callee 𝓛 at_mem run).Ghost
-  to i ν l δ = (((ν ∷ [], tt), (full_share, tt), tt, passed i l δ, (vptr l (off i) ∷ [], (vint w16 k ∷ [], (eventVal (e i) ∷ [], tt)))), tt)
+  to i ν l δ = (((ν ∷ [], tt), (full_share, tt), tt, passed i l δ, (vptr l (off i) ∷ [], (vint w16 k ∷ [], (event_val (e i) ∷ [], tt)))), tt)
 
   abbrev Ref : ℕ → ℕ → ℕ → GName → Fml
   Ref i ν l δ = (MutRef (named 0) (ν ∷ []) Truck-t.the_row).own_val (ref i l δ) (vptr l (off i) ∷ [])
 
-  goes : (i : ℕ) → Is Event-t.the_row (e i) (eventVal (e i) ∷ []) → (ν l : ℕ) (δ : GName) → ent 𝓤 (sep 𝓤 (A.lft (ν ∷ []) full_share) (sem 𝓛 (Ref i ν l δ))) ((Callee 𝓛 at_mem run).pre (to i ν l δ))
+  goes : (i : ℕ) → Is Event-t.the_row (e i) (event_val (e i) ∷ []) → (ν l : ℕ) (δ : GName) → ent 𝓤 (sep 𝓤 (A.lft (ν ∷ []) full_share) (sem 𝓛 (Ref i ν l δ))) ((Callee 𝓛 at_mem run).pre (to i ν l δ))
   goes i e-is ν l δ =
       qed 𝓛 (‵ (flft (ν ∷ []) full_share) ∷ ‵ (Ref i ν l δ) ∷ []) ∵
-      nothing ! $ owns-event ! (e i) e-is $ fjoin ! $ owns-round ! k k-is $ fjoin ! $ move ! (2 ∷ 0 ∷ []) $ fjoin ! $ nothing ! $ move ! (2 ∷ 0 ∷ []) $ join ! $ join ! $ frame ! $ done !
+      nothing ! $ owns_event ! (e i) e-is $ fjoin ! $ owns_round ! k k-is $ fjoin ! $ move ! (2 ∷ 0 ∷ []) $ fjoin ! $ nothing ! $ move ! (2 ∷ 0 ∷ []) $ join ! $ join ! $ frame ! $ done !
 
   -- the loop's variant
   abbrev Upto : Type 0
@@ -188,14 +188,14 @@ module _ {M : Type 1} {𝓤 : Ura M} (𝓛 : Logic 𝓤) (at_mem : Memory → SP
     length-is : (i : ℕ) → i ≤ m → length (now i) ≡ 32
     length-is i le = length-filled g i f.trucks (omega (arith, len)) ∙ len
 
-    in-trucks : (i : ℕ) → i < m → i < length (now i)
-    in-trucks i less = omega (arith, length-is i (omega arith))
+    in_trucks : (i : ℕ) → i < m → i < length (now i)
+    in_trucks i less = omega (arith, length-is i (omega arith))
 
     in-events : (i : ℕ) → i < m → i < length es
     in-events i less = omega (arith, len')
 
     step_is : (i : ℕ) → i < m → (r : Truck) → r ≡ turned k (e i) (t i) → set (now i) i r ≡ now (i + 1)
-    step_is i less r p = fill_step g f.trucks (now i) i refl r (omega (arith, len)) (p ∙ ap (turned k (e i)) (getD-filled-past g i f.trucks i (opened 0) (omega arith)))
+    step_is i less r p = fill_step g f.trucks (now i) i refl r (omega (arith, len)) (p ∙ ap (turned k (e i)) (get_or-filled_past g i f.trucks i (opened 0) (omega arith)))
 
     module _ (𝓣 : Tables 𝓤 H) (known : Triple 𝓤 (𝓣.C #callee) (Callee 𝓛 at_mem run)) (l0 l1 l2 l3 l4 l5 l6 l7 l8 l9 l10 l11 l12 l13 l14 l15 l16 l17 l18 l19 l20 : ℕ) where
       abbrev C : Calls 𝓤 H
@@ -228,9 +228,9 @@ module _ {M : Type 1} {𝓤 : Ura M} (𝓛 : Logic 𝓤) (at_mem : Memory → SP
           ‵ (froom ty_ptr l15 0) ∷ ‵ (fdies ty_ptr l15) ∷ ‵ (froom ty_ptr l14 0) ∷ ‵ (fdies ty_ptr l14) ∷ ‵ (froom (ty_int w64) l13 0) ∷ ‵ (fdies (ty_int w64) l13) ∷
           ‵ (froom ty_unit l12 0) ∷ ‵ (fdies ty_unit l12) ∷ ‵ (froom ty_bool l11 0) ∷ ‵ (fdies ty_bool l11) ∷ c10 ∷ ‵ (fdies (ty_int w64) l10) ∷
           ‵ (fat full_share ty_bool l9 0 (vbool (ltb n 32))) ∷ ‵ (fdies ty_bool l9) ∷ c8 ∷ ‵ (fdies (ty_int w64) l8) ∷ c7 ∷ ‵ (fdies (ty_int w64) l7) ∷
-          ‵ (fdies (ty_array Event-l.mir 32) l6) ∷ ‵ (fdies Fleet-l.mir l5) ∷ ‵ (fat full_share (ty_array Event-l.mir 32) l4 0 (eventsVal es)) ∷
+          ‵ (fdies (ty_array Event-l.mir 32) l6) ∷ ‵ (fdies Fleet-l.mir l5) ∷ ‵ (fat full_share (ty_array Event-l.mir 32) l4 0 (events_val es)) ∷
           ‵ (fdies (ty_array Event-l.mir 32) l4) ∷ ‵ (fat full_share (ty_int w16) l3 0 (vint w16 k)) ∷ ‵ (fdies (ty_int w16) l3) ∷
-          ‵ (fat full_share (ty_int w64) l2 0 (vint w64 n)) ∷ ‵ (fdies (ty_int w64) l2) ∷ ‵ (fat full_share Fleet-l.mir l1 0 (fleetVal f)) ∷
+          ‵ (fat full_share (ty_int w64) l2 0 (vint w64 n)) ∷ ‵ (fdies (ty_int w64) l2) ∷ ‵ (fat full_share Fleet-l.mir l1 0 (fleet_val f)) ∷
           ‵ (fdies Fleet-l.mir l1) ∷ ‵ (froom Fleet-l.mir l0 0) ∷ ‵ (fdies Fleet-l.mir l0) ∷ []
 
       abbrev At : Upto → List (Item 𝓤)
@@ -256,13 +256,13 @@ module _ {M : Type 1} {𝓤 : Ura M} (𝓛 : Logic 𝓤) (at_mem : Memory → SP
           assigns ! (bin ! (held ! 7 refl) (held ! 9 refl) tt) (here !) (init ! 5 refl (tt, tt)) $
           move ! (2 ∷ []) $
           elem_out ! Event-t.the_row (Is Event-t.the_row) (shows 𝓛 Event-t.the_row) (EL.vals Event-t.the_type Event-l.the_laws) (EL.tells Event-t.the_type Event-l.the_laws) full_share es i Stop l6 0 (in-events i less) (λ e-is.
-          rewrite ! 0 (λ (o : ℕ). ‵ (cell_at full_share (Event-t.the_row).mir (eventVal (e i) ∷ []) l6 o)) (place_is 5 0 i) refl $
+          rewrite ! 0 (λ (o : ℕ). ‵ (cell_at full_share (Event-t.the_row).mir (event_val (e i) ∷ []) l6 o)) (place_is 5 0 i) refl $
           assigns ! (of_opd ! (load ! (from ! (hop ! (look ! 7 refl) (stop !))) (look_raw ! 0 refl))) (here !) (init ! 5 refl ((EL.lawful Event-t.the_type Event-l.the_laws 𝓛 tt).typed (e i) _ e-is).0) $
-          rewrite ! 0 (λ (o : ℕ). ‵ (cell_at full_share (Event-t.the_row).mir (eventVal (e i) ∷ []) l6 o)) (sym (place_is 5 0 i)) refl $
-          elem_back ! Event-t.the_row full_share es i Stop (eventVal (e i) ∷ []) l6 0 (in-events i less) $
+          rewrite ! 0 (λ (o : ℕ). ‵ (cell_at full_share (Event-t.the_row).mir (event_val (e i) ∷ []) l6 o)) (sym (place_is 5 0 i)) refl $
+          elem_back ! Event-t.the_row full_share es i Stop (event_val (e i) ∷ []) l6 0 (in-events i less) $
           -- truck i, out of the row of trucks, and lent for a lifetime ν of the call
           move ! (1 ∷ []) $ use1 𝓛 (‵ (part_at Truck-t.the_row full_share (t i) l5 (place 12 4 i)) ⊛ ‵ (others (shares Truck-t.the_row) full_share (now i) i l5 4))
-          (takes (shares Truck-t.the_row) full_share 𝓛 (now i) i (opened 0) l5 4 (in-trucks i less)) $ split ! $
+          (takes (shares Truck-t.the_row) full_share 𝓛 (now i) i (opened 0) l5 4 (in_trucks i less)) $ split ! $
           rewrite ! 0 (λ (o : ℕ). ‵ (part_at Truck-t.the_row full_share (t i) l5 o)) (place_is 12 4 i) refl $
           lft_new ! tt (λ ν. move ! (1 ∷ []) $ use1 𝓛 (later (some (λ (δ : GName). ‵ (Ref i ν l5 δ) ⊛ ‵ (flent (ν ∷ []) (Body (mem Truck-t.the_row) l5 (off i) δ)))))
           (lends_ref 𝓛 Truck-t.the_row (named 0) (ν ∷ []) (t i) l5 (off i)) $ await ! tt $ pick ! (λ δ. split ! $
@@ -280,7 +280,7 @@ module _ {M : Type 1} {𝓤 : Ura M} (𝓛 : Logic 𝓤) (at_mem : Memory → SP
           move ! (1 ∷ []) $ lft_end ! tt $ move ! (0 ∷ 5 ∷ 3 ∷ []) $
           use3 𝓛 (later (‵ (part_at Truck-t.the_row full_share ws.0 l5 (off i)))) (ref_back 𝓛 Truck-t.the_row (ν ∷ []) δ ws.0 l5 (off i)) $ await ! tt $
           rewrite ! 0 (λ (o : ℕ). ‵ (part_at Truck-t.the_row full_share ws.0 l5 o)) (sym (place_is 12 4 i)) refl $
-          move ! (0 ∷ 4 ∷ []) $ use2 𝓛 (TruckRow (set (now i) i ws.0) l5) (puts (shares Truck-t.the_row) full_share 𝓛 (now i) i ws.0 l5 4 (in-trucks i less)) $
+          move ! (0 ∷ 4 ∷ []) $ use2 𝓛 (TruckRow (set (now i) i ws.0) l5) (puts (shares Truck-t.the_row) full_share 𝓛 (now i) i ws.0 l5 4 (in_trucks i less)) $
           rewrite ! 0 (λ (ys : List Truck). TruckRow ys l5) (step_is i less ws.0 p) refl $
           -- [the trucks; the result; true; true; the events; the way back; _20 at 6; …]
           assigns_last ! (bin ! (held ! 30 refl) (lit ! tt) (record { fits = omega arith })) (here !) (store ! 30 refl (tt, record { fits = omega arith })) $
@@ -298,15 +298,15 @@ module _ {M : Type 1} {𝓤 : Ura M} (𝓛 : Logic 𝓤) (at_mem : Memory → SP
           feq_i ! ℕ (length (now m)) 32 (length-is m (omega arith)) $ fjoin ! $ use1 𝓛 (‵ (part_at (Array Truck-t.the_row 32) full_share (now m) l5 4)) (Array-whole 𝓛 Truck-t.the_row full_share 32 (now m) l5 4) $
           use2 𝓛 (‵ (part_at Fleet-t.the_row full_share f' l5 0)) (apply∗ 𝓤 (Arr f'.trucks l5) (sem 𝓛 (part_at Fleet-t.the_row full_share f' l5 0))) $
           fpick ! (λ vs. fsplit ! $ spelt ! Fleet-t.the_row (Is Fleet-t.the_row) (shows 𝓛 Fleet-t.the_row) (LL.vals Fleet-t.the_type Fleet-l.the_laws) (LL.tells Fleet-t.the_type Fleet-l.the_laws) full_share f' vs l5 0 $
-          use1 𝓛 (‵ (fat full_share Fleet-l.mir l5 0 (fleetVal f'))) (𝓛.laws.raw_at full_share Fleet-l.mir l5 0 (fleetVal f')) $
-          move ! (1 ∷ []) $ peeks ! Fleet-t.the_row (Is Fleet-t.the_row) (shows 𝓛 Fleet-t.the_row) f' (fleetVal f' ∷ []) (λ f'-is.
+          use1 𝓛 (‵ (fat full_share Fleet-l.mir l5 0 (fleet_val f'))) (𝓛.laws.raw_at full_share Fleet-l.mir l5 0 (fleet_val f')) $
+          move ! (1 ∷ []) $ peeks ! Fleet-t.the_row (Is Fleet-t.the_row) (shows 𝓛 Fleet-t.the_row) f' (fleet_val f' ∷ []) (λ f'-is.
           -- [what the fleet owns; _5; the events; _20 at 3; …]
           assigns ! (of_opd ! (held ! 1 refl)) (here !) (init ! 41 refl ((LL.lawful Fleet-t.the_type Fleet-l.the_laws 𝓛).typed f' _ f'-is).0) $
           -- the events are an array
           move ! (2 ∷ []) $ feq_i ! ℕ (length es) 32 len' $ fjoin ! $ use1 𝓛 (‵ (part_at Events full_share es l6 0)) (Array-whole 𝓛 Event-t.the_row full_share 32 es l6 0) $
           fpick ! (λ us. fsplit ! $
           spelt ! Events (Is Events) (shows 𝓛 Events) (array_vals (EL.vals Event-t.the_type Event-l.the_laws)) (Array-Tells Event-t.the_row (EL.vals Event-t.the_type Event-l.the_laws) (EL.tells Event-t.the_type Event-l.the_laws) 32) full_share es us l6 0 $
-          use1 𝓛 (‵ (fat full_share (ty_array Event-l.mir 32) l6 0 (eventsVal es))) (𝓛.laws.raw_at full_share (ty_array Event-l.mir 32) l6 0 (eventsVal es)) $
+          use1 𝓛 (‵ (fat full_share (ty_array Event-l.mir 32) l6 0 (events_val es))) (𝓛.laws.raw_at full_share (ty_array Event-l.mir 32) l6 0 (events_val es)) $
           -- [_6; what the events own; what the fleet owns; _5; _20 at 4; …]
           returns ! (look ! 42 refl) $ forget ! 0 refl $ forget ! 3 refl $ forget ! 22 refl $ forget ! 24 refl $ forget ! 26 refl $ forget ! 28 refl $ forget ! 30 refl $ forget ! 34 refl $
           forget ! 36 refl $ forget ! 38 refl $ forget ! 40 refl $ forget ! 42 refl $
@@ -341,10 +341,10 @@ module _ {M : Type 1} {𝓤 : Ura M} (𝓛 : Logic 𝓤) (at_mem : Memory → SP
           set-up 32 (sym (min-eq_right (nltb→le n 32 over))))
 
   module _ (𝓣 : Tables 𝓤 H) (known : Triple 𝓤 (𝓣.C #callee) (Callee 𝓛 at_mem run)) where
-    walk : ent 𝓤 (on_entry 𝓛 this.signature tt tt x at) (WpFn 𝓤 H 𝓣.C 𝓣.Λ code.function (fleetVal f ∷ vint w64 n ∷ vint w16 k ∷ eventsVal es ∷ []) Post)
+    walk : ent 𝓤 (on_entry 𝓛 this.signature tt tt x at) (WpFn 𝓤 H 𝓣.C 𝓣.Λ code.function (fleet_val f ∷ vint w64 n ∷ vint w16 k ∷ events_val es ∷ []) Post)
     unfolding part_of
     walk =
-        qed 𝓛 (‵ ftrue ∷ ‵ (owns (Fleet-t.the_row ∷ usize ∷ u16 ∷ Events ∷ []) x at) ∷ []) ∵ enter ! 𝓣.C 𝓣.Λ code.function (fleetVal f ∷ vint w64 n ∷ vint w16 k ∷ eventsVal es ∷ []) _ $
+        qed 𝓛 (‵ ftrue ∷ ‵ (owns (Fleet-t.the_row ∷ usize ∷ u16 ∷ Events ∷ []) x at) ∷ []) ∵ enter ! 𝓣.C 𝓣.Λ code.function (fleet_val f ∷ vint w64 n ∷ vint w16 k ∷ events_val es ∷ []) _ $
         alloc1 ! (λ l0. alloc1 ! (λ l1. alloc1 ! (λ l2. alloc1 ! (λ l3. alloc1 ! (λ l4. alloc1 ! (λ l5. alloc1 ! (λ l6. alloc1 ! (λ l7. alloc1 ! (λ l8. alloc1 ! (λ l9. alloc1 ! (λ l10.
         alloc1 ! (λ l11. alloc1 ! (λ l12. alloc1 ! (λ l13. alloc1 ! (λ l14. alloc1 ! (λ l15. alloc1 ! (λ l16. alloc1 ! (λ l17. alloc1 ! (λ l18. alloc1 ! (λ l19. alloc1 ! (λ l20. alloc0 ! $
         params1 ! $
@@ -354,15 +354,15 @@ module _ {M : Type 1} {𝓤 : Ura M} (𝓛 : Logic 𝓤) (at_mem : Memory → SP
         assigns ! (of_opd ! (held ! 32 refl)) (here !) (init ! 28 refl ((Array-Lawful 𝓛 Event-t.the_row (EL.lawful Event-t.the_type Event-l.the_laws 𝓛 tt) 32).typed es _ es-is).0) $
         assigns ! (bin ! (held ! 36 refl) (lit ! tt) tt) (here !) (init ! 22 refl (tt, tt)) $
         -- the fleet's local in memory, of it the array, and of that the row of the trucks
-        move ! (30 ∷ []) $ use1 𝓛 (‵ (cell_at full_share (Fleet-t.the_row).mir (fleetVal f ∷ []) l5 0)) (𝓛.laws.at_raw full_share Fleet-l.mir l5 0 (fleetVal f)) $
-        owns-fleet ! f f-is $ move ! (1 ∷ 0 ∷ []) $ fjoin ! $ fpack ! (List Val) (λ us. fsep (cell_at full_share (Fleet-t.the_row).mir us l5 0) ((Fleet-t.the_row).own_val f us)) (fleetVal f ∷ []) $
+        move ! (30 ∷ []) $ use1 𝓛 (‵ (cell_at full_share (Fleet-t.the_row).mir (fleet_val f ∷ []) l5 0)) (𝓛.laws.at_raw full_share Fleet-l.mir l5 0 (fleet_val f)) $
+        owns_fleet ! f f-is $ move ! (1 ∷ 0 ∷ []) $ fjoin ! $ fpack ! (List Val) (λ us. fsep (cell_at full_share (Fleet-t.the_row).mir us l5 0) ((Fleet-t.the_row).own_val f us)) (fleet_val f ∷ []) $
         use1 𝓛 (‵ (part_at (Array Truck-t.the_row 32) full_share f.trucks l5 4) ⊛ raw (Back l5)) (cut l5) $ split ! $
         use1 𝓛 (‵ ((arr_parts (shares Truck-t.the_row) 32).part full_share f.trucks l5 4)) (Array-apart 𝓛 Truck-t.the_row full_share tt 32 f.trucks l5 4) $ fsplit ! $ feq_l ! (λ len.
         rewrite ! 0 (λ (ys : List Truck). TruckRow ys l5) (sym (filled_none g f.trucks)) refl $
         -- the local of the events in memory, and of it their row
-        move ! (30 ∷ []) $ use1 𝓛 (‵ (cell_at full_share Events.mir (eventsVal es ∷ []) l6 0)) (𝓛.laws.at_raw full_share (ty_array Event-l.mir 32) l6 0 (eventsVal es)) $
-        owns-events ! es es-is $ move ! (1 ∷ 0 ∷ []) $ fjoin ! $
-        fpack ! (List Val) (λ us. fsep (cell_at full_share Events.mir us l6 0) (Events.own es us)) (eventsVal es ∷ []) $
+        move ! (30 ∷ []) $ use1 𝓛 (‵ (cell_at full_share Events.mir (events_val es ∷ []) l6 0)) (𝓛.laws.at_raw full_share (ty_array Event-l.mir 32) l6 0 (events_val es)) $
+        owns_events ! es es-is $ move ! (1 ∷ 0 ∷ []) $ fjoin ! $
+        fpack ! (List Val) (λ us. fsep (cell_at full_share Events.mir us l6 0) (Events.own es us)) (events_val es ∷ []) $
         use1 𝓛 (‵ ((arr_parts (shares Event-t.the_row) 32).part full_share es l6 0)) (Array-apart 𝓛 Event-t.the_row full_share tt 32 es l6 0) $ fsplit ! $ feq_l ! (λ len'.
         keep ! (1 ∷ 2 ∷ 0 ∷ 3 ∷ 4 ∷ 5 ∷ 6 ∷ 7 ∷ 8 ∷ 9 ∷ 10 ∷ 11 ∷ 12 ∷ 13 ∷ 14 ∷ 15 ∷ 16 ∷ 17 ∷ 18 ∷ 19 ∷ 20 ∷ 21 ∷ 22 ∷ 23 ∷ 24 ∷ 25 ∷ 26 ∷ 27 ∷ 28 ∷ 29 ∷ 30 ∷ 31 ∷ 32 ∷ 33 ∷ 34 ∷ 35 ∷ 36 ∷ 37 ∷ 38 ∷ 39 ∷ 40 ∷ 41 ∷ 42 ∷ []) $
         clamped len len' 𝓣 known l0 l1 l2 l3 l4 l5 l6 l7 l8 l9 l10 l11 l12 l13 l14 l15 l16 l17 l18 l19 l20)))))))))))))))))))))))

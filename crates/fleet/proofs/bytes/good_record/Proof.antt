@@ -5,10 +5,10 @@ use native.Mathlib.Omega.{arith}
 use borrow.Author.Rules.{rules}
 use Rattle.basics.specs.Lists.{all_below}
 use Rattle.protocol.specs.Rules.{truck}
-use Rattle.protocol.specs.Fleets.{chosen, goodTruckIn}
-use Rattle.fleetrecord.proofs.Records.{bad-done, good-count}
-use Rattle.recordbytes.specs.Layout.{recordOf}
-use Rattle.recordbytes.proofs.Places.{bytes_whole, bytes-range, bytes-done}
+use Rattle.protocol.specs.Fleets.{chosen, good_truck_in}
+use Rattle.fleetrecord.proofs.Records.{bad_done, good-count}
+use Rattle.recordbytes.specs.Layout.{record_of}
+use Rattle.recordbytes.proofs.Places.{bytes_whole, bytes_range, bytes-done}
 use Rattle.fleet.proofs.bytes.good_record.Statement.{statement}
 use Rattle.fleet.proofs.bytes.good_record.Tie as tie
 
@@ -16,17 +16,17 @@ returns : tie.Need-returns
 returns c =
     let s = c.before.before.before.before.before in
     let d = s.args.d.now in
-    sym (bad-done (chosen s.args.cycle) (recordOf d) (bytes-range d s.requires) (omega (arith, c.if1.true, c.before.pair.ensures, bytes-done d s.requires)))
+    sym (bad_done (chosen s.args.cycle) (record_of d) (bytes_range d s.requires) (omega (arith, c.if1.true, c.before.pair.ensures, bytes-done d s.requires)))
 
 returns-2 : tie.Need-returns-2
 returns-2 c =
     let s = c.before.before.before.before.before.before in
     let d = s.args.d.now in
     let P = chosen s.args.cycle in
-    let done : c.before.before.pair.result ≡ (recordOf d).done = c.before.before.pair.ensures ∙ bytes-done d s.requires in
+    let done : c.before.before.pair.result ≡ (record_of d).done = c.before.before.pair.ensures ∙ bytes-done d s.requires in
     c.good-places.ensures
-    ∙ ap (λ (k : ℕ). all_below (λ i. goodTruckIn P k (truck (recordOf d).trucks i)) (recordOf d).n) done
-    ∙ sym (good-count P (recordOf d) (bytes-range d s.requires) (omega (arith, c.before.if1.false, done)))
+    ∙ ap (λ (k : ℕ). all_below (λ i. good_truck_in P k (truck (record_of d).trucks i)) (record_of d).n) done
+    ∙ sym (good-count P (record_of d) (bytes_range d s.requires) (omega (arith, c.before.if1.false, done)))
 
 pub good-record-spec : {M : Type 1} → statement M
 good-record-spec =

@@ -5,12 +5,12 @@ use native.Mathlib.Omega.{arith}
 use borrow.Author.Rules.{rules}
 use Rattle.basics.specs.Lists.{filled}
 use Rattle.basics.proofs.Laws.{filled_none, fill_step}
-use Rattle.fleet.specs.Rounds.{eventAt, noEvents}
+use Rattle.fleet.specs.Rounds.{event_at, no_events}
 use Rattle.fleet.proofs.round.events_of.Statement.{statement}
 use Rattle.fleet.proofs.round.events_of.Tie as tie
 
 abbrev invariant-loop : tie.invariant-loop
-invariant-loop phase n words senders values held end events₀ i₀ events i = (i ≤ end) × (events ≡ filled (eventAt phase words senders values held) i noEvents)
+invariant-loop phase n words senders values held end events₀ i₀ events i = (i ≤ end) × (events ≡ filled (event_at phase words senders values held) i no_events)
 
 abbrev decreases-loop : tie.decreases-loop
 decreases-loop phase n words senders values held end events₀ i₀ events i = end - i
@@ -18,7 +18,7 @@ decreases-loop phase n words senders values held end events₀ i₀ events i = e
 loop-holds : tie.Need-loop-init invariant-loop decreases-loop
 loop-holds c =
     let a = c.before.before.args in
-    (search rules, sym (filled_none (eventAt a.phase a.words.now a.senders a.values.now a.held.now) noEvents))
+    (search rules, sym (filled_none (event_at a.phase a.words.now a.senders a.values.now a.held.now) no_events))
 
 -- the loop's bound is n
 below : (c : tie.In-loop invariant-loop decreases-loop) → c.before.loop.i < c.before.before.before.before.args.n
@@ -33,7 +33,7 @@ loop-again c =
     let a = n.before.before.before.before.args in
     let o = n.before.loop in (
       omega (arith, n.loop-test.true),
-      fill_step (eventAt a.phase a.words.now a.senders a.values.now a.held.now) noEvents o.events o.i o.invariant.1 c.event-by.result (place n) c.event-by.ensures,
+      fill_step (event_at a.phase a.words.now a.senders a.values.now a.held.now) no_events o.events o.i o.invariant.1 c.event-by.result (place n) c.event-by.ensures,
     )
 
 returns : tie.Need-returns invariant-loop decreases-loop
@@ -42,7 +42,7 @@ returns c =
     let a = z.args in
     let o = c.before.loop in
     o.invariant.1
-    ∙ ap (λ (m : ℕ). filled (eventAt a.phase a.words.now a.senders a.values.now a.held.now) m noEvents)
+    ∙ ap (λ (m : ℕ). filled (event_at a.phase a.words.now a.senders a.values.now a.held.now) m no_events)
     (let e : o.i ≡ a.n = omega (arith, o.invariant.0, c.loop-test.false, c.before.before.places.ensures, z.requires.0) in e)
 
 pub events-of-spec : {M : Type 1} → statement M

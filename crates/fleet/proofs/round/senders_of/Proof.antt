@@ -8,16 +8,16 @@ use borrow.Author.Rules.{rules}
 use Rattle.basics.specs.Lists.{filled}
 use Rattle.basics.proofs.Laws.{filled_none, fill_step}
 use Rattle.protocol.specs.Rules.{truck, runs}
-use Rattle.sets.proofs.Members.{only-is}
-use Rattle.fleet.specs.Rounds.{messageIn, sendsIn}
+use Rattle.sets.proofs.Members.{only_is}
+use Rattle.fleet.specs.Rounds.{message_in, sends_in}
 use Rattle.playback.specs.Sets.{estimates}
-use Rattle.playback.proofs.Sorting.{Sending, sending-starts, sending-more, sending-done}
+use Rattle.playback.proofs.Sorting.{Sending, sending-starts, sending_more, sending-done}
 use Rattle.fleet.proofs.round.senders_of.Statement.{statement}
 use Rattle.fleet.proofs.round.senders_of.Tie as tie
 
 abbrev invariant-loop : tie.invariant-loop
 invariant-loop phase words values₀ held₀ f n stop active senders₀ i₀ values held senders i =
-    (i ≤ n) × Sending (sendsIn phase words f.trucks) (estimates f.trucks) i senders values × (held ≡ filled (estimates f.trucks) i held₀)
+    (i ≤ n) × Sending (sends_in phase words f.trucks) (estimates f.trucks) i senders values × (held ≡ filled (estimates f.trucks) i held₀)
 
 abbrev decreases-loop : tie.decreases-loop
 decreases-loop phase words values₀ held₀ f n stop active senders₀ i₀ values held senders i = n - i
@@ -27,7 +27,7 @@ loop-holds c =
     let z = c.before.before.before in
     let est = estimates z.args.t2.trucks in (
       search rules,
-      rw z.requires.3 (sending-starts (sendsIn z.args.phase z.args.words.now z.args.t2.trucks) est),
+      rw z.requires.3 (sending-starts (sends_in z.args.phase z.args.words.now z.args.t2.trucks) est),
       sym (filled_none est z.args.held.now),
     )
 
@@ -51,10 +51,10 @@ loop-again c =
     let sends = u.before.before.before.sends in
     let below : o.i < 32 = omega (arith, less, z.requires.0) in (
       search rules,
-      rw (c.union-where2.ensures, u.union-where.ensures, c.before.only2.ensures ∙ only-is o.i below, u.before.only.ensures ∙ only-is o.i below, add-one o.i)
-          (sending-more (sendsIn a.phase a.words.now f.trucks) (estimates f.trucks) o.invariant.1 (small u) sends.result
+      rw (c.union-where2.ensures, u.union-where.ensures, c.before.only2.ensures ∙ only_is o.i below, u.before.only.ensures ∙ only_is o.i below, add-one o.i)
+          (sending_more (sends_in a.phase a.words.now f.trucks) (estimates f.trucks) o.invariant.1 (small u) sends.result
           (sends.ensures
-          ∙ ap₂ (λ (x y : Bool). (runs (truck f.trucks o.i) && not x) && messageIn a.phase y (truck f.trucks o.i)) u.before.before.before.before.before.holds.ensures u.before.before.before.before.holds2.ensures)),
+          ∙ ap₂ (λ (x y : Bool). (runs (truck f.trucks o.i) && not x) && message_in a.phase y (truck f.trucks o.i)) u.before.before.before.before.before.holds.ensures u.before.before.before.before.holds2.ensures)),
       fill_step (estimates f.trucks) a.held.now o.held o.i o.invariant.2 (estimates f.trucks o.i) (omega (arith, below, z.requires.4)) refl,
     )
 
@@ -64,9 +64,9 @@ returns c =
     let f = z.args.t2 in
     let o = c.before.loop in
     let end : o.i ≡ f.n = omega (arith, o.invariant.0, c.loop-test.false) in
-    let done = subst (λ (m : ℕ). Sending (sendsIn z.args.phase z.args.words.now f.trucks) (estimates f.trucks) m o.senders o.values) end o.invariant.1 in (
+    let done = subst (λ (m : ℕ). Sending (sends_in z.args.phase z.args.words.now f.trucks) (estimates f.trucks) m o.senders o.values) end o.invariant.1 in (
       done.all,
-      (sending-done (sendsIn z.args.phase z.args.words.now f.trucks) (estimates f.trucks) done, o.invariant.2 ∙ ap (λ (m : ℕ). filled (estimates f.trucks) m z.args.held.now) end),
+      (sending-done (sends_in z.args.phase z.args.words.now f.trucks) (estimates f.trucks) done, o.invariant.2 ∙ ap (λ (m : ℕ). filled (estimates f.trucks) m z.args.held.now) end),
     )
 
 pub senders-of-spec : {M : Type 1} → statement M

@@ -8,22 +8,22 @@ use borrow.Author.Rules.{rules}
 use lib.Bits.{bit_or}
 use Rattle.basics.specs.Bits.{bit}
 use Rattle.sets.specs.Sets.{Members}
-use Rattle.playback.specs.Sets.{heardSet}
-use Rattle.playback.specs.Grading.{heardAt, missesSome, missesAll, missesHalf}
+use Rattle.playback.specs.Sets.{heard_set}
+use Rattle.playback.specs.Grading.{heard_at, misses_some, misses_all, misses_half}
 use Rattle.playback.proofs.Reading.{row-place}
-use Rattle.playback.proofs.Radios.{heard-by-own}
-use Rattle.playback.proofs.Asking.{Asking, next-is, asking-starts, asking-more, asking-done}
+use Rattle.playback.proofs.Radios.{heard_by_own}
+use Rattle.playback.proofs.Asking.{Asking, next_is, asking-starts, asking_more, asking-done}
 use Rattle.playback.proofs.grading.missing.Statement.{statement}
 use Rattle.playback.proofs.grading.missing.Tie as tie
 
 -- the truck at place p has what f asks of the senders that it heard
 abbrev asked : (ℕ → Bool) → List ℕ → ℕ → ℕ → ℕ → ℕ → Bool
-asked f s at n senders p = f (heardAt s at n senders p)
+asked f s at n senders p = f (heard_at s at n senders p)
 
 abbrev invariant-loop : tie.invariant-loop
 invariant-loop s at n senders wanted sent m₀ left₀ m left =
-    Asking wanted (asked (missesSome senders) s at n senders) left m.some
-    × (Asking wanted (asked (missesAll senders) s at n senders) left m.all × Asking wanted (asked (missesHalf senders) s at n senders) left m.half)
+    Asking wanted (asked (misses_some senders) s at n senders) left m.some
+    × (Asking wanted (asked (misses_all senders) s at n senders) left m.all × Asking wanted (asked (misses_half senders) s at n senders) left m.half)
 
 abbrev decreases-loop : tie.decreases-loop
 decreases-loop s at n senders wanted sent m₀ left₀ m left = left
@@ -32,7 +32,7 @@ loop-holds : tie.Need-loop-init invariant-loop decreases-loop
 loop-holds c =
     let a = c.before.args in
     let start : (f : ℕ → Bool) → Asking a.wanted (asked f a.s.now a.at a.n a.senders) a.wanted 0 = λ f. asking-starts a.wanted (asked f a.s.now a.at a.n a.senders) in
-    (start (missesSome a.senders), (start (missesAll a.senders), start (missesHalf a.senders)))
+    (start (misses_some a.senders), (start (misses_all a.senders), start (misses_half a.senders)))
 
 mul-read-at : tie.Need-overflow-mul-read-at invariant-loop decreases-loop
 mul-read-at c = let z = c.before.before.before.before.before in let e = row-place z.args.at z.args.n c.before.lowest.result z.requires.1 z.requires.0 (c.before.lowest.ensures.1 c.before.before.loop-test.true).0 in omega (arith, e.0)
@@ -44,7 +44,7 @@ sub-read-at : tie.Need-overflow-sub-read-at invariant-loop decreases-loop
 sub-read-at c = omega (arith, (c.before.lowest.ensures.1 c.before.before.loop-test.true).0)
 
 loop-less : tie.Need-loop-smaller invariant-loop decreases-loop
-loop-less c = let i = c.before.before.before.before.before in (next-is i.before.loop-test.true i.lowest.ensures c.before.before.before.before.only-lowest.ensures c.rest.ensures).taken.less
+loop-less c = let i = c.before.before.before.before.before in (next_is i.before.loop-test.true i.lowest.ensures c.before.before.before.before.only-lowest.ensures c.rest.ensures).taken.less
 
 loop-again : tie.Need-loop-preserved invariant-loop decreases-loop
 loop-again c =
@@ -55,17 +55,17 @@ loop-again c =
     let r = c.before.before.before.read_at in
     let h = c.before.before.heard-by in
     let w = c.before.with-truck in
-    let next = next-is c.before.before.before.before.before.before.loop-test.true i.ensures o.ensures c.rest.ensures in
-    let is : h.result ≡ heardAt a.s.now a.at a.n a.senders i.result =
-    heard-by-own a.senders r.result i.result o.result h.result h.ensures next.own ∙ ap (λ (x : ℕ). heardSet a.senders x i.result) r.ensures in
+    let next = next_is c.before.before.before.before.before.before.loop-test.true i.ensures o.ensures c.rest.ensures in
+    let is : h.result ≡ heard_at a.s.now a.at a.n a.senders i.result =
+    heard_by_own a.senders r.result i.result o.result h.result h.ensures next.own ∙ ap (λ (x : ℕ). heard_set a.senders x i.result) r.ensures in
     let more : (f : ℕ → Bool) (set set' : ℕ) → set' ≡ cond (f h.result) (bit_or set o.result) set
     → Asking a.wanted (asked f a.s.now a.at a.n a.senders) l.left set
     → Asking a.wanted (asked f a.s.now a.at a.n a.senders) c.rest.result set'
-    = λ f set set' e m. asking-more a.wanted (asked f a.s.now a.at a.n a.senders) next (f h.result) (ap f is) e m in (
-      more (missesSome a.senders) l.m.some w.result.some w.ensures.0 l.invariant.0,
+    = λ f set set' e m. asking_more a.wanted (asked f a.s.now a.at a.n a.senders) next (f h.result) (ap f is) e m in (
+      more (misses_some a.senders) l.m.some w.result.some w.ensures.0 l.invariant.0,
       (
-        more (missesAll a.senders) l.m.all w.result.all w.ensures.1.0 l.invariant.1.0,
-        more (missesHalf a.senders) l.m.half w.result.half w.ensures.1.1 l.invariant.1.1,
+        more (misses_all a.senders) l.m.all w.result.all w.ensures.1.0 l.invariant.1.0,
+        more (misses_half a.senders) l.m.half w.result.half w.ensures.1.1 l.invariant.1.1,
       ),
     )
 
@@ -74,11 +74,11 @@ returns c =
     let a = c.before.before.before.args in
     let i = c.before.loop.invariant in
     let all : (f : ℕ → Bool) (set : ℕ) → Asking a.wanted (asked f a.s.now a.at a.n a.senders) c.before.loop.left set
-    → Members set 32 (λ p. bit a.wanted p && f (heardAt a.s.now a.at a.n a.senders p))
+    → Members set 32 (λ p. bit a.wanted p && f (heard_at a.s.now a.at a.n a.senders p))
     = λ f set m. asking-done a.wanted (asked f a.s.now a.at a.n a.senders) m c.loop-test.false in
     let m = c.before.loop.m in (
-      all (missesSome a.senders) m.some i.0,
-      (all (missesAll a.senders) m.all i.1.0, all (missesHalf a.senders) m.half i.1.1),
+      all (misses_some a.senders) m.some i.0,
+      (all (misses_all a.senders) m.all i.1.0, all (misses_half a.senders) m.half i.1.1),
     )
 
 pub missing-spec : {M : Type 1} → statement M

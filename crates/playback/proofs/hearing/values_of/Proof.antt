@@ -12,13 +12,13 @@ use Rattle.basics.proofs.Laws.{first-none, first-le}
 use Rattle.protocol.specs.declared.Heard.{Heard}
 use Rattle.protocol.specs.declared.Heard.TheVariants.{One, Several}
 use Rattle.sets.specs.Sets.{without}
-use Rattle.playback.specs.Sets.{wasHeard}
-use Rattle.playback.proofs.ByCrusher.{values-hit, values-none}
+use Rattle.playback.specs.Sets.{was_heard}
+use Rattle.playback.proofs.ByCrusher.{values_hit, values-none}
 use Rattle.playback.proofs.hearing.values_of.Statement.{statement}
 use Rattle.playback.proofs.hearing.values_of.Tie as tie
 
 first-heard-requires : tie.Need-first-heard-requires
-first-heard-requires c κs = (search rules, first-none (wasHeard c.args.by.now c.args.heard))
+first-heard-requires c κs = (search rules, first-none (was_heard c.args.by.now c.args.heard))
 
 returns : tie.Need-returns
 returns c =
@@ -29,13 +29,13 @@ returns c =
     = λ b e. ap (λ (x : Bool). cond x One Several) (sym e ∙ ap (λ (x : ℕ). eqb x 0) w.ensures) in
     ap (λ (h : Heard). record { heard = h; least = f.result })
     (⊎_elim (λ x. x.1 ∙ told _ (not-true (eqb w.result 0) x.0.taken)) (λ x. x.1 ∙ told _ (not-false (eqb w.result 0) x.0.left)) c.if2.branch)
-    ∙ sym (values-hit a.by.now a.heard a.estimate f.result c.before.before.before.if1.true (sym f.ensures))
+    ∙ sym (values_hit a.by.now a.heard a.estimate f.result c.before.before.before.if1.true (sym f.ensures))
 
 returns-2 : tie.Need-returns-2
 returns-2 c =
     let a = c.before.before.args in
     let f = c.before.first-heard in
-    let e : f.result ≡ 16 = omega (arith, f.ensures, first-le (wasHeard a.by.now a.heard) 16, c.if1.false) in
+    let e : f.result ≡ 16 = omega (arith, f.ensures, first-le (was_heard a.by.now a.heard) 16, c.if1.false) in
     sym (values-none a.by.now a.heard a.estimate (sym f.ensures ∙ e))
 
 pub values-of-spec : {M : Type 1} → statement M

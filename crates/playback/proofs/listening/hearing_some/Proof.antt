@@ -7,15 +7,15 @@ use native.Mathlib.Omega.{arith}
 use borrow.Author.Rules.{rules}
 use lib.Dec.{eqb}
 use Rattle.sets.specs.Sets.{without}
-use Rattle.playback.specs.Listens.{rowFrom}
+use Rattle.playback.specs.Listens.{row_from}
 use Rattle.playback.proofs.Reading.{row-place}
-use Rattle.playback.proofs.Asking.{Asking, next-is, asking-starts, asking-more, asking-done}
+use Rattle.playback.proofs.Asking.{Asking, next_is, asking-starts, asking_more, asking-done}
 use Rattle.playback.proofs.listening.hearing_some.Statement.{statement}
 use Rattle.playback.proofs.listening.hearing_some.Tie as tie
 
 -- the truck at place p hears a sender
 abbrev hearsSome : List ℕ → ℕ → ℕ → ℕ → ℕ → Bool
-hearsSome s at n senders p = not (eqb (without senders (rowFrom s at n p)) 0)
+hearsSome s at n senders p = not (eqb (without senders (row_from s at n p)) 0)
 
 abbrev invariant-loop : tie.invariant-loop
 invariant-loop s at n senders wanted out₀ left₀ out left = Asking wanted (hearsSome s at n senders) left out
@@ -38,7 +38,7 @@ sub-read-at c = omega (arith, (c.lowest.ensures.1 c.before.loop-test.true).0)
 loop-less : tie.Need-loop-smaller invariant-loop decreases-loop
 loop-less c =
     let i = c.before.before.before.before.before in
-    (next-is i.before.loop-test.true i.lowest.ensures c.before.before.before.only-lowest.ensures c.rest.ensures).taken.less
+    (next_is i.before.loop-test.true i.lowest.ensures c.before.before.before.only-lowest.ensures c.rest.ensures).taken.less
 
 loop-again : tie.Need-loop-preserved invariant-loop decreases-loop
 loop-again c =
@@ -46,8 +46,8 @@ loop-again c =
     let l = c.before.before.before.before.before.before.before.loop in
     let i = c.before.before.before.before.before in
     let w = c.before.before.without in
-    asking-more a.wanted (hearsSome a.s.now a.at a.n a.senders)
-    (next-is i.before.loop-test.true i.lowest.ensures c.before.before.before.only-lowest.ensures c.rest.ensures)
+    asking_more a.wanted (hearsSome a.s.now a.at a.n a.senders)
+    (next_is i.before.loop-test.true i.lowest.ensures c.before.before.before.only-lowest.ensures c.rest.ensures)
     (not (eqb w.result 0)) (ap (λ (x : ℕ). not (eqb x 0)) (w.ensures ∙ ap (without a.senders) c.before.before.before.before.read_at.ensures)) c.before.union-where.ensures l.invariant
 
 returns : tie.Need-returns invariant-loop decreases-loop

@@ -5,27 +5,27 @@ use Prim.Native.Nat.{ℕ}
 use native.Mathlib.Omega.{arith}
 use borrow.Author.Rules.{rules}
 use Rattle.basics.proofs.Laws.{first-none}
-use Rattle.playback.specs.Sets.{wasHeard, values_of}
+use Rattle.playback.specs.Sets.{was_heard, values_of}
 use Rattle.playback.specs.declared.hearing.Values.{Values}
-use Rattle.playback.specs.Listens.{heardFrom}
+use Rattle.playback.specs.Listens.{heard_from}
 use Rattle.sets.proofs.Members.{taken_out, own_out}
 use Rattle.playback.proofs.Sorting.{sent-from}
 use Rattle.playback.proofs.Reading.{row-place}
-use Rattle.playback.proofs.Asking.{next-is, heard-at, Takes, takes-starts, takes-more, takes_none, takes-done}
+use Rattle.playback.proofs.Asking.{next_is, heard-at, Takes, takes-starts, takes_more, takes_none, takes-done}
 use Rattle.playback.proofs.listening.least_heard.Statement.{statement}
 use Rattle.playback.proofs.listening.least_heard.Tie as tie
 
 abbrev invariant-loop : tie.invariant-loop
-invariant-loop s at n senders wanted by changed₀ taking₀ low left₀ changed taking left = Takes wanted (heardFrom s at n senders by) left changed taking
+invariant-loop s at n senders wanted by changed₀ taking₀ low left₀ changed taking left = Takes wanted (heard_from s at n senders by) left changed taking
 
 abbrev decreases-loop : tie.decreases-loop
 decreases-loop s at n senders wanted by changed₀ taking₀ low left₀ changed taking left = left
 
 loop-holds : tie.Need-loop-init invariant-loop decreases-loop
-loop-holds c = let a = c.before.before.args in takes-starts a.wanted (heardFrom a.s.now a.at a.n a.senders a.by.now)
+loop-holds c = let a = c.before.before.args in takes-starts a.wanted (heard_from a.s.now a.at a.n a.senders a.by.now)
 
 first-heard-requires : tie.Need-first-heard-requires invariant-loop decreases-loop
-first-heard-requires c κs = (search rules, first-none (wasHeard c.before.args.by.now c.before.args.senders))
+first-heard-requires c κs = (search rules, first-none (was_heard c.before.args.by.now c.before.args.senders))
 
 first-heard-requires-2 : tie.Need-first-heard-requires-2 invariant-loop decreases-loop
 first-heard-requires-2 c κs =
@@ -55,19 +55,19 @@ loop-again c =
     let own = c.before.before.before.before.before.only-lowest in
     let f = c.before.before.first-heard2 in
     let w = c.before.before.before.heard-by in
-    let h : ℕ → Values = heardFrom a.s.now a.at a.n a.senders a.by.now in
-    let next = next-is c.before.before.before.before.before.before.before.loop-test.true i.ensures own.ensures c.rest.ensures in
+    let h : ℕ → Values = heard_from a.s.now a.at a.n a.senders a.by.now in
+    let next = next_is c.before.before.before.before.before.before.before.loop-test.true i.ensures own.ensures c.rest.ensures in
     let is : h i.result ≡ values_of a.by.now w.result 16 =
     heard-at a.s.now a.at a.n a.senders a.by.now i.result next.own c.before.before.before.before.read_at.ensures w.ensures in
     ⊎_elim
-    (λ x. (takes-more a.by.now a.wanted h next f.result w.result is f.ensures o.invariant x.0.taken x.1 x.2).1)
+    (λ x. (takes_more a.by.now a.wanted h next f.result w.result is f.ensures o.invariant x.0.taken x.1 x.2).1)
     (λ x. (takes_none a.by.now a.wanted h next f.result w.result is f.ensures o.invariant x.0.left x.1 x.2).1)
     c.before.if1.branch
 
 returns : tie.Need-returns invariant-loop decreases-loop
 returns c =
     let a = c.before.before.before.before.args in
-    takes-done a.wanted (heardFrom a.s.now a.at a.n a.senders a.by.now) c.before.loop.invariant c.loop-test.false
+    takes-done a.wanted (heard_from a.s.now a.at a.n a.senders a.by.now) c.before.loop.invariant c.loop-test.false
 
 pub least-heard-spec : {M : Type 1} → statement M
 least-heard-spec =

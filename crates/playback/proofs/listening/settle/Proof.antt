@@ -8,7 +8,7 @@ use borrow.Author.Rules.{rules}
 use lib.Bits.{bit_and, bit_or}
 use lib.ListN.{get_or}
 use Rattle.basics.specs.Lists.{filled}
-use Rattle.basics.proofs.Laws.{filled_none, fill_step, getD-filled-past}
+use Rattle.basics.proofs.Laws.{filled_none, fill_step, get_or-filled_past}
 use Rattle.sets.specs.Sets.{without}
 use Rattle.playback.specs.Listens.{settled}
 use Rattle.playback.proofs.listening.settle.Statement.{statement}
@@ -29,7 +29,7 @@ loop-again c =
     let a = s.args in
     let l = c.before.before.before.before.loop in
     let here : get_or l.by l.c 0 ≡ get_or a.by.now l.c 0 =
-    ap (λ (d : List ℕ). get_or d l.c 0) l.invariant.1 ∙ getD-filled-past (settled a.by.now a.taking.now a.changed) l.c a.by.now l.c 0 (le_refl l.c) in (
+    ap (λ (d : List ℕ). get_or d l.c 0) l.invariant.1 ∙ get_or-filled_past (settled a.by.now a.taking.now a.changed) l.c a.by.now l.c 0 (le_refl l.c) in (
       omega arith,
       fill_step (settled a.by.now a.taking.now a.changed) a.by.now l.by l.c l.invariant.1 _ (omega (arith, s.requires))
           (ap (λ (x : ℕ). bit_or x (bit_and (get_or a.taking.now l.c 0) a.changed)) (c.before.without.ensures ∙ ap (λ (x : ℕ). without x a.changed) here)),

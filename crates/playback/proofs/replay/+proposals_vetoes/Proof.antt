@@ -4,7 +4,7 @@ use native.Mathlib.Omega.{arith}
 use borrow.Author.Rules.{rules}
 use borrow.Fn.Kinds.{In}
 use borrow.Fn.PlainCycle.{Measures, is, falls, and}
-use Rattle.playback.proofs.Halts.{due-room, due-active, halts, proposal-next, veto-next, proposal-graded, veto-graded, same_end}
+use Rattle.playback.proofs.Halts.{due-room, due-active, halts, proposal_next, veto-next, proposal_graded, veto-graded, same_end}
 use Rattle.playback.proofs.replay.proposals.Reads as proposals
 use Rattle.playback.proofs.replay.proposals.Kinds as proposals-kinds
 use Rattle.playback.proofs.replay.+proposals_vetoes.Lts-proposals as proposals-lts
@@ -104,8 +104,8 @@ proposals-vetoes-requires t c κs =
     let j = c.before.before.before.before.judged-proposing in
     let d = z.requires.1.0 in
     let active = due-active d in
-    let n = proposal-next d h z.requires.1.1.0 active q c.before.before.before.before.before.before.before.before.before.before.without.result c.before.before.before.before.before.before.before.before.before.ended.new.0 c.before.before.before.before.before.before.count-up.new.0 c.before.before.before.before.before.before.before.before.before.before.without.ensures c.before.before.before.before.before.before.before.before.before.ended.ensures c.before.before.before.before.before.before.count-up.ensures in
-    (omega (arith, z.requires.0, r.1.1.1.0), (n.0, (n.1, proposal-graded d h z.requires.1.1.0 active q z.args.judging z.requires.1.1.1 j.ensures)))
+    let n = proposal_next d h z.requires.1.1.0 active q c.before.before.before.before.before.before.before.before.before.before.without.result c.before.before.before.before.before.before.before.before.before.ended.new.0 c.before.before.before.before.before.before.count-up.new.0 c.before.before.before.before.before.before.before.before.before.before.without.ensures c.before.before.before.before.before.before.before.before.before.ended.ensures c.before.before.before.before.before.before.count-up.ensures in
+    (omega (arith, z.requires.0, r.1.1.1.0), (n.0, (n.1, proposal_graded d h z.requires.1.1.0 active q z.args.judging z.requires.1.1.1 j.ensures)))
 
 proposals-returns-2 : (t : ℕ) → proposals-lts.Need-returns-2 (proposals-calls t) (proposals-at t) proposals.Post
 proposals-returns-2 t c = let z = c.before.before.before.before.before.before.before.before.before.before.before.before.before.before.before.before.before in (same_end z.requires.1.0 c.before.before.before.before.before.before.before.before.before.before.before.before.before.before.before.if1.false c.vetoes.ensures.0, c.vetoes.ensures.1)

@@ -1,7 +1,7 @@
 -- `begin` meets its contract.
 use mathlib.Core.Path.{ap, ◌∙◌}
 use borrow.Author.Rules.{rules}
-use Rattle.recording.specs.Packed.{openingsInto}
+use Rattle.recording.specs.Packed.{openings_into}
 use Rattle.recording.proofs.Fronts.{counts-trucks}
 use Rattle.playback.proofs.Halts.{first-few, openings-small}
 use Rattle.playback.proofs.replay.begin.Statement.{statement}
@@ -18,7 +18,7 @@ openers-requires c κs =
     let z = c.before.before.before.before.before.before.before in
     let s = z.args.s.now in
     let r = c.before.before.before.before.read-front in
-    (openings-small s z.requires.0 r.new.1.0 (r.ensures.1 ∙ ap (openingsInto s) z.requires.1), z.requires.2)
+    (openings-small s z.requires.0 r.new.1.0 (r.ensures.1 ∙ ap (openings_into s) z.requires.1), z.requires.2)
 
 returns : tie.Need-returns
 returns c =
@@ -26,7 +26,7 @@ returns c =
     let r = c.before.before.before.before.before.read-front in
     record {
       counts = r.ensures.0;
-      read = r.ensures.1 ∙ ap (openingsInto z.args.s.now) z.requires.1;
+      read = r.ensures.1 ∙ ap (openings_into z.args.s.now) z.requires.1;
       all = c.before.before.before.everyone.ensures;
       sorted = c.openers.ensures.0;
       crushers = c.openers.ensures.1;

@@ -2,7 +2,7 @@
 use native.Mathlib.Omega.{arith}
 use borrow.Author.Rules.{rules}
 use Rattle.sets.proofs.Members.{taken_out}
-use Rattle.playback.proofs.Places.{Noting, noting-starts, noting-more, noting-done}
+use Rattle.playback.proofs.Places.{Noting, noting-starts, noting_more, noting-done}
 use Rattle.playback.proofs.replay.ended.Statement.{statement}
 use Rattle.playback.proofs.replay.ended.Tie as tie
 
@@ -27,7 +27,7 @@ loop-again c =
     let l = c.before.before.before.loop in
     let i = c.before.lowest in
     let t = taken_out c.before.before.loop-test.true i.ensures c.rest.ensures in
-    noting-more z.args.ends.now z.args.who z.args.k z.requires l.invariant i.result t.below t.held c.rest.result t.rest
+    noting_more z.args.ends.now z.args.who z.args.k z.requires l.invariant i.result t.below t.held c.rest.result t.rest
 
 returns : tie.Need-returns invariant-loop decreases-loop
 returns c = let z = c.before.before in noting-done z.args.ends.now z.args.who z.args.k z.requires c.before.loop.invariant c.loop-test.false

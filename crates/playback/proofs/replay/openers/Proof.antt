@@ -5,8 +5,8 @@ use Prim.Native.Nat.{ℕ, ◌-◌}
 use native.Mathlib.Omega.{arith}
 use borrow.Author.Rules.{rules}
 use lib.ListN.{get_or}
-use Rattle.sets.proofs.Members.{taken_out, only-is}
-use Rattle.playback.proofs.Sorting.{Sorting, sorting-starts, sorting-more, sorting-done}
+use Rattle.sets.proofs.Members.{taken_out, only_is}
+use Rattle.playback.proofs.Sorting.{Sorting, sorting-starts, sorting_more, sorting-done}
 use Rattle.playback.proofs.replay.openers.Statement.{statement}
 use Rattle.playback.proofs.replay.openers.Tie as tie
 
@@ -53,8 +53,8 @@ loop-again c =
     let l = c.before.before.before.before.before.before.loop in
     let i = c.before.before.before.before.lowest in
     let t = taken_out c.before.before.before.before.before.loop-test.true i.ensures c.rest.ensures in
-    rw (c.before.only.ensures ∙ only-is i.result t.below)
-    (sorting-more 32 a.all (opens a.openings.now) l.invariant i.result t.below t.held (z.requires.0 (31 - i.result)) c.rest.result t.rest)
+    rw (c.before.only.ensures ∙ only_is i.result t.below)
+    (sorting_more 32 a.all (opens a.openings.now) l.invariant i.result t.below t.held (z.requires.0 (31 - i.result)) c.rest.result t.rest)
 
 returns : tie.Need-returns invariant-loop decreases-loop
 returns c = let a = c.before.before.args in (sorting-done 32 a.all (opens a.openings.now) c.before.loop.invariant c.loop-test.false, c.before.loop.invariant.long)

@@ -2,11 +2,11 @@
 use mathlib.Core.Path.{refl, ap, ◌∙◌}
 use native.Mathlib.Omega.{arith}
 use borrow.Author.Rules.{rules}
-use Rattle.recording.specs.Packed.{roundAt}
-use Rattle.recording.proofs.Fronts.{counts-rounds}
+use Rattle.recording.specs.Packed.{round_at}
+use Rattle.recording.proofs.Fronts.{counts_rounds}
 use Rattle.protocol.specs.Fleets.{chosen}
-use Rattle.playback.specs.Replays.{fleetAfter}
-use Rattle.playback.proofs.Halts.{takes-in, begun-few, begun-openings, begun-due, fleet-ended, found-ended}
+use Rattle.playback.specs.Replays.{fleet_after}
+use Rattle.playback.proofs.Halts.{takes_in, begun_few, begun_openings, begun_due, fleet_ended, found_ended}
 use Rattle.playback.proofs.replay.play.Statement.{statement}
 use Rattle.playback.proofs.replay.play.Tie as tie
 
@@ -16,8 +16,8 @@ rounds-in-requires c κs =
     let s = z.args.s.now in
     let g = c.before.before.before.before.before.before.before.begin in
     let at = c.before.before.before.before.before.word-place in (
-      begun-due z.requires.0 g.ensures (chosen z.args.cycle).rules (roundAt s) (λ k i ne. refl) at.result g.result.counts.rounds 0 z.args.ends.now z.args.sent.now at.ensures
-          (omega (arith, counts-rounds s g.result.counts g.ensures.counts, (begun-few z.requires.0 g.ensures).1)) z.requires.3 z.requires.4,
+      begun_due z.requires.0 g.ensures (chosen z.args.cycle).rules (round_at s) (λ k i ne. refl) at.result g.result.counts.rounds 0 z.args.ends.now z.args.sent.now at.ensures
+          (omega (arith, counts_rounds s g.result.counts g.ensures.counts, (begun_few z.requires.0 g.ensures).1)) z.requires.3 z.requires.4,
       (z.requires.4, z.requires.5),
     )
 
@@ -30,12 +30,12 @@ returns c =
     let g = c.before.before.before.before.before.before.before.before.begin in
     let b = c.rounds-in in
     let h = b.ensures.0 in
-    let takes = takes-in a.cycle in
-    let played = counts-rounds s g.result.counts g.ensures.counts in (
-      (begun-few z.requires.0 g.ensures).0,
+    let takes = takes_in a.cycle in
+    let played = counts_rounds s g.result.counts g.ensures.counts in (
+      (begun_few z.requires.0 g.ensures).0,
       (
-        fleet-ended p takes h g.result.counts g.new.1.0 g.ensures.counts (begun-openings z.requires.0 g.ensures) refl ∙ ap (fleetAfter p (roundAt s) s) played,
-        found-ended p takes h a.judging b.new.1.1.1.1.1.1.1.1.0 played b.ensures.1,
+        fleet_ended p takes h g.result.counts g.new.1.0 g.ensures.counts (begun_openings z.requires.0 g.ensures) refl ∙ ap (fleet_after p (round_at s) s) played,
+        found_ended p takes h a.judging b.new.1.1.1.1.1.1.1.1.0 played b.ensures.1,
       ),
     )
 

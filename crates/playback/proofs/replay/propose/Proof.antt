@@ -4,7 +4,7 @@ use Prim.Native.Nat.{ℕ}
 use borrow.Author.Rules.{rules}
 use lib.Bits.{bit_and}
 use Rattle.playback.specs.Standing.{Proposes}
-use Rattle.playback.proofs.Rounded.{proposes-by}
+use Rattle.playback.proofs.Rounded.{proposes_by}
 use Rattle.playback.proofs.replay.propose.Statement.{statement}
 use Rattle.playback.proofs.replay.propose.Tie as tie
 
@@ -21,7 +21,7 @@ returns c =
     let h = c.before.before.before.before.before.hear in
     let changed = c.before.without3 in
     subst (λ (x : ℕ). Proposes a.s.now a.at a.n a.left a.running x a.by.now c.settle.new.0 (record { going = going.result; senders = bit_and going.result active.result; mark = mark.result; one = h.result.one; several = h.result.several })) active.ensures
-    (proposes-by a.s.now a.at a.n a.left a.running a.by.now c.settle.new.0 stop.result active.result mark.result going.result unread.result fewer.result wanted.result
+    (proposes_by a.s.now a.at a.n a.left a.running a.by.now c.settle.new.0 stop.result active.result mark.result going.result unread.result fewer.result wanted.result
     changed.result h.result stop.ensures mark.ensures going.ensures unread.ensures fewer.ensures wanted.ensures h.ensures changed.ensures c.settle.ensures)
 
 pub propose-spec : {M : Type 1} → statement M

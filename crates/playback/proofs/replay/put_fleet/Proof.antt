@@ -5,18 +5,18 @@ use native.Mathlib.Omega.{arith}
 use borrow.Author.Rules.{rules}
 use lib.ListN.{length-set}
 use Rattle.basics.specs.Lists.{filled}
-use Rattle.basics.proofs.Laws.{first-none, fill-length}
+use Rattle.basics.proofs.Laws.{first-none, fill_length}
 use Rattle.protocol.specs.declared.Truck.{Truck}
 use Rattle.protocol.specs.Rules.{opened}
-use Rattle.counters.proofs.Counts.{in-use-most}
-use Rattle.recordbytes.specs.Layout.{size_for, recordByte}
-use Rattle.playback.specs.Standing.{builtBy, fleetBy}
-use Rattle.playback.proofs.Put.{heard-most, built-is, Puts, puts-more, puts-all}
+use Rattle.counters.proofs.Counts.{in_use_most}
+use Rattle.recordbytes.specs.Layout.{size_for, record_byte}
+use Rattle.playback.specs.Standing.{built_by, fleet_by}
+use Rattle.playback.proofs.Put.{heard-most, built_is, Puts, puts_more, puts-all}
 use Rattle.playback.proofs.replay.put_fleet.Statement.{statement}
 use Rattle.playback.proofs.replay.put_fleet.Tie as tie
 
 abbrev invariant-loop : tie.invariant-loop
-invariant-loop openings b by ends sent d₀ n m i₀ d i = (i ≤ n) × (n ≤ 32) × Puts (builtBy openings b by ends sent) 0 n d₀ i d
+invariant-loop openings b by ends sent d₀ n m i₀ d i = (i ≤ n) × (n ≤ 32) × Puts (built_by openings b by ends sent) 0 n d₀ i d
 
 abbrev decreases-loop : tie.decreases-loop
 decreases-loop openings b by ends sent d₀ n m i₀ d i = n - i
@@ -40,7 +40,7 @@ sent-at-requires : tie.Need-sent-at-requires invariant-loop decreases-loop invar
 sent-at-requires c κs =
     let u = c.before.before.before.before.before.before.in_use in
     let a = c.before.before.before.before.before.before.before.before.before.before.before.args in
-    (omega (arith, u.ensures, in-use-most a.sent.now 8), omega arith)
+    (omega (arith, u.ensures, in_use_most a.sent.now 8), omega arith)
 
 truck-of-requires : tie.Need-truck-of-requires invariant-loop decreases-loop invariant-loop2 decreases-loop2
 truck-of-requires c κs = (omega arith, heard-most _ _ c.before.before.before.first-heard.ensures)
@@ -55,8 +55,8 @@ loop-again c =
     let p = c.before.before.put_in in (
       omega (arith, n.loop-test.true),
       l.invariant.1,
-      puts-more (builtBy a.openings.now a.b a.by.now a.ends.now a.sent.now) 0 _ _ l.i l.d l.invariant.2 (omega arith) n.loop-test.true l.invariant.1 t.result p.new.0
-          (built-is a.openings.now a.b a.by.now a.ends.now a.sent.now l.i _ _ _ _ _ (omega (arith, n.loop-test.true, l.invariant.1))
+      puts_more (built_by a.openings.now a.b a.by.now a.ends.now a.sent.now) 0 _ _ l.i l.d l.invariant.2 (omega arith) n.loop-test.true l.invariant.1 t.result p.new.0
+          (built_is a.openings.now a.b a.by.now a.ends.now a.sent.now l.i _ _ _ _ _ (omega (arith, n.loop-test.true, l.invariant.1))
           c.before.before.before.before.before.before.before.before.before.only.ensures c.before.before.before.before.before.before.before.before.first-heard.ensures u.ensures c.before.before.before.before.before.sent-at.ensures t.ensures)
           p.ensures,
     )
@@ -71,13 +71,13 @@ loop2-again c =
     let p = c.before.before.put-in2 in (
       omega (arith, l.invariant.0),
       omega (arith, n.loop2-test.true),
-      puts-more none _ 32 _ l.i l.d l.invariant.2 l.invariant.0 (omega (arith, n.loop2-test.true)) (omega arith) c.before.before.before.before.opened.result p.new.0 c.before.before.before.before.opened.ensures p.ensures,
+      puts_more none _ 32 _ l.i l.d l.invariant.2 l.invariant.0 (omega (arith, n.loop2-test.true)) (omega arith) c.before.before.before.before.opened.result p.new.0 c.before.before.before.before.opened.ensures p.ensures,
     )
 
 -- what the bytes hold in the end
 whole : (c : tie.After-loop2 invariant-loop decreases-loop invariant-loop2 decreases-loop2)
     → let a = c.before.before.before.before.before.before.before.before.before.args in
-    c.before.loop2.d ≡ filled (recordByte (fleetBy a.c a.openings.now a.b a.by.now a.ends.now a.sent.now)) (size_for 32) a.d.now
+    c.before.loop2.d ≡ filled (record_byte (fleet_by a.c a.openings.now a.b a.by.now a.ends.now a.sent.now)) (size_for 32) a.d.now
 whole c =
     let z = c.before.before.before.before.before.before.before.before.before in
     let a = z.args in
@@ -89,7 +89,7 @@ whole c =
     l.d (rw all at l.invariant.2) k.d (rw (all, end) at k.invariant.2)
 
 same_length : tie.Need-same-length invariant-loop decreases-loop invariant-loop2 decreases-loop2
-same_length c = let z = c.before.before.before.before.before.before.before.before.before in fill-length _ z.args.d.now c.before.loop2.d (size_for 32) (whole c) (omega (arith, z.requires.1))
+same_length c = let z = c.before.before.before.before.before.before.before.before.before in fill_length _ z.args.d.now c.before.loop2.d (size_for 32) (whole c) (omega (arith, z.requires.1))
 
 pub put-fleet-spec : {M : Type 1} → statement M
 put-fleet-spec =

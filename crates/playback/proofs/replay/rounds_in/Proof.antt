@@ -4,9 +4,9 @@ use mathlib.Core.List.{List}
 use Prim.Native.Nat.{ℕ, ◌+◌}
 use native.Mathlib.Nat.{zero-add}
 use borrow.Author.Rules.{rules}
-use Rattle.recording.specs.Packed.{roundAt}
-use Rattle.protocol.specs.Rules.{twoRules}
-use Rattle.protocol.specs.Six.{sixRules}
+use Rattle.recording.specs.Packed.{round_at}
+use Rattle.protocol.specs.Rules.{two_rules}
+use Rattle.protocol.specs.Six.{six_rules}
 use Rattle.playback.specs.declared.replay.Sets.{Sets}
 use Rattle.playback.specs.Standing.{Halted}
 use Rattle.playback.proofs.Graded.{found_none}
@@ -14,20 +14,20 @@ use Rattle.playback.proofs.replay.rounds_in.Statement.{statement}
 use Rattle.playback.proofs.replay.rounds_in.Tie as tie
 
 -- the rounds are counted from 0
-ended : (s : List ℕ) (rounds : ℕ) (by ends sent : List ℕ) (b : Sets) → Halted twoRules (roundAt s) s (0 + rounds) by ends sent 0 b → Halted twoRules (roundAt s) s rounds by ends sent 0 b
-ended s rounds by ends sent b h = subst (λ (k : ℕ). Halted twoRules (roundAt s) s k by ends sent 0 b) (zero-add rounds) h
+ended : (s : List ℕ) (rounds : ℕ) (by ends sent : List ℕ) (b : Sets) → Halted two_rules (round_at s) s (0 + rounds) by ends sent 0 b → Halted two_rules (round_at s) s rounds by ends sent 0 b
+ended s rounds by ends sent b h = subst (λ (k : ℕ). Halted two_rules (round_at s) s k by ends sent 0 b) (zero-add rounds) h
 
 proposals-requires : tie.Need-proposals-requires
 proposals-requires c κs =
     let z = c.before.before.before.before.before.before.before in
     let s = z.args.s.now in
-    (rw c.before.before.before.before.enum_told.given.1 at z.requires.0, (refl, found_none twoRules (roundAt s) s z.args.judging z.args.found.now z.requires.1.1))
+    (rw c.before.before.before.before.enum_told.given.1 at z.requires.0, (refl, found_none two_rules (round_at s) s z.args.judging z.args.found.now z.requires.1.1))
 
 six-rounds-requires : tie.Need-six-rounds-requires
 six-rounds-requires c κs =
     let z = c.before.before.before.before.before.before in
     let s = z.args.s.now in
-    (rw (c.before.before.before.enum-told2.given.1, z.requires.1.0) at z.requires.0, found_none sixRules (roundAt s) s z.args.judging z.args.found.now z.requires.1.1)
+    (rw (c.before.before.before.enum-told2.given.1, z.requires.1.0) at z.requires.0, found_none six_rules (round_at s) s z.args.judging z.args.found.now z.requires.1.1)
 
 returns : tie.Need-returns
 returns c =

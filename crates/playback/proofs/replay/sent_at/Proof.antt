@@ -4,8 +4,8 @@ use Prim.Native.Nat.{ℕ, ◌+◌, ◌-◌, ◌≤◌}
 use native.Mathlib.Omega.{arith}
 use borrow.Author.Rules.{rules}
 use Rattle.counters.specs.Counters.{tally}
-use Rattle.playback.specs.Standing.{sentBy}
-use Rattle.playback.proofs.Pairs.{pair_of, pair-next, pair_lt, pair-low, pair-high}
+use Rattle.playback.specs.Standing.{sent_by}
+use Rattle.playback.proofs.Pairs.{pair_of, pair_next, pair_lt, pair_low, pair_high}
 use Rattle.playback.proofs.replay.sent_at.Statement.{statement}
 use Rattle.playback.proofs.replay.sent_at.Tie as tie
 
@@ -26,7 +26,7 @@ loop-again : tie.Need-loop-preserved invariant-loop decreases-loop
 loop-again c =
     let l = c.before.before.loop in
     let a = c.before.before.before.args in
-    (omega (arith, c.before.loop-test.true), pair-next a.words.now l.both l.i a.p (below c.before) l.invariant.1)
+    (omega (arith, c.before.loop-test.true), pair_next a.words.now l.both l.i a.p (below c.before) l.invariant.1)
 
 add-both : tie.Need-overflow-add-both invariant-loop decreases-loop
 add-both c =
@@ -38,13 +38,13 @@ proposals-fit : tie.Need-overflow-cast-t17 invariant-loop decreases-loop
 proposals-fit c =
     let l = c.before.loop in
     let s = c.before.before in
-    record { fits = (pair-low s.args.words.now l.both l.i s.args.p (omega (arith, l.invariant.0, s.requires.0)) l.invariant.1).0 }
+    record { fits = (pair_low s.args.words.now l.both l.i s.args.p (omega (arith, l.invariant.0, s.requires.0)) l.invariant.1).0 }
 
 vetoes-fit : tie.Need-overflow-cast-t19 invariant-loop decreases-loop
 vetoes-fit c =
     let l = c.before.loop in
     let s = c.before.before in
-    record { fits = (pair-high s.args.words.now l.both l.i s.args.p (omega (arith, l.invariant.0, s.requires.0)) l.invariant.1).0 }
+    record { fits = (pair_high s.args.words.now l.both l.i s.args.p (omega (arith, l.invariant.0, s.requires.0)) l.invariant.1).0 }
 
 returns : tie.Need-returns invariant-loop decreases-loop
 returns c =
@@ -53,9 +53,9 @@ returns c =
     let most : l.i ≤ 8 = omega (arith, l.invariant.0, s.requires.0) in
     let all : l.i ≡ s.args.m = omega (arith, l.invariant.0, c.loop-test.false) in
     ap₂ (λ (x y : ℕ). record { proposals = x; vetoes = y })
-    (pair-low s.args.words.now l.both l.i s.args.p most l.invariant.1).1
-    (pair-high s.args.words.now l.both l.i s.args.p most l.invariant.1).1
-    ∙ ap (λ (k : ℕ). sentBy s.args.words.now k s.args.p) all
+    (pair_low s.args.words.now l.both l.i s.args.p most l.invariant.1).1
+    (pair_high s.args.words.now l.both l.i s.args.p most l.invariant.1).1
+    ∙ ap (λ (k : ℕ). sent_by s.args.words.now k s.args.p) all
 
 pub sent-at-spec : {M : Type 1} → statement M
 sent-at-spec =

@@ -3,7 +3,7 @@ use mathlib.Core.Logic.{⊎_elim}
 use Prim.Native.Nat.{ℕ, ◌+◌, ◌*◌}
 use borrow.Author.Rules.{rules}
 use lib.Bits.{bit_and, bit_or}
-use Rattle.playback.proofs.Rounded.{none-asked, as-asked, vetoes-by}
+use Rattle.playback.proofs.Rounded.{none_asked, as_asked, vetoes_by}
 use Rattle.playback.proofs.replay.veto.Statement.{statement}
 use Rattle.playback.proofs.replay.veto.Tie as tie
 
@@ -18,11 +18,11 @@ returns c =
     let m = c.before.if1 in
     let senders : ℕ = bit_and going.result (bit_or a.marked a.several) in
     let rows : ℕ = a.at + 3 * a.n in
-    vetoes-by a.s.now a.at a.n a.running a.marked a.one a.several stop.result mark.result going.result may.result m.some
+    vetoes_by a.s.now a.at a.n a.running a.marked a.one a.several stop.result mark.result going.result may.result m.some
     z.ranges.running.fits stop.ensures mark.ensures going.ensures may.ensures
     (⊎_elim
-    (λ x. none-asked a.s.now rows a.n senders may.result x.0.taken x.1)
-    (λ x. as-asked a.s.now rows a.n senders may.result x.2 x.1.ensures)
+    (λ x. none_asked a.s.now rows a.n senders may.result x.0.taken x.1)
+    (λ x. as_asked a.s.now rows a.n senders may.result x.2 x.1.ensures)
     m.branch)
 
 pub veto-spec : {M : Type 1} → statement M

@@ -1,6 +1,6 @@
 -- `accept` meets its contract.
 use borrow.Author.Rules.{rules}
-use Rattle.playback.proofs.Rounded.{accepts-by}
+use Rattle.playback.proofs.Rounded.{accepts_by}
 use Rattle.playback.proofs.six.accept.Statement.{statement}
 use Rattle.playback.proofs.six.accept.Tie as tie
 
@@ -12,7 +12,7 @@ returns c =
     let going = c.before.before.without in
     let may = c.before.without2 in
     let some = c.hearing-some in
-    accepts-by a.s.now a.at a.n a.running a.unwilling stop.result mark.result going.result may.result some.result
+    accepts_by a.s.now a.at a.n a.running a.unwilling stop.result mark.result going.result may.result some.result
     stop.ensures mark.ensures going.ensures may.ensures some.ensures
 
 pub accept-spec : {M : Type 1} → statement M

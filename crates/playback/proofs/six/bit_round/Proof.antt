@@ -1,6 +1,6 @@
 -- `bit_round` meets its contract.
 use borrow.Author.Rules.{rules}
-use Rattle.playback.proofs.Rounded.{listens-by}
+use Rattle.playback.proofs.Rounded.{listens_by}
 use Rattle.playback.proofs.six.bit_round.Statement.{statement}
 use Rattle.playback.proofs.six.bit_round.Tie as tie
 
@@ -15,7 +15,7 @@ returns c =
     let unmarked = c.before.before.without3 in
     let asked = c.before.listeners in
     let some = c.hearing-some in
-    listens-by a.s.now a.at a.n a.b a.running a.unwilling a.by.now stop.result mark.result going.result shown.result quiet.result unmarked.result asked.result some.result
+    listens_by a.s.now a.at a.n a.b a.running a.unwilling a.by.now stop.result mark.result going.result shown.result quiet.result unmarked.result asked.result some.result
     stop.ensures mark.ensures going.ensures shown.ensures quiet.ensures unmarked.ensures asked.ensures some.ensures
 
 pub bit-round-spec : {M : Type 1} → statement M

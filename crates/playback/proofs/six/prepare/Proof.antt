@@ -1,6 +1,6 @@
 -- `prepare` meets its contract.
 use borrow.Author.Rules.{rules}
-use Rattle.playback.proofs.Rounded.{prepares-by}
+use Rattle.playback.proofs.Rounded.{prepares_by}
 use Rattle.playback.proofs.six.prepare.Statement.{statement}
 use Rattle.playback.proofs.six.prepare.Tie as tie
 
@@ -14,7 +14,7 @@ returns c =
     let unmarked = c.before.before.before.before.before.before.before.without2 in
     let wanted = c.before.before.before.before.before.before.listeners in
     let h = c.before.before.before.before.least-heard in
-    prepares-by a.s.now a.at a.n a.running a.by.now c.settle.new.0 stop.result active.result mark.result going.result unmarked.result wanted.result h.result
+    prepares_by a.s.now a.at a.n a.running a.by.now c.settle.new.0 stop.result active.result mark.result going.result unmarked.result wanted.result h.result
     stop.ensures active.ensures mark.ensures going.ensures unmarked.ensures wanted.ensures h.ensures c.settle.ensures
 
 pub prepare-spec : {M : Type 1} → statement M

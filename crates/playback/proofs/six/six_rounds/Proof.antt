@@ -4,18 +4,18 @@ use Prim.Native.Nat.{ℕ, ◌+◌, ◌-◌, ◌≤◌}
 use native.Mathlib.Omega.{arith}
 use borrow.Author.Rules.{rules}
 use lib.ListN.{replicate}
-use Rattle.recording.specs.Packed.{roundAt}
-use Rattle.protocol.specs.Six.{sixRules}
+use Rattle.recording.specs.Packed.{round_at}
+use Rattle.protocol.specs.Six.{six_rules}
 use Rattle.playback.specs.Replays.{FoundAfter}
 use Rattle.playback.specs.Standing.{Due}
 use Rattle.playback.proofs.Halts.{due-room}
-use Rattle.playback.proofs.HaltsSix.{on_test, six-next, six-graded, six-halts}
+use Rattle.playback.proofs.HaltsSix.{on_test, six-next, six-graded, six_halts}
 use Rattle.playback.proofs.six.six_rounds.Statement.{statement}
 use Rattle.playback.proofs.six.six_rounds.Tie as tie
 
 abbrev invariant-loop : tie.invariant-loop
 invariant-loop s first n rounds by₀ ends₀ found₀ all judging at₀ k₀ running₀ decided₀ unwilling₀ by ends found at k running decided unwilling =
-    (k ≤ rounds) × (Due sixRules (roundAt s) s at n (rounds - k) k by ends (replicate 8 0) running decided 0 0 0 unwilling 0 × FoundAfter sixRules (roundAt s) s judging k found)
+    (k ≤ rounds) × (Due six_rules (round_at s) s at n (rounds - k) k by ends (replicate 8 0) running decided 0 0 0 unwilling 0 × FoundAfter six_rules (round_at s) s judging k found)
 
 abbrev decreases-loop : tie.decreases-loop
 decreases-loop s first n rounds by₀ ends₀ found₀ all judging at₀ k₀ running₀ decided₀ unwilling₀ by ends found at k running decided unwilling = rounds - k
@@ -23,7 +23,7 @@ decreases-loop s first n rounds by₀ ends₀ found₀ all judging at₀ k₀ ru
 loop-holds : tie.Need-loop-init invariant-loop decreases-loop
 loop-holds c =
     let p = c.before.requires in
-    (search rules, (subst (λ (x : ℕ). Due sixRules (roundAt c.before.args.s.now) c.before.args.s.now c.before.args.first c.before.args.n x 0 c.before.args.by.now c.before.args.ends.now (replicate 8 0) c.before.args.all 0 0 0 0 0 0) (let e : c.before.args.rounds ≡ c.before.args.rounds - 0 = omega arith in e) p.0, p.1))
+    (search rules, (subst (λ (x : ℕ). Due six_rules (round_at c.before.args.s.now) c.before.args.s.now c.before.args.first c.before.args.n x 0 c.before.args.by.now c.before.args.ends.now (replicate 8 0) c.before.args.all 0 0 0 0 0 0) (let e : c.before.args.rounds ≡ c.before.args.rounds - 0 = omega arith in e) p.0, p.1))
 
 six-round-requires : tie.Need-six-round-requires invariant-loop decreases-loop
 six-round-requires c κs =
@@ -126,7 +126,7 @@ returns : tie.Need-returns invariant-loop decreases-loop
 returns c =
     let l = c.before.loop in
     let a = c.before.before.before.args in
-    (six-halts l.invariant.1.0 a.rounds l.invariant.0 refl c.loop-test.false, l.invariant.1.1)
+    (six_halts l.invariant.1.0 a.rounds l.invariant.0 refl c.loop-test.false, l.invariant.1.1)
 
 pub six-rounds-spec : {M : Type 1} → statement M
 six-rounds-spec =

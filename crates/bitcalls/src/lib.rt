@@ -1,9 +1,11 @@
 // The bit reader for tests in other languages. It is no part of the library that is handed out.
+#![tactic(auto)]
+
 ghost use Rattle.std.specs.Prelude.{◌≡◌};
 ghost use Rattle.bitreader.specs.Bits.{bit_at, num_at, row_at, bits_read, place_after};
 
 // What a reader read, and the place of its next bit.
-#[derive(Drop)]
+#[derive(Clone, Copy)]
 struct Taken {
     value: u32,
     next: usize,

@@ -1,4 +1,6 @@
 // Numbers of up to 32 bits at any place of a slice of bytes, by a reader and on plain parameters.
+#![tactic(auto)]
+
 ghost use Rattle.std.specs.Prelude.{◌≡◌, ◌+◌, ◌*◌, ◌-◌, ◌<◌, ◌≤◌, ◌^◌, ◌/◌, ◌%◌, get_or, length};
 ghost use Rattle.bitreader.specs.Bits.{bit_at, num_at, row_at, bits_read, place_after, mirrored, moved_by};
 ghost use Rattle.bitreader.specs.Ways.{bytes_from, EightRemain, by_eight, by_bytes};

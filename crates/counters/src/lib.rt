@@ -1,5 +1,7 @@
 // 64 counts at once, by binary digits: word i holds digit i of each count, and bit p of a word belongs to the count at place p. A round adds to the counts of
 // its senders without touching the others, and by whole words.
+#![tactic(auto)]
+
 ghost use Rattle.std.specs.Prelude.{◌≡◌};
 ghost use Rattle.counters.specs.Counters.{counted_up, in_use};
 

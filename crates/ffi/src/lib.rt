@@ -1,5 +1,7 @@
 // The library for callers in other languages: functions on numbers and slices. A slice is passed as a pointer and then a length.
 // Each answers the papers' number of the refusal, or 0; a refusal changes nothing that was lent. What refusal 6 names besides is asked for by the last three.
+#![tactic(auto)]
+
 ghost use Rattle.std.specs.Prelude.{◌≡◌, [], ◌∷◌, false, min, get_or};
 ghost use Rattle.refusals.specs.Numbers.{number_of, outcome_number};
 ghost use Rattle.refusals.specs.Locations.{outcome_location, location_number};

@@ -1,4 +1,6 @@
 // Fleets of trucks: started, stepped, run through a recording, and graded.
+#![tactic(auto)]
+
 ghost use Rattle.std.specs.Prelude.{◌≡◌};
 ghost use Rattle.protocol.specs.Fleets.{chosen, step_check_in, stepped_in, stepped};
 ghost use Rattle.fleet.specs.Bytes.{bytes_check_in, bytes_step_in};

@@ -14,7 +14,7 @@ use protocol::{Cycle, Fleet, Truck};
 use truck::Event;
 
 // What a round of a cycle is for; a bit round has what its bit is worth.
-#[derive(Drop)]
+#[derive(Clone, Copy)]
 pub enum Phase {
     Proposals,
     Vetoes,

@@ -1,4 +1,6 @@
 // Fleet records: the blank one, a fleet that starts, and what refusal 7 asks of a record.
+#![tactic(auto)]
+
 ghost use Rattle.std.specs.Prelude.{◌&&◌, ◌≡◌, ◌≤◌, length};
 ghost use Rattle.refusals.specs.declared.Outcome.TheVariants.{Refused};
 ghost use Rattle.protocol.specs.declared.State.TheVariants.{Running};

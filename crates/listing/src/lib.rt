@@ -1,4 +1,6 @@
 // The text that is printed for a recording, in a lent buffer.
+#![tactic(auto)]
+
 ghost use Rattle.std.specs.Prelude.{◌≡◌, ◌∷◌, [], ◌+◌, ◌<◌, ◌≤◌, length};
 ghost use Rattle.basics.specs.Lists.{sum_below};
 ghost use Rattle.protocol.specs.Rules.{truck};
@@ -10,14 +12,14 @@ use protocol::{Fleet, State, Truck};
 use refusals::{Location, Outcome, Refusal};
 
 // A text of so many bytes in the lent buffer, or why there is none.
-#[derive(Drop)]
+#[derive(Clone, Copy)]
 pub enum Listed {
     Text(usize),
     Refused(Refusal),
 }
 
 // How many proposals and vetoes several trucks sent together.
-#[derive(Drop)]
+#[derive(Clone, Copy)]
 struct Totals {
     proposals: u16,
     vetoes: u16,

@@ -1,4 +1,6 @@
 // The panel in the crusher hut: two-round runs by active bits, of few trucks and rounds, each by way of the desk's run.
+#![tactic(auto)]
+
 ghost use Rattle.std.specs.Prelude.{◌≡◌};
 ghost use Rattle.refusals.specs.Outcomes.{and_then};
 ghost use Rattle.recording.specs.Checks.{check_of};

@@ -1,4 +1,6 @@
 // Recordings in plain form: a byte for each opening and 3 + n words of 32 bits for each round.
+#![tactic(auto)]
+
 ghost use Rattle.std.specs.Prelude.{◌≡◌, false, List, ◌+◌, ◌*◌, ◌-◌, ◌<◌, ◌≤◌, ◌^◌, ◌/◌, ◌%◌, min, ℕ, length, get_or};
 ghost use Rattle.refusals.specs.declared.Outcome.TheVariants.{Accepted};
 ghost use Rattle.basics.specs.Bits.{bit};
@@ -11,14 +13,14 @@ ghost use Rattle.plain.specs.Steps.{swapped, gathered_word, turned_word, over, b
 use refusals::{Outcome, Refusal};
 
 // What reading to plain form answers.
-#[derive(Drop)]
+#[derive(Clone, Copy)]
 pub enum ReadOutcome {
     Plain { trucks: u8, rounds: u16 },
     Refused(Refusal),
 }
 
 // What writing answers.
-#[derive(Drop)]
+#[derive(Clone, Copy)]
 pub enum WriteOutcome {
     Bytes(usize),
     Refused(Refusal),
@@ -234,7 +236,7 @@ pub fn read(s: &[u8], openings: &mut [u8], words: &mut [u32]) -> ReadOutcome
 
 // The digits that are not put out yet, the lowest `have` of `acc`, and the place of the byte that they begin. What was put out stays in `acc` above them:
 // to cut it off takes time.
-#[derive(Drop)]
+#[derive(Clone, Copy)]
 struct Pending {
     acc: u64,
     have: usize,

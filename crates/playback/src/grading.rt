@@ -11,7 +11,7 @@ use crate::replay::listeners;
 use protocol::Grades;
 
 // Who missed a message, who of them heard none, and who of them no majority.
-#[derive(Drop)]
+#[derive(Clone, Copy)]
 pub struct Missed {
     pub some: u32,
     pub all: u32,

@@ -30,7 +30,7 @@ pub(crate) fn first_heard(by: &[u32; 16], heard: u32, from: usize) -> usize
 }
 
 // How many different values were heard, and the least of them.
-#[derive(Drop)]
+#[derive(Clone, Copy)]
 pub struct Values {
     pub heard: Heard,
     pub least: u8,

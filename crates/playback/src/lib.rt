@@ -1,4 +1,6 @@
 // Recordings run and graded from their bytes, by sets of trucks.
+#![tactic(auto)]
+
 ghost use Rattle.std.specs.Prelude.{◌≡◌};
 ghost use Rattle.protocol.specs.Fleets.{chosen, ran_in, graded_in, ran, graded};
 ghost use Rattle.playback.specs.Bytes.{run_check_in, run_bytes_in};

@@ -10,7 +10,7 @@ ghost use Rattle.playback.specs.Listens.{row_from, heard_from, some_value, settl
 use crate::hearing::{first_heard, heard_by};
 
 // Who heard one value, who several, and who of them is to take each crusher.
-#[derive(Drop)]
+#[derive(Clone, Copy)]
 pub struct Hearing {
     pub one: u32,
     pub several: u32,
@@ -59,7 +59,7 @@ pub(crate) fn hear(
 }
 
 // Who heard a value, and who of them is to take each crusher.
-#[derive(Drop)]
+#[derive(Clone, Copy)]
 pub struct Taking {
     pub changed: u32,
     pub taking: [u32; 16],

@@ -22,7 +22,7 @@ use protocol::{Cycle, Fleet, Grades, Heard, Sent, State, Truck};
 use recording::Counts;
 
 // Those that go on after a proposal round's stops, its senders and marks, and who heard one value and who several.
-#[derive(Drop)]
+#[derive(Clone, Copy)]
 pub struct Proposed {
     pub going: u32,
     pub senders: u32,
@@ -32,7 +32,7 @@ pub struct Proposed {
 }
 
 // Those that go on after a veto round's stops, its senders and marks, those that run on after it, and those that decided in it.
-#[derive(Drop)]
+#[derive(Clone, Copy)]
 pub struct Vetoed {
     pub going: u32,
     pub senders: u32,
@@ -42,7 +42,7 @@ pub struct Vetoed {
 }
 
 // How the trucks stand after some rounds.
-#[derive(Drop)]
+#[derive(Clone, Copy)]
 pub struct Sets {
     pub running: u32,
     pub decided: u32,
@@ -54,14 +54,14 @@ pub struct Sets {
 }
 
 // The header's counts, and the set of all trucks.
-#[derive(Drop)]
+#[derive(Clone, Copy)]
 pub struct Begun {
     pub counts: Counts,
     pub all: u32,
 }
 
 // What a run has come to.
-#[derive(Drop)]
+#[derive(Clone, Copy)]
 pub struct Course {
     pub counts: Counts,
     pub sets: Sets,

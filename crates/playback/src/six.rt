@@ -12,7 +12,7 @@ use crate::listening::{hearing_some, least_heard, settle};
 use crate::replay::{Sets, ended, listeners};
 
 // Those that go on after a round's stops, its senders and marks, those that run on after it, those that decided in it, and those that are unwilling then.
-#[derive(Drop)]
+#[derive(Clone, Copy)]
 pub struct Played {
     pub going: u32,
     pub senders: u32,

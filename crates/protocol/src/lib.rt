@@ -1,18 +1,20 @@
 // The fleet record and the answers about it. specs/ has the rules of a round, runs, steps and the claim for any cycle of rounds, with document 01's
 // two-round protocol and the six-round one of document 02, F-4, as instances; proofs/Demand3 and proofs/SixDemand have the theorems about whole lists of steps
 // and whole runs. There is no code here.
+#![tactic(auto)]
+
 use refusals::{Outcome, Refusal};
 
 // The cycle of rounds by which a fleet is stepped, or a recording run and graded: proposals and vetoes (document 01), or prepare, four bit rounds and accept
 // (document 02, F-4).
-#[derive(Drop)]
+#[derive(Clone, Copy)]
 pub enum Cycle {
     TwoRound,
     SixRound,
 }
 
 // How many different values a truck heard in the proposal round.
-#[derive(Drop)]
+#[derive(Clone, Copy)]
 pub enum Heard {
     Nothing,
     One,
@@ -20,7 +22,7 @@ pub enum Heard {
 }
 
 // A decided truck's crusher is its estimate; the number is the round of the stop or the decision.
-#[derive(Drop)]
+#[derive(Clone, Copy)]
 pub enum State {
     Running,
     Stopped(u16),
@@ -28,7 +30,7 @@ pub enum State {
 }
 
 // How many messages of each kind a truck has sent. There are at most 200 rounds of each kind, so a byte holds a count.
-#[derive(Drop)]
+#[derive(Clone, Copy)]
 pub struct Sent {
     pub proposals: u8,
     pub vetoes: u8,
@@ -36,7 +38,7 @@ pub struct Sent {
 
 // One truck: its opening and present estimate; what it heard in the proposal round before: whether it had a mark, and how many values; whether it is unwilling
 // in the six-round cycle; its state; and how much it has sent. The memory and what it has sent are the two-round cycle's, willingness is the six-round cycle's.
-#[derive(Drop)]
+#[derive(Clone, Copy)]
 pub struct Truck {
     pub opening: u8,
     pub estimate: u8,
@@ -48,7 +50,7 @@ pub struct Truck {
 }
 
 // A fleet of n trucks with some rounds done. Places n and above of the array hold no truck of the fleet.
-#[derive(Drop)]
+#[derive(Clone, Copy)]
 pub struct Fleet {
     pub n: u8,
     pub done: u16,
@@ -56,14 +58,14 @@ pub struct Fleet {
 }
 
 // What starting, stepping and running a fleet answer.
-#[derive(Drop)]
+#[derive(Clone, Copy)]
 pub struct Answer {
     pub outcome: Outcome,
     pub fleet: Fleet,
 }
 
 // For each class of marks the first round that breaks it, or 0.
-#[derive(Drop)]
+#[derive(Clone, Copy)]
 pub struct Grades {
     pub complete: u16,
     pub majority: u16,
@@ -72,7 +74,7 @@ pub struct Grades {
 }
 
 // What grading a recording answers.
-#[derive(Drop)]
+#[derive(Clone, Copy)]
 pub enum Grading {
     Graded(Grades),
     Refused(Refusal),

@@ -1,5 +1,7 @@
 // Steps of a whole record, each truck brought up to date where it stands, for tests in other languages: the bytes are taken for a record, and the record is put
 // back. It is no part of the library that is handed out, whose steps go from bytes to bytes; both have the same contracts.
+#![tactic(auto)]
+
 ghost use Rattle.std.specs.Prelude.{◌≡◌, [], ◌∷◌};
 ghost use Rattle.refusals.specs.Numbers.{outcome_number};
 ghost use Rattle.protocol.specs.Fleets.{six_round, chosen, stepped_in};

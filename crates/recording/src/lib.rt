@@ -1,4 +1,6 @@
 // A packed recording: the counts of its header, its openings, and the check 1 to 6 that reading, running and grading share.
+#![tactic(auto)]
+
 ghost use Rattle.std.specs.Prelude.{◌≡◌, not, ℕ, ◌+◌, ◌*◌, ◌-◌, ◌%◌, ◌<◌, ◌≤◌, ◌^◌, min, eqb, length, get_or, replicate};
 ghost use Rattle.std.specs.Int.Bits.{bit_and};
 ghost use Rattle.basics.specs.Lists.{first, some_below};
@@ -11,7 +13,7 @@ use refusals::{Outcome, Refusal};
 pub const HEADER_BITS: usize = 16;
 
 // The header's truck count and round count.
-#[derive(Drop)]
+#[derive(Clone, Copy)]
 pub struct Counts {
     pub trucks: u8,
     pub rounds: u16,

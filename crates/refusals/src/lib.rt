@@ -1,9 +1,11 @@
 // Why an input is refused. The papers number these conditions; `number_of` in specs/ holds their numbers.
+#![tactic(auto)]
+
 ghost use Rattle.std.specs.Prelude.{◌≡◌};
 ghost use Rattle.refusals.specs.Numbers.{number_of, outcome_number};
 ghost use Rattle.refusals.specs.Locations.{location_of, outcome_location, location_number};
 
-#[derive(Drop)]
+#[derive(Clone, Copy)]
 pub enum Refusal {
     // Whoever made the recording.
     ShortRecording,
@@ -30,14 +32,14 @@ pub enum Refusal {
 }
 
 // Where in a recording the cause of a refusal stands, of a refusal that names it.
-#[derive(Drop)]
+#[derive(Clone, Copy)]
 pub enum Location {
     Unnamed,
     At { round: u16, truck: u8 },
 }
 
 // What a check of an input finds.
-#[derive(Drop)]
+#[derive(Clone, Copy)]
 pub enum Outcome {
     Accepted,
     Refused(Refusal),

@@ -1,4 +1,6 @@
 // Reads a recording from standard input and prints its listing, or the line of its refusal. What fails in between is said on standard error.
+#![tactic(auto)]
+
 ghost use Rattle.std.specs.Prelude.{◌≡◌, ◌≤◌, length, take};
 ghost use Rattle.listing.specs.Text.{printed, refusal_text};
 ghost use Rattle.listing.specs.Program.{longest_listing, input_limit};
@@ -7,7 +9,7 @@ ghost use Rattle.replay.specs.Input.{bytes_read};
 use listing::Listed;
 
 // Standard input as it was read: so many bytes of the buffer, or a read that failed.
-#[derive(Drop)]
+#[derive(Clone, Copy)]
 enum Input {
     Bytes(usize),
     Failed,

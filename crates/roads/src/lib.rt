@@ -1,5 +1,7 @@
 // The opening crusher (document 01, and F-2 of document 02): the road of least exact time. The code chooses by float estimates,
 // whose order is proved to be that of the exact fractions.
+#![tactic(auto)]
+
 ghost use Rattle.std.specs.Prelude.{◌≡◌, ◌≤◌, length};
 ghost use Rattle.roads.specs.Estimates.{leg_of, estimate_of};
 ghost use Rattle.roads.specs.Opening.{bad_lists, seconds_above, no_time, opening_of};
@@ -8,7 +10,7 @@ ghost use Rattle.roads.specs.Choice.{better_of, chosen_below, estimate_at};
 use refusals::Refusal;
 
 // A road's leg.
-#[derive(Drop)]
+#[derive(Clone, Copy)]
 pub struct Leg {
     pub length: f64,
     pub metres: f64,
@@ -17,21 +19,21 @@ pub struct Leg {
 
 // A road's estimate: the seconds that it takes, or that it is passed over, being idle and longer than 0. There is no quotient by 0
 // metres.
-#[derive(Drop)]
+#[derive(Clone, Copy)]
 pub enum Estimate {
     Seconds(f64),
     Idle,
 }
 
 // The opening crusher, or why the road lists give none.
-#[derive(Drop)]
+#[derive(Clone, Copy)]
 pub enum Opening {
     Crusher(u8),
     Refused(Refusal),
 }
 
 // The road chosen so far, with its estimate.
-#[derive(Drop)]
+#[derive(Clone, Copy)]
 enum Fastest {
     Road(u8, f64),
     NoRoad,

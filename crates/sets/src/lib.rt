@@ -1,4 +1,6 @@
 // Sets of trucks, held in a word of 32 bits: bit i says whether truck i is in the set.
+#![tactic(auto)]
+
 ghost use Rattle.std.specs.Prelude.{◌≡◌, true, cond, ◌<◌, ◌^◌, ◌%◌};
 ghost use Rattle.std.specs.Int.Bits.{bit_or};
 ghost use Rattle.std.specs.Int.Count.{count_trailing_zeros};

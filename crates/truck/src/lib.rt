@@ -1,4 +1,6 @@
 // What a round makes of one truck: by value, and where its record stands.
+#![tactic(auto)]
+
 ghost use Rattle.std.specs.Prelude.{cond, ◌≡◌, min};
 ghost use Rattle.protocol.specs.Rules.{runs, vetoes, is_one, is_several, counted, stops, proposed, vetoed, decides};
 ghost use Rattle.protocol.specs.Six.{stops_six, after_prepare, after_bit, accepts, after_accept};
@@ -7,7 +9,7 @@ ghost use Rattle.truck.specs.Events.{adds, happened, turned, updated_first};
 use protocol::{Fleet, Heard, Sent, State, Truck};
 
 // What a round is to a running truck.
-#[derive(Drop)]
+#[derive(Clone, Copy)]
 pub enum Event {
     // In the two-round cycle: its stop bit is set.
     Stop,

@@ -1,0 +1,7 @@
+-- `rajvokshul_recording_own_loss` meets its contract: a law for each return.
+use borrow.Author.Rules.{rules}
+use Rattle.ffi.proofs.OwnLoss.{recording_own}
+use Rattle.ffi.proofs.rajvokshul_recording_own_loss.Goals as goal
+
+pub returns : goal.returns
+returns c = search recording_own

@@ -1,0 +1,34 @@
+-- `good_record` meets its contract: a law for each return.
+use mathlib.Core.Path.{◌≡◌, ap, sym, ◌∙◌}
+use Prim.Native.Nat.{ℕ}
+use native.Mathlib.Omega.{arith}
+use borrow.Author.Rules.{rules}
+use Rattle.basics.specs.Lists.{all_below}
+use Rattle.protocol.specs.Rules.{truck}
+use Rattle.protocol.specs.Fleets.{chosen, good_truck_in}
+use Rattle.fleetrecord.proofs.Records.{bad_done, good-count}
+use Rattle.recordbytes.specs.Layout.{record_of}
+use Rattle.recordbytes.proofs.Places.{bytes_whole, bytes_range, bytes-done}
+use Rattle.fleet.proofs.bytes.good_record.Goals as goal
+
+pub returns-then-done-gt400 : goal.returns-then-done-gt400
+returns-then-done-gt400 c =
+    let s = c in
+    let d = s.args.d.now in
+    sym (bad_done (chosen s.args.cycle) (record_of d) (bytes_range d s.requires) (omega (arith, c.if-done-gt400.true, c.pair-done.ensures, bytes-done d s.requires)))
+
+pub returns : goal.returns
+returns c =
+    let s = c in
+    let d = s.args.d.now in
+    let P = chosen s.args.cycle in
+    let done : c.pair-done.result ≡ (record_of d).done = c.pair-done.ensures ∙ bytes-done d s.requires in
+    c.good_places.ensures
+    ∙ ap (λ (k : ℕ). all_below (λ i. good_truck_in P k (truck (record_of d).trucks i)) (record_of d).n) done
+    ∙ sym (good-count P (record_of d) (bytes_range d s.requires) (omega (arith, c.if-done-gt400.false, done)))
+
+pub bounds-d-1 : goal.bounds-d-1
+bounds-d-1 c = omega (arith, bytes_whole c.args.d.now c.requires)
+
+pub bounds-d-2 : goal.bounds-d-2
+bounds-d-2 c = omega (arith, bytes_whole c.args.d.now c.requires)

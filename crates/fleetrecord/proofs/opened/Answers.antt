@@ -1,0 +1,6 @@
+-- `opened` meets its contract.
+use borrow.Author.Rules.{rules}
+use Rattle.fleetrecord.proofs.opened.Goals as goal
+
+pub returns : goal.returns
+returns c = rw c.running.ensures

@@ -1,0 +1,6 @@
+-- `six_memory` meets its contract.
+use borrow.Author.Rules.{rules}
+use Rattle.fleetrecord.proofs.six_memory.Goals as goal
+
+pub returns : goal.returns
+returns c = rw c.runs.ensures

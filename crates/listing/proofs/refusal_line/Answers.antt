@@ -1,0 +1,12 @@
+-- `refusal_line` meets its contract.
+use Rattle.listing.specs.Listed.{refusal_listed}
+use Rattle.listing.proofs.Laws.{put_count}
+use borrow.Author.Rules.{rules}
+use Rattle.listing.proofs.refusal_line.Goals as goal
+
+pub slice_bounds-lend_text-end : goal.slice_bounds-lend_text-end
+slice_bounds-lend_text-end c = put_count c.put_refusal-k.ensures.0
+
+pub returns : goal.returns
+unfolding refusal_listed
+returns c = rw (← c.put_refusal-k.ensures.0.front) c.lend_text.ensures

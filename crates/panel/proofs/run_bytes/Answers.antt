@@ -1,0 +1,10 @@
+-- `run_bytes` meets its contract: a law for each return.
+use borrow.Author.Rules.{rules}
+use Rattle.panel.proofs.Calls.{outcome-refused, bytes-refused, outcome_desk, bytes_desk}
+use Rattle.panel.proofs.run_bytes.Goals as goal
+
+pub returns-in-Refused : goal.returns-in-Refused
+returns-in-Refused c = (search outcome-refused, search bytes-refused)
+
+pub returns-in-Accepted : goal.returns-in-Accepted
+returns-in-Accepted c = (search outcome_desk, search bytes_desk)

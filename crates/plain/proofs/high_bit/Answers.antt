@@ -1,0 +1,10 @@
+-- `high_bit` meets its contract: a shift says what the power does, and a word of 32 bits has no bit above them.
+use borrow.Author.Rules.{rules}
+use Rattle.plain.proofs.Tests.{high_shift, high_none}
+use Rattle.plain.proofs.high_bit.Goals as goal
+
+pub returns-then-n-lt32 : goal.returns-then-n-lt32
+returns-then-n-lt32 c = high_shift c.args.n c.args.w
+
+pub returns : goal.returns
+returns c = high_none c.args.n c.args.w c.if-n-lt32.false c.ranges.w.fits

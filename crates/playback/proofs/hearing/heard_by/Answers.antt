@@ -1,0 +1,6 @@
+-- `heard_by` meets its contract.
+use borrow.Author.Rules.{rules}
+use Rattle.playback.proofs.hearing.heard_by.Goals as goal
+
+pub returns : goal.returns
+returns c = rw c.without.ensures

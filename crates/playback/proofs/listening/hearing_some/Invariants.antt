@@ -1,0 +1,24 @@
+-- `hearing_some` meets its contract.
+use mathlib.Core.Path.{ap, ◌∙◌}
+use mathlib.Core.Bool.{Bool, not}
+use mathlib.Core.List.{List}
+use Prim.Native.Nat.{ℕ}
+use native.Mathlib.Omega.{arith}
+use borrow.Author.Rules.{rules}
+use lib.Dec.{eqb}
+use Rattle.sets.specs.Sets.{without}
+use Rattle.playback.specs.Listens.{row_from}
+use Rattle.playback.proofs.Reading.{row-place}
+use Rattle.playback.proofs.Asking.{Asking, next_is, asking-starts, asking_more, asking-done}
+use Rattle.playback.proofs.listening.hearing_some.Given as goal
+
+-- `hearing_some` meets its contract.
+-- the truck at place p hears a sender
+abbrev pub hearsSome : List ℕ → ℕ → ℕ → ℕ → ℕ → Bool
+hearsSome s at n senders p = not (eqb (without senders (row_from s at n p)) 0)
+
+abbrev pub invariant-loop-left : goal.invariant-loop-left
+invariant-loop-left l = Asking l.wanted (hearsSome l.s l.at l.n l.senders) l.left l.out
+
+abbrev pub decreases-loop-left : goal.decreases-loop-left
+decreases-loop-left l = l.left

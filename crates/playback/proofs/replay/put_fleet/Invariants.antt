@@ -1,0 +1,30 @@
+-- `put_fleet` meets its contract: the first loop puts the trucks' places, the second the others.
+use mathlib.Core.Path.{◌≡◌}
+use Prim.Native.Nat.{ℕ, ◌≤◌, ◌-◌}
+use native.Mathlib.Omega.{arith}
+use borrow.Author.Rules.{rules}
+use lib.ListN.{length-set}
+use Rattle.basics.specs.Lists.{filled}
+use Rattle.basics.proofs.Laws.{first-none, fill_length}
+use Rattle.protocol.specs.declared.Truck.{Truck}
+use Rattle.protocol.specs.Rules.{opened}
+use Rattle.counters.proofs.Counts.{in_use_most}
+use Rattle.recordbytes.specs.Layout.{size_for, record_byte}
+use Rattle.playback.specs.Standing.{built_by, fleet_by}
+use Rattle.playback.proofs.Put.{heard-most, built_is, Puts, puts_more, puts-all}
+use Rattle.playback.proofs.replay.put_fleet.Given as goal
+
+abbrev pub none : ℕ → Truck
+none j = opened 0
+
+abbrev pub invariant-loop-i : goal.invariant-loop-i
+invariant-loop-i l = (l.i ≤ l.n) × (l.n ≤ 32) × Puts (built_by l.openings l.b l.by l.ends l.sent) 0 l.n l.initial.d l.i l.d
+
+abbrev pub decreases-loop-i : goal.decreases-loop-i
+decreases-loop-i l = l.n - l.i
+
+abbrev pub invariant-loop-i-2 : goal.invariant-loop-i-2
+invariant-loop-i-2 l = (l.initial.i ≤ l.i) × (l.i ≤ 32) × Puts none l.initial.i 32 l.initial.d l.i l.d
+
+abbrev pub decreases-loop-i-2 : goal.decreases-loop-i-2
+decreases-loop-i-2 l = 32 - l.i

@@ -1,0 +1,24 @@
+-- `with_bit` meets its contract: the loop holds the trucks of the crushers so far.
+use mathlib.Core.Path.{◌≡◌, refl, ap, sym, ◌∙◌}
+use mathlib.Core.Bool.{Bool, true, false, cond, ◌&&◌, ◌||◌}
+use Prim.Native.Nat.{ℕ, ◌-◌, ◌≤◌, ◌<◌}
+use native.Mathlib.Omega.{arith}
+use borrow.Author.Rules.{rules}
+use lib.Bits.{bit_or}
+use lib.ListN.{get_or}
+use mathlib.Core.List.{List}
+use Rattle.basics.specs.Bits.{bit}
+use Rattle.basics.specs.Lists.{some_below}
+use Rattle.basics.proofs.Laws.{some-none, some_more}
+use Rattle.basics.proofs.Bits.{bit-or}
+use Rattle.sets.proofs.Words.{bit-zero}
+use Rattle.playback.proofs.six.with_bit.Given as goal
+
+abbrev pub has : List ℕ → ℕ → ℕ → ℕ → Bool
+has by b p c = bit c b && bit (get_or by c 0) p
+
+abbrev pub invariant-loop-c : goal.invariant-loop-c
+invariant-loop-c l = (l.c ≤ 16) × ((p : ℕ) → p < 32 → bit l.out p ≡ some_below (has l.by l.b p) l.c)
+
+abbrev pub decreases-loop-c : goal.decreases-loop-c
+decreases-loop-c l = 16 - l.c

@@ -1,0 +1,13 @@
+-- `check` meets its contract: a law for each return.
+use borrow.Author.Rules.{rules}
+use Rattle.recordbytes.proofs.Laws.{pack_7, pack_9, pack_0}
+use Rattle.recordbytes.proofs.check.Goals as goal
+
+pub returns-then-bad_trucks : goal.returns-then-bad_trucks
+returns-then-bad_trucks c = search pack_7
+
+pub returns-then-room-lt323 : goal.returns-then-room-lt323
+returns-then-room-lt323 c = search pack_9
+
+pub returns : goal.returns
+returns c = search pack_0

@@ -1,0 +1,39 @@
+-- `put_truck` meets its contract.
+use native.Mathlib.Omega.{arith}
+use lib.ListN.{length-set}
+use borrow.Author.Rules.{rules}
+use Rattle.recordbytes.proofs.Laws.{truck-put}
+use Rattle.recordbytes.proofs.put_truck.Goals as goal
+
+pub bounds-d-at-2 : goal.bounds-d-at-2
+bounds-d-at-2 c = simp length-set (omega arith)
+
+pub bounds-d-at-3 : goal.bounds-d-at-3
+bounds-d-at-3 c = simp length-set (omega arith)
+
+pub bounds-d-at-4 : goal.bounds-d-at-4
+bounds-d-at-4 c = simp length-set (omega arith)
+
+pub bounds-d-at-5 : goal.bounds-d-at-5
+bounds-d-at-5 c = simp length-set (omega arith)
+
+pub bounds-d-at-6 : goal.bounds-d-at-6
+bounds-d-at-6 c = simp length-set (omega arith)
+
+pub bounds-d-at-7 : goal.bounds-d-at-7
+bounds-d-at-7 c = simp length-set (omega arith)
+
+pub bounds-d-at-8 : goal.bounds-d-at-8
+bounds-d-at-8 c = simp length-set (omega arith)
+
+pub bounds-d-at-9 : goal.bounds-d-at-9
+bounds-d-at-9 c = simp length-set (omega arith)
+
+pub bounds-d-at-10 : goal.bounds-d-at-10
+bounds-d-at-10 c = simp length-set (omega arith)
+
+pub shape_of-d : goal.shape_of-d
+shape_of-d c = simp length-set
+
+pub returns : goal.returns
+returns c = search truck-put

@@ -1,0 +1,16 @@
+-- `own_mask` meets its contract: the bits of the mask are those of the trucks that the loop has passed.
+use mathlib.Core.Path.{◌≡◌, ap, ◌∙◌}
+use Prim.Native.Nat.{ℕ, ◌≤◌, ◌+◌, ◌*◌, ◌-◌, ◌/◌, ◌%◌, ◌^◌}
+use native.Mathlib.Omega.{arith}
+use borrow.Author.Rules.{rules}
+use lib.Bits.{bit_or}
+use lib.ListN.{length, get_or, length-set, length-replicate}
+use Rattle.recording.proofs.Masks.{OwnMask, mask_begins, mask_more}
+use Rattle.recording.proofs.Searches.{own-near}
+use Rattle.recording.proofs.own_mask.Given as goal
+
+abbrev pub invariant-loop-marked : goal.invariant-loop-marked
+invariant-loop-marked l = (l.p ≡ l.at + l.marked * (l.n + 1)) × (l.marked ≤ l.n) × (length l.mask ≡ 136) × OwnMask l.mask l.at l.n l.marked
+
+abbrev pub decreases-loop-marked : goal.decreases-loop-marked
+decreases-loop-marked l = l.n - l.marked

@@ -1,0 +1,13 @@
+-- `main` meets its contract.
+use mathlib.Core.Path.{ap, sym}
+use native.Mathlib.Omega.{arith}
+use lib.Seq.{length-take-le}
+use Rattle.replay.specs.Input.{bytes_read}
+use borrow.Author.Rules.{rules}
+use Rattle.replay.proofs.main.Goals as goal
+
+pub slice_bounds-buf-end : goal.slice_bounds-buf-end
+slice_bounds-buf-end c = omega (arith, ap bytes_read c.in-Bytes.is, c.read_input-input.ensures)
+
+pub slice_bounds-replay-end : goal.slice_bounds-replay-end
+slice_bounds-replay-end c = sym (length-take-le _ _ (slice_bounds-buf-end c))

@@ -1,0 +1,26 @@
+-- `text_of` meets its contract: its buffer is as long as the longest listing, so that only the recording is refused, and the line of that is printed; it has room for that line.
+use mathlib.Core.Path.{◌∙◌}
+use Rattle.listing.proofs.Laws.{listed-fits}
+use Rattle.listing.proofs.Prints.{list_text, list_refused, list_room}
+use borrow.Author.Rules.{rules}
+use Rattle.replay.proofs.text_of.Goals as goal
+
+pub returns-in-Text : goal.returns-in-Text
+returns-in-Text c =
+    let l = c.list-listed in (
+      rw l.auto.1.0 (listed-fits _ _ l.new.1.0 l.result _ l.ensures c.in-Text.is),
+      list_text _ _ l.new.1.0 l.result l.ensures _ c.in-Text.is,
+    )
+
+pub returns-in-Refused : goal.returns-in-Refused
+returns-in-Refused c =
+    let l = c.list-listed in
+    let line = c.Line-of in (
+      search rules,
+      line.ensures.1 ∙ list_refused _ _ l.new.1.0 l.result l.ensures _ c.in-Refused.is (search rules),
+    )
+
+pub line_of-requires : goal.line_of-requires
+line_of-requires c =
+    let l = c.list-listed in
+    rw l.auto.1.0 (list_room _ _ l.new.1.0 l.result l.ensures _ c.in-Refused.is (search rules))

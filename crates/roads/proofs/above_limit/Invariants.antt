@@ -1,0 +1,24 @@
+-- `above_limit` meets its contract: the loop holds that no seconds passed are above the limit.
+use mathlib.Core.Path.{◌≡◌}
+use mathlib.Core.Bool.{Bool, false}
+use mathlib.Core.List.{List}
+use Prim.Native.Nat.{ℕ, ◌-◌, ◌≤◌, ◌<◌}
+use native.Mathlib.Omega.{arith}
+use lib.Dec.{ltb}
+use lib.ListN.{length, get_or}
+use borrow.Author.Rules.{rules}
+use borrow.Author.Tests.{lt-ltb, le-ltb}
+use borrow.Author.Count.{below_none, below_more}
+use Rattle.basics.proofs.Laws.{some_hit, some_end}
+use Rattle.roads.proofs.above_limit.Given as goal
+
+-- `above_limit` meets its contract: the loop holds that no seconds passed are above the limit.
+-- the seconds at k are above the limit
+abbrev pub above : List ℕ → ℕ → Bool
+above seconds k = ltb 3600 (get_or seconds k 0)
+
+abbrev pub invariant-loop-k : goal.invariant-loop-k
+invariant-loop-k l = (l.k ≤ length l.seconds) × ((i : ℕ) → i < l.k → above l.seconds i ≡ false)
+
+abbrev pub decreases-loop-k : goal.decreases-loop-k
+decreases-loop-k l = length l.seconds - l.k

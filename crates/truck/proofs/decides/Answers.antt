@@ -1,0 +1,6 @@
+-- `decides` meets its contract.
+use borrow.Author.Rules.{rules}
+use Rattle.truck.proofs.decides.Goals as goal
+
+pub returns : goal.returns
+returns c = rw c.is_one.ensures

@@ -1,0 +1,6 @@
+-- `vetoes` meets its contract.
+use borrow.Author.Rules.{rules}
+use Rattle.truck.proofs.vetoes.Goals as goal
+
+pub returns : goal.returns
+returns c = rw c.is_several.ensures

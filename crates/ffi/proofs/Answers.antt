@@ -30,28 +30,28 @@ use Rattle.listing.specs.Text.{listing_of}
 use Rattle.listing.specs.Listed.{Left, left, list_answer, listed_for, listed}
 use Rattle.listing.proofs.Prints.{left-answer}
 use Rattle.panel.specs.Panel.{panel_listed}
-use Rattle.ffi.specs.Calls.{Result, result, list_result, list_call, panel_list_call, grade_result, grade_call_in, opening_call, read_call, write_call}
+use Rattle.ffi.specs.Calls.{Result, call_result, list_result, list_call, panel_list_call, grade_result, grade_call_in, opening_call, read_call, write_call}
 use Rattle.ffi.proofs.Narrow.{narrow_write}
 
 -- ---- the opening crusher
 
 module _ (lengths metres seconds : List ℕ) (crusher : ℕ) (o : Opening) (found : o ≡ opening_of lengths metres seconds) where
-  pub opening_call_0 : (k : ℕ) → o ≡ opening.Crusher k → result 0 [] (k ∷ []) ≡ opening_call lengths metres seconds crusher
+  pub opening_call_0 : (k : ℕ) → o ≡ opening.Crusher k → call_result 0 [] (k ∷ []) ≡ opening_call lengths metres seconds crusher
   unfolding opening_call
   opening_call_0 k h = rw (← found, h)
 
-  pub opening_call_refused : (r : Refusal) (k : ℕ) → o ≡ opening.Refused r → k ≡ number_of r → result k [] (crusher ∷ []) ≡ opening_call lengths metres seconds crusher
+  pub opening_call_refused : (r : Refusal) (k : ℕ) → o ≡ opening.Refused r → k ≡ number_of r → call_result k [] (crusher ∷ []) ≡ opening_call lengths metres seconds crusher
   unfolding opening_call
   opening_call_refused r k h e = rw (e, ← found, h)
 
 -- ---- reading
 
 module _ (bytes openings words : List ℕ) (trucks rounds : ℕ) (o : ReadOutcome) (left₁ left₂ : List ℕ) (done : after_read o left₁ left₂ ≡ read_plain bytes openings words) where
-  pub read_call_0 : (n R : ℕ) → o ≡ read.Plain n R → result 0 (left₁ ∷ left₂ ∷ []) (n ∷ R ∷ []) ≡ read_call bytes openings words trucks rounds
+  pub read_call_0 : (n R : ℕ) → o ≡ read.Plain n R → call_result 0 (left₁ ∷ left₂ ∷ []) (n ∷ R ∷ []) ≡ read_call bytes openings words trucks rounds
   unfolding read_call
   read_call_0 n R h = rw (← done, h)
 
-  pub read_call_refused : (r : Refusal) (k : ℕ) → o ≡ read.Refused r → k ≡ number_of r → result k (left₁ ∷ left₂ ∷ []) (trucks ∷ rounds ∷ []) ≡ read_call bytes openings words trucks rounds
+  pub read_call_refused : (r : Refusal) (k : ℕ) → o ≡ read.Refused r → k ≡ number_of r → call_result k (left₁ ∷ left₂ ∷ []) (trucks ∷ rounds ∷ []) ≡ read_call bytes openings words trucks rounds
   unfolding read_call
   read_call_refused r k h e = rw (e, ← done, h)
 
@@ -62,26 +62,26 @@ module _ (n R m S : ℕ) (openings words bytes : List ℕ) (written : ℕ) (few 
   written_as : after_write o left₁ ≡ write_plain n R openings words bytes
   written_as = done ∙ narrow_write openings words bytes n R m S few short
 
-  pub write_call_0 : (k : ℕ) → o ≡ write.Bytes k → result 0 (left₁ ∷ []) (k ∷ []) ≡ write_call n R openings words bytes written
+  pub write_call_0 : (k : ℕ) → o ≡ write.Bytes k → call_result 0 (left₁ ∷ []) (k ∷ []) ≡ write_call n R openings words bytes written
   unfolding write_call
   write_call_0 k h = rw (← written_as, h)
 
-  pub write_call_refused : (r : Refusal) (k : ℕ) → o ≡ write.Refused r → k ≡ number_of r → result k (left₁ ∷ []) (written ∷ []) ≡ write_call n R openings words bytes written
+  pub write_call_refused : (r : Refusal) (k : ℕ) → o ≡ write.Refused r → k ≡ number_of r → call_result k (left₁ ∷ []) (written ∷ []) ≡ write_call n R openings words bytes written
   unfolding write_call
   write_call_refused r k h e = rw (e, ← written_as, h)
 
 -- ---- a recording's listing
 
 module _ (bytes text : List ℕ) (written : ℕ) (o : Listed) (left₁ : List ℕ) (k w : ℕ) (number : k ≡ (list_answer o).0) (length : w ≡ get_or (list_answer o).1 0 written) where
-  listed_as : (l : Left) → left o left₁ ≡ l → result k (left₁ ∷ []) (w ∷ []) ≡ list_result l written
+  listed_as : (l : Left) → left o left₁ ≡ l → call_result k (left₁ ∷ []) (w ∷ []) ≡ list_result l written
   listed_as l done = rw (number, length) (ap (λ (x : Left). list_result x written) done)
 
   -- the desk's, and the panel's
-  pub list_left : left o left₁ ≡ listed bytes text → result k (left₁ ∷ []) (w ∷ []) ≡ list_call bytes text written
+  pub list_left : left o left₁ ≡ listed bytes text → call_result k (left₁ ∷ []) (w ∷ []) ≡ list_call bytes text written
   unfolding list_call
   list_left done = listed_as (listed bytes text) done
 
-  pub panel_list_left : left o left₁ ≡ panel_listed bytes text → result k (left₁ ∷ []) (w ∷ []) ≡ panel_list_call bytes text written
+  pub panel_list_left : left o left₁ ≡ panel_listed bytes text → call_result k (left₁ ∷ []) (w ∷ []) ≡ panel_list_call bytes text written
   unfolding panel_list_call
   panel_list_left done = listed_as (panel_listed bytes text) done
 
@@ -106,14 +106,14 @@ four-put (x ∷ y ∷ z ∷ []) a b c e h = absurd (omega arith)
 four-put (x ∷ y ∷ z ∷ w ∷ d) a b c e h = refl
 
 module _ (grades : List ℕ) (g : Grading) where
-  pub grades-refused : (r : Refusal) (k : ℕ) → g ≡ grading.Refused r → k ≡ number_of r → result k (grades ∷ []) [] ≡ grade_result (grade_answer g) grades
+  pub grades-refused : (r : Refusal) (k : ℕ) → g ≡ grading.Refused r → k ≡ number_of r → call_result k (grades ∷ []) [] ≡ grade_result (grade_answer g) grades
   grades-refused r k h e = rw (e, h, le-ltb (length grades) 0 (omega arith))
 
-  pub grades_9 : (x : Grades) (k : ℕ) → g ≡ grading.Graded x → length grades < 4 → k ≡ number_of ShortBuffer → result k (grades ∷ []) [] ≡ grade_result (grade_answer g) grades
+  pub grades_9 : (x : Grades) (k : ℕ) → g ≡ grading.Graded x → length grades < 4 → k ≡ number_of ShortBuffer → call_result k (grades ∷ []) [] ≡ grade_result (grade_answer g) grades
   grades_9 x k h l e = rw (e, h, lt-ltb (length grades) 4 l)
 
   pub grades_0 : (x : Grades) → g ≡ grading.Graded x → 4 ≤ length grades
-      → result 0 (set (set (set (set grades 0 x.complete) 1 x.majority) 2 x.zero) 3 x.accurate ∷ []) [] ≡ grade_result (grade_answer g) grades
+      → call_result 0 (set (set (set (set grades 0 x.complete) 1 x.majority) 2 x.zero) 3 x.accurate ∷ []) [] ≡ grade_result (grade_answer g) grades
   grades_0 x h l = rw (four-put grades x.complete x.majority x.zero x.accurate l, h, le-ltb (length grades) 4 l)
 
 -- by the protocol in which the recording is graded

@@ -33,7 +33,7 @@ use Rattle.listing.specs.Listed.{Left}
 use Rattle.panel.specs.Panel.{panel_check, panel_ran, panel_listed}
 use Rattle.panel.proofs.Desk.{panel_checked, as_desk}
 use Rattle.recordbytes.specs.Layout.{size_for, record_byte, unpacked}
-use Rattle.ffi.specs.Calls.{Result, result, buffer_of, list_result, list_call, grade_result, grade_call_in, store_call, start_call, run_call_in, run_call, panel_run_call, panel_list_call}
+use Rattle.ffi.specs.Calls.{Result, call_result, buffer_of, list_result, list_call, grade_result, grade_call_in, store_call, start_call, run_call_in, run_call, panel_run_call, panel_list_call}
 use Rattle.ffi.specs.Claims.{RecordWith, bytes_of, HoldsOnBytes, SameOnBytes, DemandOnBytes, BytesDemand, SixBytesDemand, MixedBytesAgreement, BytesSentCounts}
 use Rattle.ffi.specs.Claims.{HoldsOfPanelBytes, PanelBytesDemand, grade_place, BytesAgreeByGrade}
 use Rattle.ffi.proofs.Answers.{listed-number, grades-refused}
@@ -76,12 +76,12 @@ module _ (p : Protocol) where
 
     -- the recording is run into a buffer e
     as_run_lem : (e : List ℕ) → size_for 32 ≤ length e
-        → run_call_in p (recording_of n openings steps) e ≡ result 0 (filled (λ k. get_or (bytes_of p n openings d steps) k 0) (size_for 32) e ∷ []) []
+        → run_call_in p (recording_of n openings steps) e ≡ call_result 0 (filled (λ k. get_or (bytes_of p n openings d steps) k 0) (size_for 32) e ∷ []) []
     unfolding run_call_in
     as_run_lem e fits =
         ap (λ (a : Answer). store_call a e) same.as_run
         ∙ store_whole (record { outcome = Accepted; fleet = last }) e refl fits
-        ∙ ap (λ (l : List ℕ). result 0 (l ∷ []) []) (filled_ext (record_byte last) (λ k. get_or (bytes_of p n openings d steps) k 0) (size_for 32) e (λ k l.
+        ∙ ap (λ (l : List ℕ). call_result 0 (l ∷ []) []) (filled_ext (record_byte last) (λ k. get_or (bytes_of p n openings d steps) k 0) (size_for 32) e (λ k l.
         sym (ap (λ (b : List ℕ). get_or b k 0) (bytes-laid p n openings d accepted room steps) ∙ get_or-filled (record_byte last) (size_for 32) d k 0 l)))
 
     pub same-on-bytes : SameOnBytes p n openings d steps
@@ -173,7 +173,7 @@ unfolding grade_call_in
 grade_accepted p c s d z = go (graded_in p s) z
   where
     fits : (b : Bool) (g : Grades) → let values = g.complete ∷ g.majority ∷ g.zero ∷ g.accurate ∷ drop 4 d in
-        let l = cond b (result (number_of ShortBuffer) (d ∷ []) []) (result 0 (values ∷ []) []) in
+        let l = cond b (call_result (number_of ShortBuffer) (d ∷ []) []) (call_result 0 (values ∷ []) []) in
         l.number ≡ 0 → get_or (buffer_of l) (grade_place c) 0 ≡ grade_of c g
     fits true g z = absurd (omega arith)
     fits false g z = grade_placed c g (drop 4 d)

@@ -33,7 +33,7 @@ use Rattle.panel.specs.Panel.{panel_ran, panel_listed}
 use Rattle.panel.proofs.Checks.{panel_own}
 use Rattle.panel.proofs.Desk.{panel_checked}
 use Rattle.recordbytes.specs.Layout.{size_for, damaged, record_of, no_record, unpacked}
-use Rattle.ffi.specs.Calls.{read_call, write_call, list_call, result, grade_result, grade_call_in, run_call_in, step_call_in, panel_run_call, panel_list_call, recording_own_loss, write_own_loss, round_own_loss}
+use Rattle.ffi.specs.Calls.{read_call, write_call, list_call, call_result, grade_result, grade_call_in, run_call_in, step_call_in, panel_run_call, panel_list_call, recording_own_loss, write_own_loss, round_own_loss}
 use Rattle.ffi.proofs.Narrow.{many_trucks_lem, narrowed, narrow_check}
 use Rattle.ffi.proofs.Answers.{number_of_lem, listed-number}
 use Rattle.ffi.proofs.Records.{record_number, store_number}
@@ -140,7 +140,7 @@ module _ (s : List ℕ) where
   unfolding grade_call_in
   grade_6 p grades h = named (go (check_of s) _ (sym (ap (λ (x : ℕ × List ℕ). (grade_result x grades).number) (grade_answer_lem p s)) ∙ h))
     where
-      short : (b : Bool) (values : List ℕ) → (cond b (result (number_of ShortBuffer) (grades ∷ []) []) (result 0 ((values ++ drop (length values) grades) ∷ []) [])).number ≡ 6 → ◌≡◌ {A = ℕ} 0 6
+      short : (b : Bool) (values : List ℕ) → (cond b (call_result (number_of ShortBuffer) (grades ∷ []) []) (call_result 0 ((values ++ drop (length values) grades) ∷ []) [])).number ≡ 6 → ◌≡◌ {A = ℕ} 0 6
       short true values e = absurd (omega arith)
       short false values e = e
 

@@ -29,7 +29,7 @@ use Rattle.recordbytes.specs.Layout.{size_for, record_byte, pack_check, pack_for
 use Rattle.playback.specs.Bytes.{run_check_in, run_bytes_in}
 use Rattle.panel.specs.Panel.{panel_ran, panel_run_check, panel_run_bytes}
 use Rattle.fleet.specs.Bytes.{bytes_check_in, bytes_step_in}
-use Rattle.ffi.specs.Calls.{Result, result, record_as, store_call, run_call_in, start_call, step_call_in, panel_run_call}
+use Rattle.ffi.specs.Calls.{Result, call_result, record_as, store_call, run_call_in, start_call, step_call_in, panel_run_call}
 use Rattle.ffi.proofs.Narrow.{many_trucks_lem, narrowed}
 
 -- the record of an accepted step has an n in range
@@ -51,10 +51,10 @@ record_number Accepted m f d = refl
 record_number (Refused r) m f d = refl
 
 -- the number of an outcome, and the buffer with m places put by it
-pub packed_as : (f : Fleet) (m : ℕ) (d l : List ℕ) (c o : Outcome) (k : ℕ) → o ≡ c → l ≡ pack_for c m f d → k ≡ outcome_number o → result k (l ∷ []) [] ≡ record_as c m f d
+pub packed_as : (f : Fleet) (m : ℕ) (d l : List ℕ) (c o : Outcome) (k : ℕ) → o ≡ c → l ≡ pack_for c m f d → k ≡ outcome_number o → call_result k (l ∷ []) [] ≡ record_as c m f d
 packed_as f m d l c o k p q e = rw (e, p, q) (both c)
   where
-    both : (o : Outcome) → result (outcome_number o) (pack_for o m f d ∷ []) [] ≡ record_as o m f d
+    both : (o : Outcome) → call_result (outcome_number o) (pack_for o m f d ∷ []) [] ≡ record_as o m f d
     both Accepted = refl
     both (Refused r) = refl
 
@@ -66,17 +66,17 @@ module _ (a : Answer) (d : List ℕ) where
   unfolding store_call
   store_number = record_number (and_then a.outcome (refuse (ltb (length d) (size_for 32)) ShortBuffer Accepted)) 32 a.fleet d
 
-  pub store_refused : (r : Refusal) (k : ℕ) → a.outcome ≡ Refused r → k ≡ number_of r → result k (d ∷ []) [] ≡ store_call a d
+  pub store_refused : (r : Refusal) (k : ℕ) → a.outcome ≡ Refused r → k ≡ number_of r → call_result k (d ∷ []) [] ≡ store_call a d
   unfolding store_call
   store_refused r k h e = rw (e, h)
 
   pub store_0 : (a.outcome ≡ Accepted → bad_trucks a.fleet.n ≡ false) → a.outcome ≡ Accepted → (o : Outcome) (l : List ℕ) (k : ℕ)
-      → o ≡ pack_check a.fleet.n (length d) → l ≡ packed_whole a.fleet d → k ≡ outcome_number o → result k (l ∷ []) [] ≡ store_call a d
+      → o ≡ pack_check a.fleet.n (length d) → l ≡ packed_whole a.fleet d → k ≡ outcome_number o → call_result k (l ∷ []) [] ≡ store_call a d
   unfolding store_call packed_whole pack_check
   store_0 range h o l k p q e = packed_as a.fleet 32 d l (pack_check a.fleet.n (length d)) o k p q e ∙ rw (range h, h)
 
   -- an accepted answer in a buffer with room, and the number 0 by which a caller knows of both
-  pub store_whole : a.outcome ≡ Accepted → size_for 32 ≤ length d → store_call a d ≡ result 0 (filled (record_byte a.fleet) (size_for 32) d ∷ []) []
+  pub store_whole : a.outcome ≡ Accepted → size_for 32 ≤ length d → store_call a d ≡ call_result 0 (filled (record_byte a.fleet) (size_for 32) d ∷ []) []
   unfolding store_call
   store_whole h room = rw (h, le-ltb (length d) (size_for 32) room)
 
@@ -119,7 +119,7 @@ step_range p f w h =
     let o = accepted_by (step_check_in p f w) (next_fleet_in p f w) f h in
     rw o.1 (step_trucks p f w o.0)
 
-pub step_left : (p : Protocol) (d w l : List ℕ) (o : Outcome) (k : ℕ) → o ≡ bytes_check_in p d w → l ≡ bytes_step_in p d w → k ≡ outcome_number o → result k (l ∷ []) [] ≡ step_call_in p d w
+pub step_left : (p : Protocol) (d w l : List ℕ) (o : Outcome) (k : ℕ) → o ≡ bytes_check_in p d w → l ≡ bytes_step_in p d w → k ≡ outcome_number o → call_result k (l ∷ []) [] ≡ step_call_in p d w
 unfolding step_call_in bytes_check_in bytes_step_in
 step_left p d w l o k eo el ek =
     let a = stepped_in p (unpacked d).fleet w in
@@ -136,14 +136,14 @@ run_range p s a e h =
 
 -- of any answer
 whole-left : (a : Answer) (d l : List ℕ) (o : Outcome) (k : ℕ) → let c = and_then a.outcome (refuse (ltb (length d) (size_for 32)) ShortBuffer Accepted) in
-    o ≡ c → l ≡ pack_for c 32 a.fleet d → k ≡ outcome_number o → result k (l ∷ []) [] ≡ store_call a d
+    o ≡ c → l ≡ pack_for c 32 a.fleet d → k ≡ outcome_number o → call_result k (l ∷ []) [] ≡ store_call a d
 unfolding store_call
 whole-left a d l o k eo el ek = packed_as a.fleet 32 d l (and_then a.outcome (refuse (ltb (length d) (size_for 32)) ShortBuffer Accepted)) o k eo el ek
 
-pub run-left : (p : Protocol) (s d l : List ℕ) (o : Outcome) (k : ℕ) → o ≡ run_check_in p s d → l ≡ run_bytes_in p s d → k ≡ outcome_number o → result k (l ∷ []) [] ≡ run_call_in p s d
+pub run-left : (p : Protocol) (s d l : List ℕ) (o : Outcome) (k : ℕ) → o ≡ run_check_in p s d → l ≡ run_bytes_in p s d → k ≡ outcome_number o → call_result k (l ∷ []) [] ≡ run_call_in p s d
 unfolding run_call_in run_check_in run_bytes_in
 run-left p s d l o k eo el ek = whole-left (ran_in p s) d l o k eo el ek
 
-pub panel_run-left : (s d l : List ℕ) (o : Outcome) (k : ℕ) → o ≡ panel_run_check s d → l ≡ panel_run_bytes s d → k ≡ outcome_number o → result k (l ∷ []) [] ≡ panel_run_call s d
+pub panel_run-left : (s d l : List ℕ) (o : Outcome) (k : ℕ) → o ≡ panel_run_check s d → l ≡ panel_run_bytes s d → k ≡ outcome_number o → call_result k (l ∷ []) [] ≡ panel_run_call s d
 unfolding panel_run_call panel_run_check panel_run_bytes
 panel_run-left s d l o k eo el ek = whole-left (panel_ran s) d l o k eo el ek

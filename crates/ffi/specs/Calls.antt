@@ -25,8 +25,8 @@ pub record Result : Type 0 where
   pub buffers : List (List ℕ)
   pub numbers : List ℕ
 
-abbrev pub result : ℕ → List (List ℕ) → List ℕ → Result
-result number buffers numbers = record { number = number; buffers = buffers; numbers = numbers }
+abbrev pub call_result : ℕ → List (List ℕ) → List ℕ → Result
+call_result number buffers numbers = record { number = number; buffers = buffers; numbers = numbers }
 
 -- the first of the buffers
 abbrev pub buffer_of : Result → List ℕ
@@ -38,7 +38,7 @@ buffer_of l = get_or l.buffers 0 []
 unfoldable pub opening_call : List ℕ → List ℕ → List ℕ → ℕ → Result
 opening_call lengths metres seconds crusher =
     let (number, values) = opening_answer (opening_of lengths metres seconds) in
-    result number [] (get_or values 0 crusher ∷ [])
+    call_result number [] (get_or values 0 crusher ∷ [])
 
 -- ---- reading to plain form
 
@@ -47,7 +47,7 @@ unfoldable pub read_call : List ℕ → List ℕ → List ℕ → ℕ → ℕ �
 read_call bytes openings words trucks rounds =
     let a = read_plain bytes openings words in
     let (number, values) = read_answer a.answer in
-    result number (a.openings ∷ a.words ∷ []) (get_or values 0 trucks ∷ get_or values 1 rounds ∷ [])
+    call_result number (a.openings ∷ a.words ∷ []) (get_or values 0 trucks ∷ get_or values 1 rounds ∷ [])
 
 -- ---- writing
 
@@ -56,7 +56,7 @@ unfoldable pub write_call : ℕ → ℕ → List ℕ → List ℕ → List ℕ �
 write_call n R openings words bytes written =
     let a = write_plain n R openings words bytes in
     let (number, values) = write_answer a.answer in
-    result number (a.buffer ∷ []) (get_or values 0 written ∷ [])
+    call_result number (a.buffer ∷ []) (get_or values 0 written ∷ [])
 
 -- ---- a recording's listing
 
@@ -64,7 +64,7 @@ write_call n R openings words bytes written =
 abbrev pub list_result : Left → ℕ → Result
 list_result a written =
     let (number, values) = list_answer a.answer in
-    result number (a.buffer ∷ []) (get_or values 0 written ∷ [])
+    call_result number (a.buffer ∷ []) (get_or values 0 written ∷ [])
 
 -- 1 to 6, then 9
 unfoldable pub list_call : List ℕ → List ℕ → ℕ → Result
@@ -75,8 +75,8 @@ list_call bytes text written = list_result (listed bytes text) written
 -- the values at the front of the buffer; 9 where it has fewer places than there are values
 abbrev pub grade_result : ℕ × List ℕ → List ℕ → Result
 grade_result (number, values) grades =
-    cond (ltb (length grades) (length values)) (result (number_of ShortBuffer) (grades ∷ []) [])
-    (result number ((values ++ drop (length values) grades) ∷ []) [])
+    cond (ltb (length grades) (length values)) (call_result (number_of ShortBuffer) (grades ∷ []) [])
+    (call_result number ((values ++ drop (length values) grades) ∷ []) [])
 
 -- 1 to 6, then 9
 unfoldable pub grade_call_in : Protocol → List ℕ → List ℕ → Result
@@ -90,8 +90,8 @@ grade_call = grade_call_in two_round
 
 -- the head and the first m places of a record
 abbrev pub record_as : Outcome → ℕ → Fleet → List ℕ → Result
-record_as Accepted m f d = result 0 (filled (record_byte f) (size_for m) d ∷ []) []
-record_as (Refused r) m f d = result (number_of r) (d ∷ []) []
+record_as Accepted m f d = call_result 0 (filled (record_byte f) (size_for m) d ∷ []) []
+record_as (Refused r) m f d = call_result (number_of r) (d ∷ []) []
 
 -- a whole record, all 32 places; 9 where the buffer has fewer than 323 bytes
 unfoldable pub store_call : Answer → List ℕ → Result

@@ -14,7 +14,7 @@ use Rattle.protocol.specs.Steps.{taken, round_in, recording_of}
 use Rattle.protocol.specs.Claims.{Agreed, Marks, Claim, agrees_with, decides_in, MajorityMarks, MixedMarks, ZeroMarks, counts_sent}
 use Rattle.protocol.specs.Claims.{Class, Complete, MajorityComplete, ZeroComplete, Accurate}
 use Rattle.recordbytes.specs.Layout.{size_for, unpacked}
-use Rattle.ffi.specs.Calls.{result, buffer_of, list_call, grade_call_in, start_call, step_call_in, run_call_in, run_call, bytes_after_in, panel_run_call, panel_list_call}
+use Rattle.ffi.specs.Calls.{call_result, buffer_of, list_call, grade_call_in, start_call, step_call_in, run_call_in, run_call, bytes_after_in, panel_run_call, panel_list_call}
 
 -- the bytes are a record, of which this is claimed
 pub record RecordWith (claimed : Fleet → Type 0) (bytes : List ℕ) : Type 0 where
@@ -41,7 +41,7 @@ module _ (p : Protocol) where
         ≡ outcome_number (refuse (eqb (length (taken n steps)) 400) RoundsDone (round_check n (length (taken n steps) + 1) w))
     -- running the list's recording into any buffer with room answers 0 and puts there the 323 bytes that the steps left; everything past them stays
     pub as_run : (e : List ℕ) → size_for 32 ≤ length e
-        → run_call_in p (recording_of n openings steps) e ≡ result 0 (filled (λ k. get_or (bytes_of n openings d steps) k 0) (size_for 32) e ∷ []) []
+        → run_call_in p (recording_of n openings steps) e ≡ call_result 0 (filled (λ k. get_or (bytes_of n openings d steps) k 0) (size_for 32) e ∷ []) []
     -- so they are the same record
     pub same_record : (e : List ℕ) → size_for 32 ≤ length e
         → unpacked (buffer_of (run_call_in p (recording_of n openings steps) e)) ≡ unpacked (bytes_of n openings d steps)

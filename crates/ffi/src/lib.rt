@@ -7,7 +7,7 @@ ghost use Rattle.refusals.specs.Numbers.{number_of, outcome_number};
 ghost use Rattle.refusals.specs.Locations.{outcome_location, location_number};
 ghost use Rattle.refusals.specs.declared.Outcome.TheVariants.{Accepted};
 ghost use Rattle.recording.specs.Checks.{bad_trucks};
-ghost use Rattle.ffi.specs.Calls.{result, opening_call, read_call, write_call};
+ghost use Rattle.ffi.specs.Calls.{call_result, opening_call, read_call, write_call};
 ghost use Rattle.ffi.specs.Calls.{store_call, run_call_in, run_call, start_call, step_call_in, step_call, list_call};
 ghost use Rattle.ffi.specs.Calls.{panel_run_call, panel_list_call};
 ghost use Rattle.listing.specs.Listed.{list_answer};
@@ -22,19 +22,19 @@ use refusals::{Outcome, Refusal};
 use roads::Opening;
 
 fn number(r: Refusal) -> u32
-    ensures* { λ k. ⌜ k ≡ number_of r ⌝ }
+    ensures { result ≡ number_of r }
 {
     refusals::number(r) as u32
 }
 
 fn outcome_number(o: Outcome) -> u32
-    ensures* { λ k. ⌜ k ≡ outcome_number o ⌝ }
+    ensures { result ≡ outcome_number o }
 {
     refusals::outcome_number(o) as u32
 }
 
 fn own_loss(o: Outcome) -> u32
-    ensures* { λ k. ⌜ k ≡ location_number (outcome_location o) ⌝ }
+    ensures { result ≡ location_number (outcome_location o) }
 {
     refusals::location_number(refusals::outcome_location(o))
 }
@@ -47,8 +47,8 @@ pub extern "C" fn rajvokshul_opening(
     seconds: &[u16],
     crusher: &mut u8,
 ) -> u32
-    ensures* { λ r. ⌜ result r [] (crusher.new ∷ [])
-        ≡ opening_call lengths.now metres.now seconds.now crusher.old ⌝ }
+    ensures { call_result result [] (crusher.new ∷ [])
+        ≡ opening_call lengths.now metres.now seconds.now crusher.old }
 {
     let o = roads::opening_crusher(lengths, metres, seconds);
     match o {
@@ -69,8 +69,8 @@ pub extern "C" fn rajvokshul_read(
     trucks: &mut u32,
     rounds: &mut u32,
 ) -> u32
-    ensures* { λ r. ⌜ result r (openings.new ∷ words.new ∷ []) (trucks.new ∷ rounds.new ∷ [])
-        ≡ read_call bytes.now openings.old words.old trucks.old rounds.old ⌝ }
+    ensures { call_result result (openings.new ∷ words.new ∷ []) (trucks.new ∷ rounds.new ∷ [])
+        ≡ read_call bytes.now openings.old words.old trucks.old rounds.old }
 {
     let o = plain::read(bytes, openings, words);
     match o {
@@ -88,13 +88,13 @@ pub extern "C" fn rajvokshul_read(
 
 // A count as a narrower number, the largest where it does not fit: every check refuses that one too, for the same reason.
 pub fn narrow_trucks(n: u32) -> u8
-    ensures* { λ r. ⌜ r ≡ min n 255 ⌝ }
+    ensures { result ≡ min n 255 }
 {
     if n < 255 { n as u8 } else { 255 }
 }
 
 fn narrow_rounds(k: u32) -> u16
-    ensures* { λ r. ⌜ r ≡ min k 65535 ⌝ }
+    ensures { result ≡ min k 65535 }
 {
     if k < 65535 { k as u16 } else { 65535 }
 }
@@ -109,8 +109,8 @@ pub extern "C" fn rajvokshul_write(
     bytes: &mut [u8],
     written: &mut usize,
 ) -> u32
-    ensures* { λ r. ⌜ result r (bytes.new ∷ []) (written.new ∷ [])
-        ≡ write_call trucks rounds openings.now words.now bytes.old written.old ⌝ }
+    ensures { call_result result (bytes.new ∷ []) (written.new ∷ [])
+        ≡ write_call trucks rounds openings.now words.now bytes.old written.old }
 {
     let n = narrow_trucks(trucks);
     let k = narrow_rounds(rounds);
@@ -127,7 +127,7 @@ pub extern "C" fn rajvokshul_write(
 // Puts the record of an answer into a lent buffer, all 32 places.
 fn store(a: Answer, d: &mut [u8]) -> u32
     requires { a.outcome ≡ Accepted → bad_trucks a.fleet.n ≡ false }
-    ensures* { λ r. ⌜ result r (d.new ∷ []) [] ≡ store_call a d.old ⌝ }
+    ensures { call_result result (d.new ∷ []) [] ≡ store_call a d.old }
 {
     let o = a.outcome;
     let f = a.fleet;
@@ -140,7 +140,7 @@ fn store(a: Answer, d: &mut [u8]) -> u32
 // Runs a recording to its states.
 #[unsafe(no_mangle)]
 pub extern "C" fn rajvokshul_run(bytes: &[u8], fleet: &mut [u8]) -> u32
-    ensures* { λ r. ⌜ result r (fleet.new ∷ []) [] ≡ run_call bytes.now fleet.old ⌝ }
+    ensures { call_result result (fleet.new ∷ []) [] ≡ run_call bytes.now fleet.old }
 {
     outcome_number(fleet::run_bytes(Cycle::TwoRound, bytes, fleet))
 }
@@ -148,14 +148,14 @@ pub extern "C" fn rajvokshul_run(bytes: &[u8], fleet: &mut [u8]) -> u32
 // The same in the six-round cycle.
 #[unsafe(no_mangle)]
 pub extern "C" fn rajvokshul_run_six(bytes: &[u8], fleet: &mut [u8]) -> u32
-    ensures* { λ r. ⌜ result r (fleet.new ∷ []) [] ≡ run_call_in six_round bytes.now fleet.old ⌝ }
+    ensures { call_result result (fleet.new ∷ []) [] ≡ run_call_in six_round bytes.now fleet.old }
 {
     outcome_number(fleet::run_bytes(Cycle::SixRound, bytes, fleet))
 }
 
 // Answers the number of a listing, and puts that of its bytes where the caller said.
 fn put_length(l: Listed, written: &mut usize) -> u32
-    ensures* { λ r. ⌜ (r ≡ (list_answer l).0) × (written.new ≡ get_or (list_answer l).1 0 written.old) ⌝ }
+    ensures { (result ≡ (list_answer l).0) × (written.new ≡ get_or (list_answer l).1 0 written.old) }
 {
     match l {
         Listed::Text(k) => {
@@ -169,7 +169,7 @@ fn put_length(l: Listed, written: &mut usize) -> u32
 // Runs a recording to its listing.
 #[unsafe(no_mangle)]
 pub extern "C" fn rajvokshul_list(bytes: &[u8], text: &mut [u8], written: &mut usize) -> u32
-    ensures* { λ r. ⌜ result r (text.new ∷ []) (written.new ∷ []) ≡ list_call bytes.now text.old written.old ⌝ }
+    ensures { call_result result (text.new ∷ []) (written.new ∷ []) ≡ list_call bytes.now text.old written.old }
 {
     let l = listing::list(bytes, text);
     put_length(l, written)
@@ -177,7 +177,7 @@ pub extern "C" fn rajvokshul_list(bytes: &[u8], text: &mut [u8], written: &mut u
 
 // Puts the grades of an answer into a lent buffer.
 fn put_grades(g: Grading, grades: &mut [u16]) -> u32
-    ensures* { λ r. ⌜ result r (grades.new ∷ []) [] ≡ grade_result (grade_answer g) grades.old ⌝ }
+    ensures { call_result result (grades.new ∷ []) [] ≡ grade_result (grade_answer g) grades.old }
 {
     match g {
         Grading::Refused(r) => number(r),
@@ -197,7 +197,7 @@ fn put_grades(g: Grading, grades: &mut [u16]) -> u32
 // Grades a recording's marks.
 #[unsafe(no_mangle)]
 pub extern "C" fn rajvokshul_grade(bytes: &[u8], grades: &mut [u16]) -> u32
-    ensures* { λ r. ⌜ result r (grades.new ∷ []) [] ≡ grade_call bytes.now grades.old ⌝ }
+    ensures { call_result result (grades.new ∷ []) [] ≡ grade_call bytes.now grades.old }
 {
     let g = fleet::grade(bytes);
     put_grades(g, grades)
@@ -206,7 +206,7 @@ pub extern "C" fn rajvokshul_grade(bytes: &[u8], grades: &mut [u16]) -> u32
 // The same in the six-round cycle.
 #[unsafe(no_mangle)]
 pub extern "C" fn rajvokshul_grade_six(bytes: &[u8], grades: &mut [u16]) -> u32
-    ensures* { λ r. ⌜ result r (grades.new ∷ []) [] ≡ grade_call_in six_round bytes.now grades.old ⌝ }
+    ensures { call_result result (grades.new ∷ []) [] ≡ grade_call_in six_round bytes.now grades.old }
 {
     let g = fleet::grade_in(Cycle::SixRound, bytes);
     put_grades(g, grades)
@@ -215,7 +215,7 @@ pub extern "C" fn rajvokshul_grade_six(bytes: &[u8], grades: &mut [u16]) -> u32
 // Starts a fleet.
 #[unsafe(no_mangle)]
 pub extern "C" fn rajvokshul_start(trucks: u32, openings: &[u8], fleet: &mut [u8]) -> u32
-    ensures* { λ r. ⌜ result r (fleet.new ∷ []) [] ≡ start_call trucks openings.now fleet.old ⌝ }
+    ensures { call_result result (fleet.new ∷ []) [] ≡ start_call trucks openings.now fleet.old }
 {
     let a = fleet::start(narrow_trucks(trucks), openings);
     store(a, fleet)
@@ -223,7 +223,7 @@ pub extern "C" fn rajvokshul_start(trucks: u32, openings: &[u8], fleet: &mut [u8
 
 // A step of a record as bytes, in a cycle. Both exported steps go through it, so that the compiler makes one piece of it.
 fn step_bytes(cycle: Cycle, fleet: &mut [u8], words: &[u32]) -> u32
-    ensures* { λ r. ⌜ result r (fleet.new ∷ []) [] ≡ step_call_in (chosen cycle) fleet.old words.now ⌝ }
+    ensures { call_result result (fleet.new ∷ []) [] ≡ step_call_in (chosen cycle) fleet.old words.now }
 {
     outcome_number(fleet::step_bytes(cycle, fleet, words))
 }
@@ -231,7 +231,7 @@ fn step_bytes(cycle: Cycle, fleet: &mut [u8], words: &[u32]) -> u32
 // Steps a fleet by a round in plain form.
 #[unsafe(no_mangle)]
 pub extern "C" fn rajvokshul_step(fleet: &mut [u8], words: &[u32]) -> u32
-    ensures* { λ r. ⌜ result r (fleet.new ∷ []) [] ≡ step_call fleet.old words.now ⌝ }
+    ensures { call_result result (fleet.new ∷ []) [] ≡ step_call fleet.old words.now }
 {
     step_bytes(Cycle::TwoRound, fleet, words)
 }
@@ -239,7 +239,7 @@ pub extern "C" fn rajvokshul_step(fleet: &mut [u8], words: &[u32]) -> u32
 // The same in the six-round cycle.
 #[unsafe(no_mangle)]
 pub extern "C" fn rajvokshul_step_six(fleet: &mut [u8], words: &[u32]) -> u32
-    ensures* { λ r. ⌜ result r (fleet.new ∷ []) [] ≡ step_call_in six_round fleet.old words.now ⌝ }
+    ensures { call_result result (fleet.new ∷ []) [] ≡ step_call_in six_round fleet.old words.now }
 {
     step_bytes(Cycle::SixRound, fleet, words)
 }
@@ -247,7 +247,7 @@ pub extern "C" fn rajvokshul_step_six(fleet: &mut [u8], words: &[u32]) -> u32
 // Runs a recording to its states for the panel.
 #[unsafe(no_mangle)]
 pub extern "C" fn rajvokshul_panel_run(bytes: &[u8], fleet: &mut [u8]) -> u32
-    ensures* { λ r. ⌜ result r (fleet.new ∷ []) [] ≡ panel_run_call bytes.now fleet.old ⌝ }
+    ensures { call_result result (fleet.new ∷ []) [] ≡ panel_run_call bytes.now fleet.old }
 {
     outcome_number(panel::run_bytes(bytes, fleet))
 }
@@ -255,7 +255,7 @@ pub extern "C" fn rajvokshul_panel_run(bytes: &[u8], fleet: &mut [u8]) -> u32
 // Runs a recording to its listing for the panel.
 #[unsafe(no_mangle)]
 pub extern "C" fn rajvokshul_panel_list(bytes: &[u8], text: &mut [u8], written: &mut usize) -> u32
-    ensures* { λ r. ⌜ result r (text.new ∷ []) (written.new ∷ []) ≡ panel_list_call bytes.now text.old written.old ⌝ }
+    ensures { call_result result (text.new ∷ []) (written.new ∷ []) ≡ panel_list_call bytes.now text.old written.old }
 {
     let l = panel::list(bytes, text);
     put_length(l, written)
@@ -264,7 +264,7 @@ pub extern "C" fn rajvokshul_panel_list(bytes: &[u8], text: &mut [u8], written: 
 // Where the own loss bit is for which a recording is refused.
 #[unsafe(no_mangle)]
 pub extern "C" fn rajvokshul_recording_own_loss(bytes: &[u8]) -> u32
-    ensures* { λ r. ⌜ r ≡ recording_own_loss bytes.now ⌝ }
+    ensures { result ≡ recording_own_loss bytes.now }
 {
     own_loss(recording::check(bytes))
 }
@@ -277,7 +277,7 @@ pub extern "C" fn rajvokshul_write_own_loss(
     openings: &[u8],
     words: &[u32],
 ) -> u32
-    ensures* { λ r. ⌜ r ≡ write_own_loss trucks rounds openings.now words.now ⌝ }
+    ensures { result ≡ write_own_loss trucks rounds openings.now words.now }
 {
     let n = narrow_trucks(trucks);
     let k = narrow_rounds(rounds);
@@ -287,7 +287,7 @@ pub extern "C" fn rajvokshul_write_own_loss(
 // Where an own loss bit of one round is, for which a step by that round is refused.
 #[unsafe(no_mangle)]
 pub extern "C" fn rajvokshul_round_own_loss(trucks: u32, round: u32, words: &[u32]) -> u32
-    ensures* { λ r. ⌜ r ≡ round_own_loss trucks round words.now ⌝ }
+    ensures { result ≡ round_own_loss trucks round words.now }
 {
     let n = narrow_trucks(trucks);
     if recording::bad_trucks(n) | (round == 0) | (400 < round) {

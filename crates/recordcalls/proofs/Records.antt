@@ -15,29 +15,29 @@ use Rattle.protocol.specs.declared.Answer.{Answer}
 use Rattle.protocol.specs.Fleets.{Protocol, six_round, chosen, started, stepped, stepped_in}
 use Rattle.recordbytes.specs.Layout.{pack_check, packed_record, packed_whole, unpacked}
 use Rattle.recordbytes.proofs.RoundTrip.{undamaged, taken-whole}
-use Rattle.ffi.specs.Calls.{Result, result, record_as, start_call, step_call_in}
+use Rattle.ffi.specs.Calls.{Result, call_result, record_as, start_call, step_call_in}
 use Rattle.ffi.proofs.Records.{packed_as, room_for, store_refused, store_0, start_range, start_stored, step_range}
 use Rattle.recordcalls.specs.Calls.{put_call}
 
 -- ---- a start
 
 module _ (n m : ℕ) (openings d : List ℕ) (a : Answer) (few : m ≡ min n 255) (done : a ≡ started m openings) where
-  pub start-refused : (r : Refusal) (k : ℕ) → a.outcome ≡ Refused r → k ≡ number_of r → result k (d ∷ []) [] ≡ start_call n openings d
-  start-refused r k h e = start_stored n m openings d a (result k (d ∷ []) []) few done (store_refused a d r k h e)
+  pub start-refused : (r : Refusal) (k : ℕ) → a.outcome ≡ Refused r → k ≡ number_of r → call_result k (d ∷ []) [] ≡ start_call n openings d
+  start-refused r k h e = start_stored n m openings d a (call_result k (d ∷ []) []) few done (store_refused a d r k h e)
 
   pub start_0 : a.outcome ≡ Accepted → (o : Outcome) (l : List ℕ) (k : ℕ)
-      → o ≡ pack_check a.fleet.n (length d) → l ≡ packed_whole a.fleet d → k ≡ outcome_number o → result k (l ∷ []) [] ≡ start_call n openings d
-  start_0 h o l k p q e = start_stored n m openings d a (result k (l ∷ []) []) few done (store_0 a d (start_range m openings a done) h o l k p q e)
+      → o ≡ pack_check a.fleet.n (length d) → l ≡ packed_whole a.fleet d → k ≡ outcome_number o → call_result k (l ∷ []) [] ≡ start_call n openings d
+  start_0 h o l k p q e = start_stored n m openings d a (call_result k (l ∷ []) []) few done (store_0 a d (start_range m openings a done) h o l k p q e)
 
 -- ---- the record of an answer in a buffer
 
 module _ (a : Answer) (d : List ℕ) where
-  pub put_refused : (r : Refusal) (k : ℕ) → a.outcome ≡ Refused r → k ≡ number_of r → result k (d ∷ []) [] ≡ put_call a d
+  pub put_refused : (r : Refusal) (k : ℕ) → a.outcome ≡ Refused r → k ≡ number_of r → call_result k (d ∷ []) [] ≡ put_call a d
   unfolding put_call
   put_refused r k h e = rw (e, h)
 
   pub put_0 : a.outcome ≡ Accepted → (o : Outcome) (l : List ℕ) (k : ℕ)
-      → o ≡ pack_check a.fleet.n (length d) → l ≡ packed_record a.fleet d → k ≡ outcome_number o → result k (l ∷ []) [] ≡ put_call a d
+      → o ≡ pack_check a.fleet.n (length d) → l ≡ packed_record a.fleet d → k ≡ outcome_number o → call_result k (l ∷ []) [] ≡ put_call a d
   unfolding put_call packed_record
   put_0 h o l k p q e = packed_as a.fleet a.fleet.n d l (pack_check a.fleet.n (length d)) o k p q e ∙ rw h
 
@@ -55,7 +55,7 @@ module _ (cycle : Cycle) (f : Fleet) (w : List ℕ) (a : Answer) where
   six_step h e = rw h e
 
 module _ (p : Protocol) (d w : List ℕ) (u : Answer) (read : u ≡ unpacked d) where
-  pub step_7 : (r : Refusal) (k : ℕ) → u.outcome ≡ Refused r → k ≡ number_of r → result k (d ∷ []) [] ≡ step_call_in p d w
+  pub step_7 : (r : Refusal) (k : ℕ) → u.outcome ≡ Refused r → k ≡ number_of r → call_result k (d ∷ []) [] ≡ step_call_in p d w
   unfolding step_call_in
   step_7 r k h e = rw (e, ← read, h)
 

@@ -6,14 +6,14 @@ ghost use Rattle.std.specs.Prelude.{◌≡◌, [], ◌∷◌};
 ghost use Rattle.refusals.specs.Numbers.{outcome_number};
 ghost use Rattle.protocol.specs.Fleets.{six_round, chosen, stepped_in};
 ghost use Rattle.recordbytes.specs.Layout.{unpacked};
-ghost use Rattle.ffi.specs.Calls.{result, start_call, step_call_in, step_call};
+ghost use Rattle.ffi.specs.Calls.{call_result, start_call, step_call_in, step_call};
 ghost use Rattle.recordcalls.specs.Calls.{put_call};
 
 use protocol::{Answer, Cycle, Fleet};
 use refusals::Outcome;
 
 fn number(o: Outcome) -> u32
-    ensures* { λ k. ⌜ k ≡ outcome_number o ⌝ }
+    ensures { result ≡ outcome_number o }
 {
     refusals::outcome_number(o) as u32
 }
@@ -21,7 +21,7 @@ fn number(o: Outcome) -> u32
 // Starts a fleet.
 #[unsafe(no_mangle)]
 pub extern "C" fn recordcalls_start(trucks: u32, openings: &[u8], fleet: &mut [u8]) -> u32
-    ensures* { λ r. ⌜ result r (fleet.new ∷ []) [] ≡ start_call trucks openings.now fleet.old ⌝ }
+    ensures { call_result result (fleet.new ∷ []) [] ≡ start_call trucks openings.now fleet.old }
 {
     let a = fleet::start(ffi::narrow_trucks(trucks), openings);
     let o = a.outcome;
@@ -34,7 +34,7 @@ pub extern "C" fn recordcalls_start(trucks: u32, openings: &[u8], fleet: &mut [u
 
 // A step in a cycle, by the function of that cycle.
 fn stepped(cycle: Cycle, f: Fleet, words: &[u32]) -> Answer
-    ensures* { λ r. ⌜ r ≡ stepped_in (chosen cycle) f words.now ⌝ }
+    ensures { result ≡ stepped_in (chosen cycle) f words.now }
 {
     match cycle {
         Cycle::TwoRound => fleet::step(f, words),
@@ -44,7 +44,7 @@ fn stepped(cycle: Cycle, f: Fleet, words: &[u32]) -> Answer
 
 // Brings the record of an answer up to date in a lent buffer.
 fn put(a: Answer, d: &mut [u8]) -> u32
-    ensures* { λ r. ⌜ result r (d.new ∷ []) [] ≡ put_call a d.old ⌝ }
+    ensures { call_result result (d.new ∷ []) [] ≡ put_call a d.old }
 {
     let o = a.outcome;
     let f = a.fleet;
@@ -56,7 +56,7 @@ fn put(a: Answer, d: &mut [u8]) -> u32
 
 // A step of a record as bytes by way of the record that they are.
 fn step_record(cycle: Cycle, fleet: &mut [u8], words: &[u32]) -> u32
-    ensures* { λ r. ⌜ result r (fleet.new ∷ []) [] ≡ step_call_in (chosen cycle) fleet.old words.now ⌝ }
+    ensures { call_result result (fleet.new ∷ []) [] ≡ step_call_in (chosen cycle) fleet.old words.now }
 {
     let u = recordbytes::unpack(fleet);
     let whole = u.outcome;
@@ -73,7 +73,7 @@ fn step_record(cycle: Cycle, fleet: &mut [u8], words: &[u32]) -> u32
 // Steps a fleet by a round in plain form.
 #[unsafe(no_mangle)]
 pub extern "C" fn recordcalls_step(fleet: &mut [u8], words: &[u32]) -> u32
-    ensures* { λ r. ⌜ result r (fleet.new ∷ []) [] ≡ step_call fleet.old words.now ⌝ }
+    ensures { call_result result (fleet.new ∷ []) [] ≡ step_call fleet.old words.now }
 {
     step_record(Cycle::TwoRound, fleet, words)
 }
@@ -81,7 +81,7 @@ pub extern "C" fn recordcalls_step(fleet: &mut [u8], words: &[u32]) -> u32
 // The same in the six-round cycle.
 #[unsafe(no_mangle)]
 pub extern "C" fn recordcalls_step_six(fleet: &mut [u8], words: &[u32]) -> u32
-    ensures* { λ r. ⌜ result r (fleet.new ∷ []) [] ≡ step_call_in six_round fleet.old words.now ⌝ }
+    ensures { call_result result (fleet.new ∷ []) [] ≡ step_call_in six_round fleet.old words.now }
 {
     step_record(Cycle::SixRound, fleet, words)
 }
@@ -89,7 +89,7 @@ pub extern "C" fn recordcalls_step_six(fleet: &mut [u8], words: &[u32]) -> u32
 // Puts the record of some bytes into another buffer: places n and above stay as they are there.
 #[unsafe(no_mangle)]
 pub extern "C" fn recordcalls_copy(fleet: &[u8], copy: &mut [u8]) -> u32
-    ensures* { λ r. ⌜ result r (copy.new ∷ []) [] ≡ put_call (unpacked fleet.now) copy.old ⌝ }
+    ensures { call_result result (copy.new ∷ []) [] ≡ put_call (unpacked fleet.now) copy.old }
 {
     let u = recordbytes::unpack(fleet);
     put(u, copy)

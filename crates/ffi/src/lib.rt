@@ -40,13 +40,7 @@ fn own_loss(o: Outcome) -> u32
 }
 
 // The crusher that a truck opens with.
-#[unsafe(no_mangle)]
-pub extern "C" fn rajvokshul_opening(
-    lengths: &[u16],
-    metres: &[u16],
-    seconds: &[u16],
-    crusher: &mut u8,
-) -> u32
+pub fn rajvokshul_opening(lengths: &[u16], metres: &[u16], seconds: &[u16], crusher: &mut u8) -> u32
     ensures { call_result result [] (crusher.new ∷ [])
         ≡ opening_call lengths.now metres.now seconds.now crusher.old }
 {
@@ -61,8 +55,7 @@ pub extern "C" fn rajvokshul_opening(
 }
 
 // Reads a recording to plain form.
-#[unsafe(no_mangle)]
-pub extern "C" fn rajvokshul_read(
+pub fn rajvokshul_read(
     bytes: &[u8],
     openings: &mut [u8],
     words: &mut [u32],
@@ -100,8 +93,7 @@ fn narrow_rounds(k: u32) -> u16
 }
 
 // Writes a recording from plain form.
-#[unsafe(no_mangle)]
-pub extern "C" fn rajvokshul_write(
+pub fn rajvokshul_write(
     trucks: u32,
     rounds: u32,
     openings: &[u8],
@@ -138,16 +130,14 @@ fn store(a: Answer, d: &mut [u8]) -> u32
 }
 
 // Runs a recording to its states.
-#[unsafe(no_mangle)]
-pub extern "C" fn rajvokshul_run(bytes: &[u8], fleet: &mut [u8]) -> u32
+pub fn rajvokshul_run(bytes: &[u8], fleet: &mut [u8]) -> u32
     ensures { call_result result (fleet.new ∷ []) [] ≡ run_call bytes.now fleet.old }
 {
     outcome_number(fleet::run_bytes(Cycle::TwoRound, bytes, fleet))
 }
 
 // The same in the six-round cycle.
-#[unsafe(no_mangle)]
-pub extern "C" fn rajvokshul_run_six(bytes: &[u8], fleet: &mut [u8]) -> u32
+pub fn rajvokshul_run_six(bytes: &[u8], fleet: &mut [u8]) -> u32
     ensures { call_result result (fleet.new ∷ []) [] ≡ run_call_in six_round bytes.now fleet.old }
 {
     outcome_number(fleet::run_bytes(Cycle::SixRound, bytes, fleet))
@@ -167,8 +157,7 @@ fn put_length(l: Listed, written: &mut usize) -> u32
 }
 
 // Runs a recording to its listing.
-#[unsafe(no_mangle)]
-pub extern "C" fn rajvokshul_list(bytes: &[u8], text: &mut [u8], written: &mut usize) -> u32
+pub fn rajvokshul_list(bytes: &[u8], text: &mut [u8], written: &mut usize) -> u32
     ensures { call_result result (text.new ∷ []) (written.new ∷ []) ≡ list_call bytes.now text.old written.old }
 {
     let l = listing::list(bytes, text);
@@ -195,8 +184,7 @@ fn put_grades(g: Grading, grades: &mut [u16]) -> u32
 }
 
 // Grades a recording's marks.
-#[unsafe(no_mangle)]
-pub extern "C" fn rajvokshul_grade(bytes: &[u8], grades: &mut [u16]) -> u32
+pub fn rajvokshul_grade(bytes: &[u8], grades: &mut [u16]) -> u32
     ensures { call_result result (grades.new ∷ []) [] ≡ grade_call bytes.now grades.old }
 {
     let g = fleet::grade(bytes);
@@ -204,8 +192,7 @@ pub extern "C" fn rajvokshul_grade(bytes: &[u8], grades: &mut [u16]) -> u32
 }
 
 // The same in the six-round cycle.
-#[unsafe(no_mangle)]
-pub extern "C" fn rajvokshul_grade_six(bytes: &[u8], grades: &mut [u16]) -> u32
+pub fn rajvokshul_grade_six(bytes: &[u8], grades: &mut [u16]) -> u32
     ensures { call_result result (grades.new ∷ []) [] ≡ grade_call_in six_round bytes.now grades.old }
 {
     let g = fleet::grade_in(Cycle::SixRound, bytes);
@@ -213,8 +200,7 @@ pub extern "C" fn rajvokshul_grade_six(bytes: &[u8], grades: &mut [u16]) -> u32
 }
 
 // Starts a fleet.
-#[unsafe(no_mangle)]
-pub extern "C" fn rajvokshul_start(trucks: u32, openings: &[u8], fleet: &mut [u8]) -> u32
+pub fn rajvokshul_start(trucks: u32, openings: &[u8], fleet: &mut [u8]) -> u32
     ensures { call_result result (fleet.new ∷ []) [] ≡ start_call trucks openings.now fleet.old }
 {
     let a = fleet::start(narrow_trucks(trucks), openings);
@@ -229,32 +215,28 @@ fn step_bytes(cycle: Cycle, fleet: &mut [u8], words: &[u32]) -> u32
 }
 
 // Steps a fleet by a round in plain form.
-#[unsafe(no_mangle)]
-pub extern "C" fn rajvokshul_step(fleet: &mut [u8], words: &[u32]) -> u32
+pub fn rajvokshul_step(fleet: &mut [u8], words: &[u32]) -> u32
     ensures { call_result result (fleet.new ∷ []) [] ≡ step_call fleet.old words.now }
 {
     step_bytes(Cycle::TwoRound, fleet, words)
 }
 
 // The same in the six-round cycle.
-#[unsafe(no_mangle)]
-pub extern "C" fn rajvokshul_step_six(fleet: &mut [u8], words: &[u32]) -> u32
+pub fn rajvokshul_step_six(fleet: &mut [u8], words: &[u32]) -> u32
     ensures { call_result result (fleet.new ∷ []) [] ≡ step_call_in six_round fleet.old words.now }
 {
     step_bytes(Cycle::SixRound, fleet, words)
 }
 
 // Runs a recording to its states for the panel.
-#[unsafe(no_mangle)]
-pub extern "C" fn rajvokshul_panel_run(bytes: &[u8], fleet: &mut [u8]) -> u32
+pub fn rajvokshul_panel_run(bytes: &[u8], fleet: &mut [u8]) -> u32
     ensures { call_result result (fleet.new ∷ []) [] ≡ panel_run_call bytes.now fleet.old }
 {
     outcome_number(panel::run_bytes(bytes, fleet))
 }
 
 // Runs a recording to its listing for the panel.
-#[unsafe(no_mangle)]
-pub extern "C" fn rajvokshul_panel_list(bytes: &[u8], text: &mut [u8], written: &mut usize) -> u32
+pub fn rajvokshul_panel_list(bytes: &[u8], text: &mut [u8], written: &mut usize) -> u32
     ensures { call_result result (text.new ∷ []) (written.new ∷ []) ≡ panel_list_call bytes.now text.old written.old }
 {
     let l = panel::list(bytes, text);
@@ -262,21 +244,14 @@ pub extern "C" fn rajvokshul_panel_list(bytes: &[u8], text: &mut [u8], written: 
 }
 
 // Where the own loss bit is for which a recording is refused.
-#[unsafe(no_mangle)]
-pub extern "C" fn rajvokshul_recording_own_loss(bytes: &[u8]) -> u32
+pub fn rajvokshul_recording_own_loss(bytes: &[u8]) -> u32
     ensures { result ≡ recording_own_loss bytes.now }
 {
     own_loss(recording::check(bytes))
 }
 
 // Where the own loss bit is for which plain form is not written.
-#[unsafe(no_mangle)]
-pub extern "C" fn rajvokshul_write_own_loss(
-    trucks: u32,
-    rounds: u32,
-    openings: &[u8],
-    words: &[u32],
-) -> u32
+pub fn rajvokshul_write_own_loss(trucks: u32, rounds: u32, openings: &[u8], words: &[u32]) -> u32
     ensures { result ≡ write_own_loss trucks rounds openings.now words.now }
 {
     let n = narrow_trucks(trucks);
@@ -285,8 +260,7 @@ pub extern "C" fn rajvokshul_write_own_loss(
 }
 
 // Where an own loss bit of one round is, for which a step by that round is refused.
-#[unsafe(no_mangle)]
-pub extern "C" fn rajvokshul_round_own_loss(trucks: u32, round: u32, words: &[u32]) -> u32
+pub fn rajvokshul_round_own_loss(trucks: u32, round: u32, words: &[u32]) -> u32
     ensures { result ≡ round_own_loss trucks round words.now }
 {
     let n = narrow_trucks(trucks);

@@ -6,6 +6,8 @@ ghost use Rattle.listing.specs.Text.{printed, refusal_text};
 ghost use Rattle.listing.specs.Program.{longest_listing, input_limit};
 ghost use Rattle.replay.specs.Input.{bytes_read};
 
+use std::io::{Print, Read};
+
 use listing::Listed;
 
 // Standard input as it was read: so many bytes of the buffer, or a read that failed.
@@ -16,32 +18,36 @@ enum Input {
 }
 
 // Reads until the buffer is full, the input ends, or a read fails. The buffer has the bytes that the program reads at most.
-fn read_input(buf: &mut [u8]) -> Input
+fn read_input<R: Read>(input: &mut R, buf: &mut [u8]) -> Input
     requires { length buf.old ≡ input_limit }
     ensures { bytes_read result ≤ length buf.new }
 {
     let mut n = 0;
     while n < buf.len() {
-        let got = libc::read(0, &mut buf[n..]);
-        if got < 0 {
-            return Input::Failed;
+        let got = input.read(&mut buf[n..]);
+        match got {
+            Err(_) => return Input::Failed,
+            Ok(more) => {
+                if more == 0 {
+                    return Input::Bytes(n);
+                }
+                n += more;
+            }
         }
-        let more = io::count(got, &buf[n..]);
-        if more == 0 {
-            return Input::Bytes(n);
-        }
-        n += more;
     }
     Input::Bytes(n)
 }
 
-fn main() {
+fn main(rt: HostRuntime) {
     // One byte more than the largest recording has: a longer input is refused by its first bytes as it would be by all (`printed_cut` in crate listing).
     let mut buf = [0u8; 56019];
-    let input = read_input(&mut buf);
+    let mut stdin = rt.stdin();
+    let input = read_input(&mut stdin, &mut buf);
+    let out = rt.stdout();
+    let err = rt.stderr();
     match input {
-        Input::Failed => complain(b"replay: standard input could not be read\n"),
-        Input::Bytes(n) => replay(&buf[..n]),
+        Input::Failed => complain(&err, b"replay: standard input could not be read\n"),
+        Input::Bytes(n) => replay(&out, &err, &buf[..n]),
     }
 }
 
@@ -67,30 +73,25 @@ fn line_of(r: refusals::Refusal, text: &mut [u8]) -> usize
     let listed = listing::refusal_line(r, text);
     match listed {
         Listed::Text(k) => k,
-        Listed::Refused(_short) => never(),
+        // A buffer of this size is never refused (`list_suffices`, `list_room` in crate listing).
+        Listed::Refused(_short) => unreachable!(),
     }
 }
 
-fn replay(s: &[u8]) {
+fn replay(out: &impl Print, err: &impl Print, s: &[u8]) {
     let mut text = [0u8; 1761];
     let k = text_of(s, &mut text);
-    print(&text[..k]);
+    print(out, err, &text[..k]);
 }
 
-fn print(text: &[u8]) {
-    if !io::write_all(1, text) {
-        complain(b"replay: standard output could not be written\n");
+fn print(out: &impl Print, err: &impl Print, text: &[u8]) {
+    match out.write_all(text) {
+        Ok(()) => {}
+        Err(_) => complain(err, b"replay: standard output could not be written\n"),
     }
 }
 
-fn complain(text: &[u8]) {
+fn complain(err: &impl Print, text: &[u8]) {
     // There is nowhere to say that this failed.
-    io::write_all(2, text);
-}
-
-// No call leads here: a buffer of these sizes is never refused (`list_suffices`, `list_room` in crate listing).
-fn never() -> usize
-    requires { ⊥ }
-{
-    0
+    let _ = err.write_all(text);
 }

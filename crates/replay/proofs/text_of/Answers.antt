@@ -7,20 +7,22 @@ use Rattle.replay.proofs.text_of.Goals as goal
 
 pub returns-in-Text : goal.returns-in-Text
 returns-in-Text c =
-    let l = c.list-listed in (
-      rw l.auto.1.0 (listed-fits _ _ l.new.1.0 l.result _ l.ensures c.in-Text.is),
-      list_text _ _ l.new.1.0 l.result l.ensures _ c.in-Text.is,
-    )
+    let l = c.list-listed in
+    record {
+      within = rw l.auto.text (listed-fits _ _ l.new.text l.result _ l.ensures c.in-Text.is);
+      printed = list_text _ _ l.new.text l.result l.ensures _ c.in-Text.is;
+    }
 
 pub returns-in-Refused : goal.returns-in-Refused
 returns-in-Refused c =
     let l = c.list-listed in
-    let line = c.Line-of in (
-      search rules,
-      line.ensures.1 ∙ list_refused _ _ l.new.1.0 l.result l.ensures _ c.in-Refused.is (search rules),
-    )
+    let line = c.line_of in
+    record {
+      within = search rules;
+      printed = line.ensures.line ∙ list_refused _ _ l.new.text l.result l.ensures _ c.in-Refused.is (search rules);
+    }
 
 pub line_of-requires : goal.line_of-requires
 line_of-requires c =
     let l = c.list-listed in
-    rw l.auto.1.0 (list_room _ _ l.new.1.0 l.result l.ensures _ c.in-Refused.is (search rules))
+    rw l.auto.text (list_room _ _ l.new.text l.result l.ensures _ c.in-Refused.is (search rules))

@@ -189,7 +189,8 @@ pub fn take<'s, 'a>(r: &'s mut Reader<'a>, k: usize) -> u32
 
 // A reader in a local: what is read at a place of its own, on plain parameters, is read by this one.
 pub fn read_at(s: &[u8], at: usize, k: usize) -> u32
-    ensures { result ≡ num_at (bit_at s.now) at (bits_read k) }
+    ensures { result
+        ≡ num_at (bit_at s.now) at (bits_read k) }
 {
     let mut r = new(s, at);
     take(&mut r, k)

@@ -55,7 +55,7 @@ loop-i-preserved c =
     let p = c.put_in in (
       omega (arith, n.loop-i-test.true),
       l.invariant.1,
-      puts_more (built_by a.openings.now a.b a.by.now a.ends.now a.sent.now) 0 _ _ l.i l.d l.invariant.2 (omega arith) n.loop-i-test.true l.invariant.1 t.result p.new.0
+      puts_more (built_by a.openings.now a.b a.by.now a.ends.now a.sent.now) 0 _ _ l.i l.d l.invariant.2 (omega arith) n.loop-i-test.true l.invariant.1 t.result p.new.d
           (built_is a.openings.now a.b a.by.now a.ends.now a.sent.now l.i _ _ _ _ _ (omega (arith, n.loop-i-test.true, l.invariant.1))
           c.only.ensures c.first_heard.ensures u.ensures c.sent_at.ensures t.ensures)
           p.ensures,
@@ -71,7 +71,7 @@ loop-i-2-preserved c =
     let p = c.put_in-in-loop-i-2 in (
       omega (arith, l.invariant.0),
       omega (arith, n.loop-i-2-test.true),
-      puts_more none _ 32 _ l.i l.d l.invariant.2 l.invariant.0 (omega (arith, n.loop-i-2-test.true)) (omega arith) c.opened-t.result p.new.0 c.opened-t.ensures p.ensures,
+      puts_more none _ 32 _ l.i l.d l.invariant.2 l.invariant.0 (omega (arith, n.loop-i-2-test.true)) (omega arith) c.opened-t.result p.new.d c.opened-t.ensures p.ensures,
     )
 
 pub shape_of-d : goal.shape_of-d

@@ -34,7 +34,7 @@ returns-in-TwoRound c =
     let z = c in
     let p = c.proposals in
     rw c.in-TwoRound.is
-    (ended z.args.s.now z.args.rounds p.new.1.1.1.1.1.0 p.new.1.1.1.1.1.1.0 p.new.1.1.1.1.1.1.1.0 p.result p.ensures.0, p.ensures.1)
+    (ended z.args.s.now z.args.rounds p.new.by p.new.ends p.new.sent p.result p.ensures.0, p.ensures.1)
 
 pub returns-in-SixRound : goal.returns-in-SixRound
 returns-in-SixRound c =

@@ -109,7 +109,7 @@ loop-k-preserved c =
     let e = c.ended in (
       omega (arith, r.1.1.1.0),
       (
-        six-next l.invariant.1.0 on q.ensures w.result e.new.0 (a.rounds - (l.k + 1)) w.ensures e.ensures (omega arith),
+        six-next l.invariant.1.0 on q.ensures w.result e.new.ends (a.rounds - (l.k + 1)) w.ensures e.ensures (omega arith),
         six-graded l.invariant.1.0 on q.ensures a.judging l.invariant.1.1 j.ensures,
       ),
     )

@@ -82,3 +82,6 @@ bounds-d-1 c = simp length-set (omega arith)
 
 pub bounds-d-2 : goal.bounds-d-2
 bounds-d-2 c = simp length-set (omega arith)
+
+pub returns : goal.returns
+returns c = whole c

@@ -10,7 +10,7 @@ use Rattle.playback.specs.Listens.{heard_from}
 use Rattle.sets.proofs.Members.{taken_out, own_out}
 use Rattle.playback.proofs.Sorting.{sent-from}
 use Rattle.playback.proofs.Reading.{row-place}
-use Rattle.playback.proofs.Asking.{next_is, heard-at, Takes, takes-starts, takes_more, takes_none, takes-done}
+use Rattle.playback.proofs.Asking.{next_is, heard-at, takes-starts, takes_more, takes_none, takes-done}
 use Rattle.playback.proofs.listening.least_heard.Goals as goal
 use Rattle.playback.proofs.listening.least_heard.Goals.{then-c-lt16, else-c-lt16}
 
@@ -53,7 +53,7 @@ loop-left-preserved c =
     let is : h i.result ≡ values_of a.by.now w.result 16 =
     heard-at a.s.now a.at a.n a.senders a.by.now i.result next.own c.read_at-row.ensures w.ensures in
     elim c.if-c-lt16.branch [
-      then-c-lt16 x ↦ (takes_more a.by.now a.wanted h next f.result w.result is f.ensures o.invariant x.if-c-lt16.true x.changed-is x.taking-is).1
+      | then-c-lt16 x ↦ (takes_more a.by.now a.wanted h next f.result w.result is f.ensures o.invariant x.if-c-lt16.true x.changed-is x.taking-is).1
       | else-c-lt16 x ↦ (takes_none a.by.now a.wanted h next f.result w.result is f.ensures o.invariant x.if-c-lt16.false x.changed-is x.taking-is).1
     ]
 

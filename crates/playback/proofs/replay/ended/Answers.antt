@@ -1,8 +1,7 @@
 -- `ended` meets its contract.
 use native.Mathlib.Omega.{arith}
-use borrow.Author.Rules.{rules}
 use Rattle.sets.proofs.Members.{taken_out}
-use Rattle.playback.proofs.Places.{Noting, noting-starts, noting_more, noting-done}
+use Rattle.playback.proofs.Places.{noting-starts, noting_more, noting-done}
 use Rattle.playback.proofs.replay.ended.Goals as goal
 
 pub loop-left-init : goal.loop-left-init

@@ -1,12 +1,9 @@
 -- `openers` meets its contract.
 use mathlib.Core.Path.{◌∙◌}
-use mathlib.Core.List.{List}
-use Prim.Native.Nat.{ℕ, ◌-◌}
+use Prim.Native.Nat.{◌-◌}
 use native.Mathlib.Omega.{arith}
-use borrow.Author.Rules.{rules}
-use lib.ListN.{get_or}
 use Rattle.sets.proofs.Members.{taken_out, only_is}
-use Rattle.playback.proofs.Sorting.{Sorting, sorting-starts, sorting_more, sorting-done}
+use Rattle.playback.proofs.Sorting.{sorting-starts, sorting_more, sorting-done}
 use Rattle.playback.proofs.replay.openers.Invariants.{opens}
 use Rattle.playback.proofs.replay.openers.Goals as goal
 

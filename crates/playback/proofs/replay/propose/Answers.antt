@@ -1,7 +1,6 @@
 -- `propose` meets its contract.
 use mathlib.Core.Path.{subst}
 use Prim.Native.Nat.{ℕ}
-use borrow.Author.Rules.{rules}
 use lib.Bits.{bit_and}
 use Rattle.playback.specs.Standing.{Proposes}
 use Rattle.playback.proofs.Rounded.{proposes_by}

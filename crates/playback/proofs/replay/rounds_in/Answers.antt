@@ -3,7 +3,6 @@ use mathlib.Core.Path.{refl, subst}
 use mathlib.Core.List.{List}
 use Prim.Native.Nat.{ℕ, ◌+◌}
 use native.Mathlib.Nat.{zero-add}
-use borrow.Author.Rules.{rules}
 use Rattle.recording.specs.Packed.{round_at}
 use Rattle.protocol.specs.Rules.{two_rules}
 use Rattle.protocol.specs.Six.{six_rules}
@@ -12,7 +11,6 @@ use Rattle.playback.specs.Standing.{Halted}
 use Rattle.playback.proofs.Graded.{found_none}
 use Rattle.playback.proofs.replay.rounds_in.Goals as goal
 
--- `rounds_in` meets its contract.
 -- the rounds are counted from 0
 ended : (s : List ℕ) (rounds : ℕ) (by ends sent : List ℕ) (b : Sets) → Halted two_rules (round_at s) s (0 + rounds) by ends sent 0 b → Halted two_rules (round_at s) s rounds by ends sent 0 b
 ended s rounds by ends sent b h = subst (λ (k : ℕ). Halted two_rules (round_at s) s k by ends sent 0 b) (zero-add rounds) h

@@ -1,6 +1,5 @@
 -- `veto` meets its contract.
 use Prim.Native.Nat.{ℕ, ◌+◌, ◌*◌}
-use borrow.Author.Rules.{rules}
 use lib.Bits.{bit_and, bit_or}
 use Rattle.playback.proofs.Rounded.{none_asked, as_asked, vetoes_by}
 use Rattle.playback.proofs.replay.veto.Goals as goal

@@ -1,5 +1,4 @@
 -- `prepare` meets its contract.
-use borrow.Author.Rules.{rules}
 use Rattle.playback.proofs.Rounded.{prepares_by}
 use Rattle.playback.proofs.six.prepare.Goals as goal
 

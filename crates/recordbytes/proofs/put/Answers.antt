@@ -24,7 +24,7 @@ loop-i-preserved c =
     let s = c in
     let a = s.args in
     let l = c.loop-i in
-    (omega arith, put_step a.f a.d.now s.requires.1 l.d l.i (omega arith) l.invariant.1 c.put_truck.new.0 (omega arith) c.put_truck.ensures)
+    (omega arith, put_step a.f a.d.now s.requires.1 l.d l.i (omega arith) l.invariant.1 c.put_truck.new.d (omega arith) c.put_truck.ensures)
 
 pub shape_of-d : goal.shape_of-d
 shape_of-d c =

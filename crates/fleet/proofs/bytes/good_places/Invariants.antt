@@ -14,7 +14,7 @@ use Rattle.recordbytes.proofs.Places.{bytes_whole, bytes-few, bytes-n, place_rea
 use Rattle.fleet.proofs.bytes.good_places.Given as goal
 
 abbrev pub invariant-loop-i : goal.invariant-loop-i
-invariant-loop-i l = (l.i ≤ l.end) × (l.ok ≡ all_below (λ l.i. good_truck_in (chosen l.cycle) l.done (truck (record_of l.d).trucks l.i)) l.i)
+invariant-loop-i l = (l.i ≤ l.end) × (l.ok ≡ all_below (λ j. good_truck_in (chosen l.cycle) l.done (truck (record_of l.d).trucks j)) l.i)
 
 abbrev pub decreases-loop-i : goal.decreases-loop-i
 decreases-loop-i l = l.end - l.i

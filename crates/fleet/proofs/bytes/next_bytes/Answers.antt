@@ -40,7 +40,7 @@ returns c =
     let pair = c.pair-done in
     let phase = c.phase_of-phase in
     let senders = c.senders_at-senders in
-    let values = senders.new.1.1.1.0 in
+    let values = senders.new.values in
     let done : pair.result ≡ f.done = pair.ensures ∙ bytes-done d s.requires.0 in
     c.turn_places.ensures
     ∙ ap (λ (k : ℕ). filled (record_byte (turned_fleet phase.result w senders.result values (k + 1) f)) (size_for f.n) d) done

@@ -45,7 +45,7 @@ loop-i-preserved c =
     let o = n.loop-i in (
       omega (arith, n.loop-i-test.true),
       turn_more a.phase a.words.now a.senders a.values.now a.round a.d.now s.requires.0 o.d o.i (omega (arith, below n)) o.invariant.1 (below n)
-          c.truck_in-t.result c.updated-next.result c.event_by-event.result c.put_in.new.0
+          c.truck_in-t.result c.updated-next.result c.event_by-event.result c.put_in.new.d
           c.truck_in-t.ensures c.event_by-event.ensures c.updated-next.ensures c.put_in.ensures,
     )
 

@@ -27,8 +27,8 @@ returns c =
     let w = s.args.words.now in
     let g = step_good s.args.cycle f w s.requires in
     let senders = c.senders_of-senders in
-    let values = senders.new.1.1.1.0 in
-    let held = senders.new.1.1.1.1.0 in
+    let values = senders.new.values in
+    let held = senders.new.held in
     let events = c.events_of-events in
     let phase = c.phase_of-phase in
     step_next s.args.cycle f w phase.result phase.ensures senders.result values senders.ensures.0 senders.ensures.1.0 g.small g.counts g.most held

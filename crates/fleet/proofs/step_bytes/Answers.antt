@@ -1,6 +1,5 @@
 -- `step_bytes` meets its contract.
 use mathlib.Core.Path.{sym, ◌∙◌}
-use borrow.Author.Rules.{rules}
 use Rattle.protocol.specs.Fleets.{chosen}
 use Rattle.fleet.proofs.ByPlaces.{check_undamaged, check_is, bytes-accepted, bytes-refused}
 use Rattle.fleet.proofs.step_bytes.Goals as goal

@@ -9,12 +9,10 @@ loop-i-init c = (search rules, open-starts c.args.n c.args.openings.now c.blank-
 
 pub loop-i-preserved : goal.loop-i-preserved
 loop-i-preserved c =
-    let s = c in
     let i = c.loop-i in
-    (search rules, open_more s.args.n s.args.openings.now i.f i.i c.opened.result i.invariant.1 c.opened.ensures (omega (arith, s.requires.0, s.requires.1, c.loop-i-test.true)))
+    (search rules, open_more c.args.n c.args.openings.now i.f i.i c.opened.result i.invariant.1 c.opened.ensures (omega (arith, c.requires.0, c.requires.1, c.loop-i-test.true)))
 
 pub returns : goal.returns
 returns c =
-    let s = c in
     let i = c.loop-i in
-    open_done s.args.n s.args.openings.now i.f i.i i.invariant.1 (omega (arith, i.invariant.0, c.loop-i-test.false)) (omega (arith, s.requires.0, s.requires.1))
+    open_done c.args.n c.args.openings.now i.f i.i i.invariant.1 (omega (arith, i.invariant.0, c.loop-i-test.false)) (omega (arith, c.requires.0, c.requires.1))

@@ -1,5 +1,4 @@
 -- `pack_places` meets its contract.
-use borrow.Author.Rules.{rules}
 use Rattle.recordbytes.proofs.Laws.{pack_refusal, pack-kept, pack-accepted, pack-put, pack_range, pack-room}
 use Rattle.recordbytes.proofs.pack_places.Goals as goal
 

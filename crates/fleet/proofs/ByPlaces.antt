@@ -2,9 +2,9 @@
 use mathlib.Core.Path.{◌≡◌, refl, ap, ap₂, sym, ◌∙◌}
 use mathlib.Core.Bool.{true, false}
 use mathlib.Core.List.{List}
-use Prim.Native.Nat.{ℕ, ◌+◌, ◌≤◌, ◌<◌}
+use Prim.Native.Nat.{ℕ, ◌+◌, ◌≤◌, ◌<◌, min}
 use native.Mathlib.Omega.{arith}
-use lib.ListN.{length}
+use lib.ListN.{length, get_or}
 use Rattle.basics.specs.Lists.{filled}
 use Rattle.basics.proofs.Laws.{get_or-filled}
 use Rattle.refusals.specs.declared.Refusal.{Refusal}
@@ -21,11 +21,15 @@ use Rattle.truck.specs.Events.{turned}
 use Rattle.recordbytes.specs.Layout.{size_for, record_byte, truck_in, with_truck, damaged, record_of, unpacked}
 use Rattle.recordbytes.proofs.Laws.{headed, put_holds, put-now, put-length}
 use Rattle.recordbytes.proofs.RoundTrip.{taken-whole}
-use Rattle.recordbytes.proofs.Places.{bytes_whole, bytes-few, head_n, head_trucks, place_kept, place-put}
+use Rattle.recordbytes.proofs.Places.{bytes_whole, bytes-few, bytes-n, head_n, head_trucks, place_kept, place-put}
 use Rattle.fleet.specs.declared.round.Phase.{Phase}
 use Rattle.fleet.specs.Rounds.{event_by, turned_fleet}
 use Rattle.playback.specs.Sets.{estimates}
 use Rattle.fleet.specs.Bytes.{bytes_check_in, bytes_step_in}
+
+-- a loop over the places of sound bytes ends at n
+pub places_end : (d : List ℕ) → damaged d ≡ false → {end : ℕ} → end ≡ min (get_or d 0 0) 32 → end ≡ (record_of d).n
+places_end d sound e = omega (arith, e, bytes-n d sound, bytes-few d sound)
 
 module _ (p : Protocol) (d w : List ℕ) where
   pub check_damaged : damaged d ≡ true → Refused Record ≡ bytes_check_in p d w

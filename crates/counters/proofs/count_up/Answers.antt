@@ -2,7 +2,7 @@
 use mathlib.Core.Path.{◌≡◌, refl, ap, ap₂, sym, ◌∙◌}
 use mathlib.Core.Bool.{Bool, true, false, ◌&&◌, not}
 use mathlib.Core.List.{List}
-use Prim.Native.Nat.{ℕ, suc, ◌+◌, ◌-◌, ◌≤◌}
+use Prim.Native.Nat.{ℕ, suc, ◌+◌, ◌-◌, ◌≤◌, ◌<◌}
 use native.Mathlib.Numerals.{add-one}
 use native.Mathlib.Omega.{arith}
 use borrow.Author.Rules.{rules}
@@ -25,19 +25,23 @@ ended old words who carry i l e f h = go (eqb carry 0) refl h
         ∙ ap (raised old who) (let z : i + (8 - i) ≡ 8 = omega arith in z)
     go false eb g = e ∙ ap (raised old who) (let z : i ≡ 8 = omega (arith, ltb-false i 8 g) in z)
 
+-- the loop goes on only below the eighth word
+below : (carry i : ℕ) → (not (eqb carry 0) && ltb i 8) ≡ true → i < 8
+below carry i h = ltb-true i 8 (and_right (not (eqb carry 0)) (ltb i 8) h)
+
 pub loop-carry-init : goal.loop-carry-init
 unfolding carried raised
 loop-carry-init c = (search rules, refl, refl)
 
 pub bounds-words-i : goal.bounds-words-i
-bounds-words-i c = let l = c.loop-carry in ltb-true l.i 8 (and_right (not (eqb l.carry 0)) (ltb l.i 8) c.loop-carry-test.true)
+bounds-words-i c = below c.loop-carry.carry c.loop-carry.i c.loop-carry-test.true
 
 pub loop-carry-preserved : goal.loop-carry-preserved
 loop-carry-preserved c =
     let l = c.loop-carry in
     let a = c.args in
     let more : suc l.i ≡ l.i + 1 = sym (add-one l.i) in (
-      omega (arith, bounds-words-i c),
+      omega (arith, below c.loop-carry.carry c.loop-carry.i c.loop-carry-test.true),
       ap₂ (λ (x : List ℕ) (y : ℕ). set x l.i (bit_xor (get_or x l.i 0) y)) l.invariant.1 l.invariant.2
           ∙ sym (raised-next a.words.now a.who l.i)
           ∙ ap (raised a.words.now a.who) more,
@@ -53,7 +57,7 @@ returns c =
     ended a.words.now l.words a.who l.carry l.i l.invariant.0 l.invariant.1 l.invariant.2 c.loop-carry-test.false
 
 pub bounds-words-i-in-loop-carry : goal.bounds-words-i-in-loop-carry
-bounds-words-i-in-loop-carry c = bounds-words-i c
+bounds-words-i-in-loop-carry c = below c.loop-carry.carry c.loop-carry.i c.loop-carry-test.true
 
 pub loop-carry-smaller : goal.loop-carry-smaller
-loop-carry-smaller c = omega (arith, bounds-words-i c)
+loop-carry-smaller c = omega (arith, below c.loop-carry.carry c.loop-carry.i c.loop-carry-test.true)

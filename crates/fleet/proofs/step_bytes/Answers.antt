@@ -1,6 +1,5 @@
 -- `step_bytes` meets its contract.
 use mathlib.Core.Path.{sym, ◌∙◌}
-use borrow.Author.Rules.{rules}
 use Rattle.protocol.specs.Fleets.{chosen}
 use Rattle.fleet.proofs.ByPlaces.{check_undamaged, check_is, bytes-accepted, bytes-refused}
 use Rattle.fleet.proofs.step_bytes.Goals as goal
@@ -19,10 +18,10 @@ returns-in-Accepted c =
     let p = chosen a.cycle in
     let taken = sym c.check-outcome.ensures ∙ c.in-Accepted.is in
     let sound = check_undamaged p a.d.now a.words.now taken in
-    (sym taken, bytes-accepted p a.d.now a.words.now sound taken c.next_bytes.new.1.0 c.next_bytes.ensures)
+    record { answer = sym taken; buffer = bytes-accepted p a.d.now a.words.now sound taken c.next_bytes.new.d c.next_bytes.ensures }
 
 pub returns-in-Refused : goal.returns-in-Refused
 returns-in-Refused c =
     let a = c.args in
     let refused = sym c.check-outcome.ensures ∙ c.in-Refused.is in
-    (sym refused, bytes-refused (chosen a.cycle) a.d.now a.words.now _ refused)
+    record { answer = sym refused; buffer = bytes-refused (chosen a.cycle) a.d.now a.words.now _ refused }

@@ -1,6 +1,5 @@
 -- `step_in` meets its contract.
 use mathlib.Core.Path.{ap, sym, ◌∙◌}
-use borrow.Author.Rules.{rules}
 use Rattle.refusals.specs.declared.Outcome.{Outcome}
 use Rattle.refusals.specs.declared.Outcome.TheVariants.{Accepted}
 use Rattle.protocol.specs.declared.Fleet.{Fleet}

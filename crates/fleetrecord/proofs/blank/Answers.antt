@@ -1,5 +1,4 @@
 -- `blank` meets its contract.
-use borrow.Author.Rules.{rules}
 use Rattle.basics.specs.Lists.{tab, tab_from}
 use Rattle.protocol.specs.Runs.{opened_in}
 use Rattle.protocol.specs.Fleets.{blank}

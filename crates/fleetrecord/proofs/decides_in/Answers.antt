@@ -1,5 +1,4 @@
 -- `decides_in` meets its contract.
-use borrow.Author.Rules.{rules}
 use Rattle.fleetrecord.proofs.decides_in.Goals as goal
 
 pub returns-in-TwoRound : goal.returns-in-TwoRound

@@ -1,6 +1,5 @@
 -- `good_fleet` meets its contract: a law for each return.
 use mathlib.Core.Path.{sym, ◌∙◌}
-use borrow.Author.Rules.{rules}
 use Rattle.protocol.specs.Fleets.{chosen}
 use Rattle.recording.proofs.Accepted.{trucks_in_lem}
 use Rattle.fleetrecord.proofs.Records.{bad_count, bad_done, good-count}

@@ -1,7 +1,6 @@
 -- `good_rest` meets its contract.
 use mathlib.Core.Path.{ap, ap₂, sym, ◌∙◌}
 use mathlib.Core.Bool.{◌&&◌, and-true}
-use borrow.Author.Rules.{rules}
 use Rattle.protocol.specs.declared.Cycle.{Cycle}
 use Rattle.protocol.specs.Fleets.{chosen}
 use Rattle.fleetrecord.proofs.good_rest.Goals as goal

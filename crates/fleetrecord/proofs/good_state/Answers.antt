@@ -1,5 +1,4 @@
 -- `good_state` meets its contract.
-use borrow.Author.Rules.{rules}
 use Rattle.fleetrecord.proofs.good_state.Goals as goal
 
 pub returns-in-Stopped : goal.returns-in-Stopped

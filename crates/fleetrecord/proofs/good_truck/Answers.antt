@@ -2,7 +2,6 @@
 use mathlib.Core.Path.{◌≡◌, refl, ap₂, ◌∙◌}
 use mathlib.Core.Bool.{Bool, true, false, ◌&&◌}
 use Prim.Native.Nat.{ℕ}
-use borrow.Author.Rules.{rules}
 use lib.Dec.{leb}
 use Rattle.protocol.specs.declared.Truck.{Truck}
 use Rattle.protocol.specs.Fleets.{Protocol, chosen, good_state_in, good_truck_in}

@@ -1,11 +1,7 @@
 -- `open_fleet` meets its contract: the loop holds the fleet of which the trucks that it has passed have opened.
-use mathlib.Core.Path.{◌≡◌}
-use Prim.Native.Nat.{◌≤◌, ◌-◌}
 use native.Mathlib.Omega.{arith}
 use borrow.Author.Rules.{rules}
-use lib.ListN.{length}
-use Rattle.fleetrecord.proofs.Records.{opening_fleet, open-starts, open_more, open_done}
-use Rattle.protocol.specs.Rules.{opened}
+use Rattle.fleetrecord.proofs.Records.{open-starts, open_more, open_done}
 use Rattle.fleetrecord.proofs.open_fleet.Goals as goal
 
 pub loop-i-init : goal.loop-i-init
@@ -13,12 +9,10 @@ loop-i-init c = (search rules, open-starts c.args.n c.args.openings.now c.blank-
 
 pub loop-i-preserved : goal.loop-i-preserved
 loop-i-preserved c =
-    let s = c in
     let i = c.loop-i in
-    (search rules, open_more s.args.n s.args.openings.now i.f i.i c.opened.result i.invariant.1 c.opened.ensures (omega (arith, s.requires.0, s.requires.1, c.loop-i-test.true)))
+    (search rules, open_more c.args.n c.args.openings.now i.f i.i c.opened.result i.invariant.1 c.opened.ensures (omega (arith, c.requires.0, c.requires.1, c.loop-i-test.true)))
 
 pub returns : goal.returns
 returns c =
-    let s = c in
     let i = c.loop-i in
-    open_done s.args.n s.args.openings.now i.f i.i i.invariant.1 (omega (arith, i.invariant.0, c.loop-i-test.false)) (omega (arith, s.requires.0, s.requires.1))
+    open_done c.args.n c.args.openings.now i.f i.i i.invariant.1 (omega (arith, i.invariant.0, c.loop-i-test.false)) (omega (arith, c.requires.0, c.requires.1))

@@ -1,11 +1,8 @@
 -- `open_fleet` meets its contract: the loop holds the fleet of which the trucks that it has passed have opened.
 use mathlib.Core.Path.{◌≡◌}
 use Prim.Native.Nat.{◌≤◌, ◌-◌}
-use native.Mathlib.Omega.{arith}
-use borrow.Author.Rules.{rules}
 use lib.ListN.{length}
-use Rattle.fleetrecord.proofs.Records.{opening_fleet, open-starts, open_more, open_done}
-use Rattle.protocol.specs.Rules.{opened}
+use Rattle.fleetrecord.proofs.Records.{opening_fleet}
 use Rattle.fleetrecord.proofs.open_fleet.Given as goal
 
 abbrev pub invariant-loop-i : goal.invariant-loop-i

@@ -1,5 +1,4 @@
 -- `opened` meets its contract.
-use borrow.Author.Rules.{rules}
 use Rattle.fleetrecord.proofs.opened.Goals as goal
 
 pub returns : goal.returns

@@ -1,5 +1,4 @@
 -- `refused` meets its contract.
-use borrow.Author.Rules.{rules}
 use Rattle.fleetrecord.proofs.refused.Goals as goal
 
 pub returns : goal.returns

@@ -1,5 +1,4 @@
 -- `six_memory` meets its contract.
-use borrow.Author.Rules.{rules}
 use Rattle.fleetrecord.proofs.six_memory.Goals as goal
 
 pub returns : goal.returns

@@ -1,6 +1,5 @@
 -- `start` meets its contract: a law for each return, refusal 2 before 7.
 use mathlib.Core.Path.{sym, ◌∙◌}
-use borrow.Author.Rules.{rules}
 use Rattle.protocol.specs.Fleets.{started, start_check}
 use Rattle.recording.proofs.Accepted.{trucks_in_lem, openings_in}
 use Rattle.fleetrecord.proofs.start.Goals as goal

@@ -1,5 +1,4 @@
 -- `two_memory` meets its contract.
-use borrow.Author.Rules.{rules}
 use Rattle.fleetrecord.proofs.two_memory.Goals as goal
 
 pub returns : goal.returns

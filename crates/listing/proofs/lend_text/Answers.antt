@@ -6,7 +6,7 @@ use Rattle.listing.proofs.lend_text.Goals as goal
 pub returns-then-t-buf : goal.returns-then-t-buf
 returns-then-t-buf c =
     let a = c.args in
-    lent a.buf.now a.t.now c.put-k.new.0 c.put-k.result c.if-t-buf.true c.put-k.ensures
+    lent a.buf.now a.t.now c.put-k.new.buf c.put-k.result c.if-t-buf.true c.put-k.ensures
 
 pub returns-else-t-buf : goal.returns-else-t-buf
 returns-else-t-buf c =

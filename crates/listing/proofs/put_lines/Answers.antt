@@ -15,10 +15,10 @@ loop-i-init c = (lines_none c.args.buf.now c.args.at c.args.f.trucks, search rul
 pub loop-i-preserved : goal.loop-i-preserved
 loop-i-preserved c =
     let l = c.loop-i in
-    (lines_more c.args.f.trucks l.i l.invariant.0 c.put_line-r.ensures.0, omega arith, omega arith, omega arith)
+    (lines_more c.args.f.trucks l.i l.invariant.0 c.put_line-r.ensures.placed, omega arith, omega arith, omega arith)
 
 pub returns : goal.returns
 returns c =
     let l = c.loop-i in
     let f = c.args.f in
-    (put_as (ap (truck_lines f.trucks) (let e : l.i ≡ f.n = omega arith in e)) l.invariant.0, omega arith)
+    record { placed = put_as (ap (truck_lines f.trucks) (let e : l.i ≡ f.n = omega arith in e)) l.invariant.0; within = omega arith }

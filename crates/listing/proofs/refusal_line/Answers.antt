@@ -5,8 +5,8 @@ use borrow.Author.Rules.{rules}
 use Rattle.listing.proofs.refusal_line.Goals as goal
 
 pub slice_bounds-lend_text-end : goal.slice_bounds-lend_text-end
-slice_bounds-lend_text-end c = put_count c.put_refusal-k.ensures.0
+slice_bounds-lend_text-end c = put_count c.put_refusal-k.ensures.placed
 
 pub returns : goal.returns
 unfolding refusal_listed
-returns c = rw (← c.put_refusal-k.ensures.0.front) c.lend_text.ensures
+returns c = rw (← c.put_refusal-k.ensures.placed.front) c.lend_text.ensures

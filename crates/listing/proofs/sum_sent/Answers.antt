@@ -24,4 +24,7 @@ returns c =
     let l = c.loop-i in
     let f = c.args.f in
     let e : l.i ≡ f.n = omega arith in
-    (l.invariant.0 ∙ ap (sum_below (λ k. (truck f.trucks k).sent.proposals)) e, l.invariant.1 ∙ ap (sum_below (λ k. (truck f.trucks k).sent.vetoes)) e)
+    record {
+      proposals = l.invariant.0 ∙ ap (sum_below (λ k. (truck f.trucks k).sent.proposals)) e;
+      vetoes = l.invariant.1 ∙ ap (sum_below (λ k. (truck f.trucks k).sent.vetoes)) e;
+    }

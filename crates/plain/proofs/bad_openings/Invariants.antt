@@ -3,14 +3,9 @@ use mathlib.Core.Path.{◌≡◌}
 use mathlib.Core.Bool.{Bool, false}
 use mathlib.Core.List.{List}
 use Prim.Native.Nat.{ℕ, ◌≤◌, ◌-◌}
-use native.Mathlib.Omega.{arith}
-use borrow.Author.Rules.{rules}
-use borrow.Author.Tests.{le-ltb}
 use lib.Dec.{ltb}
 use lib.ListN.{length, get_or}
 use Rattle.basics.specs.Lists.{some_below}
-use Rattle.basics.proofs.Laws.{some-none, none_more}
-use Rattle.plain.proofs.Tests.{openings-count, openings_above, openings_fine}
 use Rattle.plain.proofs.bad_openings.Given as goal
 
 abbrev pub above : List ℕ → ℕ → Bool

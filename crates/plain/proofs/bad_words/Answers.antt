@@ -1,14 +1,10 @@
 -- `bad_words` meets its contract: the union has a bit too high exactly where a word that the loop has passed has.
-use mathlib.Core.Path.{◌≡◌, ap, sym, ◌∙◌}
+use mathlib.Core.Path.{ap, sym, ◌∙◌}
 use mathlib.Core.Bool.{Bool, ◌||◌}
-use mathlib.Core.List.{List}
-use Prim.Native.Nat.{ℕ, ◌≤◌, ◌-◌}
 use native.Mathlib.Omega.{arith}
-use borrow.Author.Rules.{rules}
-use lib.ListN.{length, get_or}
+use lib.ListN.{get_or}
 use Rattle.basics.specs.Lists.{some_below}
 use Rattle.basics.proofs.Laws.{some-none, some_more}
-use Rattle.recording.specs.Checks.{high_bit}
 use Rattle.plain.proofs.Tests.{words_count, words_tested, words_small, high_zero, high_or}
 use Rattle.plain.proofs.bad_words.Invariants.{high}
 use Rattle.plain.proofs.bad_words.Goals as goal

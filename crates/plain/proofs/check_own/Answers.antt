@@ -1,11 +1,10 @@
 -- `check_own` meets its contract: no own bit of the rounds that the loop has passed is 1.
 use mathlib.Core.Path.{◌≡◌, refl, sym, ◌∙◌}
-use Prim.Native.Nat.{◌≤◌, ◌+◌, ◌*◌, ◌-◌}
+use Prim.Native.Nat.{◌≤◌, ◌+◌}
 use native.Mathlib.Omega.{arith}
-use borrow.Author.Rules.{rules}
 use lib.ListN.{length, get_or}
 use Rattle.basics.proofs.Laws.{first-le}
-use Rattle.recording.specs.Checks.{own_in, own_round}
+use Rattle.recording.specs.Checks.{own_in}
 use Rattle.recording.proofs.OwnLoss.{own_begins, own_passes, own_found, own-ends}
 use Rattle.plain.proofs.Outcomes.{base_fits}
 use Rattle.plain.proofs.Tests.{own_plain, plain_looked, plain_searched, words_small}
@@ -58,10 +57,9 @@ returns-then-own_any c =
     let l = c.loop-r in
     let a = s.args in
     let held = c.trucks_held-held in
-    let any = c in
-    own_found (λ w. get_or a.words.now w 0) a.n a.k a.rounds l.r (a.k + l.r) c.own_truck.result (omega arith) l.invariant.2 (looked any ∙ c.if-own_any.true)
+    own_found (λ w. get_or a.words.now w 0) a.n a.k a.rounds l.r (a.k + l.r) c.own_truck.result (omega arith) l.invariant.2 (looked (goal.at.returns-then-own_any c).After-own_any ∙ c.if-own_any.true)
     (plain_searched a.words.now a.n held.result l.r l.base (λ i. omega (arith, k.type_inv.words i)) held.ensures l.invariant.1 c.own_truck.result
-    (sym any.own_any.ensures ∙ c.if-own_any.true) c.own_truck.ensures)
+    (sym c.own_any.ensures ∙ c.if-own_any.true) c.own_truck.ensures)
     refl
 
 pub overflow_add-base-in-loop-r : goal.overflow_add-base-in-loop-r
@@ -75,7 +73,7 @@ pub loop-r-preserved : goal.loop-r-preserved
 loop-r-preserved c =
     let a = c.args in
     let l = c.loop-r in
-    (omega arith, omega (arith, l.invariant.1), own_passes (λ w. get_or a.words.now w 0) a.n l.r l.invariant.2 (looked c ∙ c.if-own_any.false))
+    (omega arith, omega (arith, l.invariant.1), own_passes (λ w. get_or a.words.now w 0) a.n l.r l.invariant.2 (looked (goal.at.loop-r-preserved c).After-own_any ∙ c.if-own_any.false))
 
 pub returns : goal.returns
 returns c =

@@ -1,14 +1,8 @@
 -- `check_own` meets its contract: no own bit of the rounds that the loop has passed is 1.
-use mathlib.Core.Path.{◌≡◌, refl, sym, ◌∙◌}
+use mathlib.Core.Path.{◌≡◌}
 use Prim.Native.Nat.{◌≤◌, ◌+◌, ◌*◌, ◌-◌}
-use native.Mathlib.Omega.{arith}
-use borrow.Author.Rules.{rules}
-use lib.ListN.{length, get_or}
-use Rattle.basics.proofs.Laws.{first-le}
-use Rattle.recording.specs.Checks.{own_in, own_round}
-use Rattle.recording.proofs.OwnLoss.{own_begins, own_passes, own_found, own-ends}
-use Rattle.plain.proofs.Outcomes.{base_fits}
-use Rattle.plain.proofs.Tests.{own_plain, plain_looked, plain_searched, words_small}
+use lib.ListN.{get_or}
+use Rattle.recording.specs.Checks.{own_round}
 use Rattle.plain.proofs.check_own.Given as goal
 
 abbrev pub invariant-loop-r : goal.invariant-loop-r

@@ -1,5 +1,4 @@
 -- `check_plain` meets its contract: one law for each return.
-use borrow.Author.Rules.{rules}
 use Rattle.plain.proofs.Outcomes.{plain_2, plain_3, plain_7, plain-rest}
 use Rattle.plain.proofs.check_plain.Goals as goal
 

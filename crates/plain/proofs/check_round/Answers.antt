@@ -1,5 +1,4 @@
 -- `check_round` meets its contract: one round is rounds of the number 1.
-use borrow.Author.Rules.{rules}
 use Rattle.recording.specs.Checks.{round_check}
 use Rattle.plain.proofs.check_round.Goals as goal
 

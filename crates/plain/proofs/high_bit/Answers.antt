@@ -1,5 +1,4 @@
 -- `high_bit` meets its contract: a shift says what the power does, and a word of 32 bits has no bit above them.
-use borrow.Author.Rules.{rules}
 use Rattle.plain.proofs.Tests.{high_shift, high_none}
 use Rattle.plain.proofs.high_bit.Goals as goal
 

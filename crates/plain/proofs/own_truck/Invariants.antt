@@ -1,13 +1,7 @@
 -- `own_truck` meets its contract: no truck that the loop has passed has its own bit set.
-use mathlib.Core.Path.{◌≡◌, sym}
-use Prim.Native.Nat.{◌≤◌, ◌+◌, ◌-◌}
-use native.Mathlib.Omega.{arith}
-use borrow.Author.Rules.{rules}
-use borrow.Author.Tests.{eq-eqb, ne_eqb}
-use lib.ListN.{get_or}
-use Rattle.basics.specs.Bits.{digit}
+use mathlib.Core.Path.{◌≡◌}
+use Prim.Native.Nat.{◌≤◌, ◌-◌}
 use Rattle.basics.specs.Lists.{first}
-use Rattle.basics.proofs.Laws.{first-none, first_step, first_found}
 use Rattle.plain.proofs.Tests.{own_plain}
 use Rattle.plain.proofs.own_truck.Given as goal
 

@@ -2,7 +2,6 @@
 use mathlib.Core.Path.{refl, ap, ◌∙◌}
 use Prim.Native.Nat.{ℕ, ◌+◌, ◌-◌, ◌/◌, ◌%◌, ◌^◌}
 use native.Mathlib.Omega.{arith}
-use borrow.Author.Rules.{rules}
 use Rattle.plain.specs.Steps.{over, byte_of, added}
 use Rattle.plain.proofs.Putting.{added-fits, over_none, over_ext, four_bytes}
 use Rattle.plain.proofs.put.Goals as goal

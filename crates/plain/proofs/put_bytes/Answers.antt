@@ -1,8 +1,7 @@
 -- `put_bytes` meets its contract: the loop holds the buffer with the bytes so far.
-use mathlib.Core.Path.{◌≡◌, ap, ◌∙◌}
-use Prim.Native.Nat.{ℕ, ◌≤◌, ◌-◌, ◌/◌}
+use mathlib.Core.Path.{ap, ◌∙◌}
+use Prim.Native.Nat.{ℕ}
 use native.Mathlib.Omega.{arith}
-use borrow.Author.Rules.{rules}
 use lib.ListN.{length}
 use Rattle.plain.specs.Steps.{over, byte_of}
 use Rattle.plain.proofs.Putting.{length_over, over_none, over_step}

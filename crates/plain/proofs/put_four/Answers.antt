@@ -1,6 +1,5 @@
 -- `put_four` meets its contract: the digits from the highest byte down.
 use native.Mathlib.Omega.{arith}
-use borrow.Author.Rules.{rules}
 use lib.ListN.{length-set}
 use Rattle.plain.proofs.Putting.{over-four}
 use Rattle.plain.proofs.put_four.Goals as goal

@@ -1,15 +1,9 @@
 -- `put_front` meets its contract: the bits put out so far are those of the packed form up to the next opening, whatever the words are.
-use mathlib.Core.List.{List, []}
-use Prim.Native.Nat.{ℕ, ◌≤◌, ◌<◌, ◌+◌, ◌*◌, ◌-◌}
-use native.Mathlib.Omega.{arith}
-use borrow.Author.Rules.{rules}
-use lib.ListN.{length, get_or}
-use Rattle.recording.specs.Packed.{header_bits, opening_place, pack_bit}
-use Rattle.recording.proofs.Accepted.{GoodOpenings, openings_in}
-use Rattle.recording.proofs.Packing.{pack_bit-lt}
+use mathlib.Core.List.{List}
+use Prim.Native.Nat.{ℕ, ◌≤◌, ◌-◌}
+use lib.ListN.{length}
+use Rattle.recording.specs.Packed.{opening_place, pack_bit}
 use Rattle.plain.specs.Steps.{BitsPut}
-use Rattle.plain.proofs.Fields.{header_number, opening-number}
-use Rattle.plain.proofs.Putting.{bits-put-first, bits-put-at, bits-put-length, bits-put-asks, bits-put_more}
 use Rattle.plain.proofs.put_front.Given as goal
 
 abbrev pub invariant-loop-j : goal.invariant-loop-j

@@ -1,5 +1,4 @@
 -- `read` meets its contract: one law for each return.
-use borrow.Author.Rules.{rules}
 use native.Mathlib.Omega.{arith}
 use Rattle.recording.proofs.Fronts.{counts-trucks, counts_rounds}
 use Rattle.plain.proofs.Answers.{read-refused, read-most, read_9, words-room, read_0}

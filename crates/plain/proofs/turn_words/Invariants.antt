@@ -1,13 +1,9 @@
 -- `turn_words` meets its contract: what is still to be turned is as it was.
-use mathlib.Core.Path.{◌≡◌, ap, sym, ◌∙◌}
+use mathlib.Core.Path.{◌≡◌}
 use mathlib.Core.List.{List}
 use Prim.Native.Nat.{ℕ, ◌≤◌, ◌-◌}
-use native.Mathlib.Nat.{le_refl}
-use native.Mathlib.Omega.{arith}
-use borrow.Author.Rules.{rules}
 use lib.ListN.{get_or}
 use Rattle.basics.specs.Lists.{filled}
-use Rattle.basics.proofs.Laws.{filled_none, get_or-filled_past, fill_length, fill_step}
 use Rattle.plain.specs.Steps.{turned_word}
 use Rattle.plain.proofs.turn_words.Given as goal
 

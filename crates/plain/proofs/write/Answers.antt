@@ -1,5 +1,4 @@
 -- `write` meets its contract: one law for each return.
-use borrow.Author.Rules.{rules}
 use Rattle.plain.proofs.Answers.{write_refused, write_9, plain-kept, bytes-room, write_0}
 use Rattle.plain.proofs.write.Goals as goal
 

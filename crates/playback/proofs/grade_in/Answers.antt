@@ -1,6 +1,5 @@
 -- `grade_in` meets its contract.
 use mathlib.Core.Path.{sym, ◌∙◌}
-use borrow.Author.Rules.{rules}
 use Rattle.recording.specs.Checks.{frame_check, own_check, check_of}
 use Rattle.refusals.proofs.Outcomes.{then-first}
 use Rattle.protocol.specs.Fleets.{graded_in}

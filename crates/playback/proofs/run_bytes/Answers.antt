@@ -1,7 +1,6 @@
 -- `run_bytes` meets its contract: a law for each return.
 use mathlib.Core.Path.{sym, ◌∙◌}
 use native.Mathlib.Omega.{arith}
-use borrow.Author.Rules.{rules}
 use Rattle.recording.specs.Checks.{frame_check, own_check, check_of}
 use Rattle.refusals.proofs.Outcomes.{then-first}
 use Rattle.protocol.specs.Fleets.{chosen}
@@ -11,7 +10,8 @@ use Rattle.playback.proofs.run_bytes.Goals as goal
 pub returns-then-d-lt323 : goal.returns-then-d-lt323
 returns-then-d-lt323 c =
     let a = c.args in
-    run_short (chosen a.cycle) a.s.now a.d.now (sym c.check-outcome.ensures ∙ c.in-Accepted.is) (omega arith)
+    let h = run_short (chosen a.cycle) a.s.now a.d.now (sym c.check-outcome.ensures ∙ c.in-Accepted.is) (omega arith) in
+    record { answer = h.0; buffer = h.1 }
 
 pub run_into-requires : goal.run_into-requires
 unfolding check_of
@@ -23,9 +23,11 @@ pub returns-else-d-lt323 : goal.returns-else-d-lt323
 returns-else-d-lt323 c =
     let a = c.args in
     let r = c.run_into in
-    run-put (chosen a.cycle) a.s.now a.d.now (sym c.check-outcome.ensures ∙ c.in-Accepted.is) (omega arith) r.new.1.1.0 r.ensures
+    let h = run-put (chosen a.cycle) a.s.now a.d.now (sym c.check-outcome.ensures ∙ c.in-Accepted.is) (omega arith) r.new.d r.ensures in
+    record { answer = h.0; buffer = h.1 }
 
 pub returns-in-Refused : goal.returns-in-Refused
 returns-in-Refused c =
     let a = c.args in
-    run-refused (chosen a.cycle) a.s.now a.d.now _ (sym c.check-outcome.ensures ∙ c.in-Refused.is)
+    let h = run-refused (chosen a.cycle) a.s.now a.d.now _ (sym c.check-outcome.ensures ∙ c.in-Refused.is) in
+    record { answer = h.0; buffer = h.1 }

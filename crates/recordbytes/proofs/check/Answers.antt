@@ -1,5 +1,4 @@
 -- `check` meets its contract: a law for each return.
-use borrow.Author.Rules.{rules}
 use Rattle.recordbytes.proofs.Laws.{pack_7, pack_9, pack_0}
 use Rattle.recordbytes.proofs.check.Goals as goal
 

@@ -1,5 +1,4 @@
 -- `damaged_at` meets its contract.
-use borrow.Author.Rules.{rules}
 use Rattle.recordbytes.proofs.Laws.{damaged_is}
 use Rattle.recordbytes.proofs.damaged_at.Goals as goal
 

@@ -1,6 +1,5 @@
 -- `place_byte_lem` meets its contract.
 use mathlib.Core.Path.{refl}
-use borrow.Author.Rules.{rules}
 use Rattle.recordbytes.specs.Layout.{place_byte}
 use Rattle.recordbytes.proofs.place_byte.Goals as goal
 

@@ -1,12 +1,8 @@
 -- `put` meets its contract: the loop holds that the head and the places passed are in the buffer.
-use mathlib.Core.Path.{◌≡◌, ap, ◌∙◌}
-use Prim.Native.Nat.{ℕ, ◌-◌, ◌≤◌}
-use native.Mathlib.Omega.{arith}
-use lib.ListN.{length-set}
-use borrow.Author.Rules.{rules}
+use mathlib.Core.Path.{◌≡◌}
+use Prim.Native.Nat.{◌-◌, ◌≤◌}
 use Rattle.basics.specs.Lists.{filled}
 use Rattle.recordbytes.specs.Layout.{size_for, record_byte}
-use Rattle.recordbytes.proofs.Laws.{put_holds, put-now, put-length, put_step}
 use Rattle.recordbytes.proofs.put.Given as goal
 
 abbrev pub invariant-loop-i : goal.invariant-loop-i

@@ -2,7 +2,6 @@
 use Prim.Native.Nat.{◌<◌, ◌≤◌}
 use lib.ListN.{length}
 use native.Mathlib.Omega.{arith}
-use borrow.Author.Rules.{rules}
 use Rattle.recordbytes.proofs.Laws.{put-none, place-whole, place-below, put_some}
 use Rattle.recordbytes.proofs.put_in.Goals as goal
 

@@ -1,7 +1,6 @@
 -- `put_truck` meets its contract.
 use native.Mathlib.Omega.{arith}
 use lib.ListN.{length-set}
-use borrow.Author.Rules.{rules}
 use Rattle.recordbytes.proofs.Laws.{truck-put}
 use Rattle.recordbytes.proofs.put_truck.Goals as goal
 

@@ -1,5 +1,4 @@
 -- `record_of` meets its contract.
-use borrow.Author.Rules.{rules}
 use Rattle.recordbytes.proofs.Laws.{record_is}
 use Rattle.recordbytes.proofs.record_of.Goals as goal
 

@@ -1,7 +1,6 @@
 -- `some_damaged` meets its contract: the loop holds that no place passed is damaged.
 use mathlib.Core.Path.{◌∙◌, ◌≡◌, sym}
 use mathlib.Core.Bool.{false}
-use Prim.Native.Nat.{ℕ, ◌-◌, ◌≤◌, ◌<◌}
 use native.Mathlib.Omega.{arith}
 use borrow.Author.Rules.{rules}
 use borrow.Author.Count.{below_none, below_more}
@@ -14,9 +13,8 @@ loop-i-init c = (omega arith, below_none (λ k. damaged_at c.args.d.now k ≡ fa
 
 pub returns-then-damaged_at : goal.returns-then-damaged_at
 returns-then-damaged_at c =
-    let loop = c in
-    let a = loop.args in
-    some_hit (damaged_at a.d.now) a.n loop.loop-i.i c.loop-i-test.true (sym c.damaged_at.ensures ∙ c.if-damaged_at.true)
+    let a = c.args in
+    some_hit (damaged_at a.d.now) a.n c.loop-i.i c.loop-i-test.true (sym c.damaged_at.ensures ∙ c.if-damaged_at.true)
 
 pub loop-i-preserved : goal.loop-i-preserved
 loop-i-preserved c = (search rules, below_more _ _ c.loop-i.invariant.1 (sym c.damaged_at.ensures ∙ c.if-damaged_at.false))

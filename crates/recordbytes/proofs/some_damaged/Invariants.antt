@@ -1,11 +1,7 @@
 -- `some_damaged` meets its contract: the loop holds that no place passed is damaged.
-use mathlib.Core.Path.{◌∙◌, ◌≡◌, sym}
+use mathlib.Core.Path.{◌≡◌}
 use mathlib.Core.Bool.{false}
 use Prim.Native.Nat.{ℕ, ◌-◌, ◌≤◌, ◌<◌}
-use native.Mathlib.Omega.{arith}
-use borrow.Author.Rules.{rules}
-use borrow.Author.Count.{below_none, below_more}
-use Rattle.basics.proofs.Laws.{some_hit, some_end}
 use Rattle.recordbytes.specs.Layout.{damaged_at}
 use Rattle.recordbytes.proofs.some_damaged.Given as goal
 

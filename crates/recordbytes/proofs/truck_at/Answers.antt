@@ -1,5 +1,4 @@
 -- `truck_at` meets its contract.
-use borrow.Author.Rules.{rules}
 use Rattle.recordbytes.proofs.Laws.{truck_is}
 use Rattle.recordbytes.proofs.truck_at.Goals as goal
 

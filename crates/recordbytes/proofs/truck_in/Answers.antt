@@ -1,5 +1,4 @@
 -- `truck_in` meets its contract: a law for each return.
-use borrow.Author.Rules.{rules}
 use Rattle.recordbytes.proofs.Laws.{truck-none, place-whole, place-below, truck-some}
 use Rattle.recordbytes.proofs.truck_in.Goals as goal
 

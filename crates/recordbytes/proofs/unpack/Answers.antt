@@ -1,6 +1,5 @@
 -- `unpack` meets its contract: a law for each return.
 use mathlib.Core.Path.{sym, ◌∙◌}
-use borrow.Author.Rules.{rules}
 use Rattle.recording.proofs.Accepted.{trucks_in_lem}
 use Rattle.recordbytes.proofs.Laws.{unpack_7, unpack_0}
 use Rattle.recordbytes.proofs.RoundTrip.{undamaged}

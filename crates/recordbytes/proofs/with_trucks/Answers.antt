@@ -1,9 +1,8 @@
 -- `with_trucks` meets its contract: the loop holds that the places passed are filled.
-use mathlib.Core.Path.{◌≡◌, ap, sym, ◌∙◌}
+use mathlib.Core.Path.{ap, sym, ◌∙◌}
 use mathlib.Core.List.{[]}
-use Prim.Native.Nat.{ℕ, ◌-◌, ◌≤◌}
+use Prim.Native.Nat.{ℕ}
 use native.Mathlib.Omega.{arith}
-use borrow.Author.Rules.{rules}
 use Rattle.basics.proofs.Laws.{filled_none, fill_step}
 use Rattle.basics.specs.Lists.{filled}
 use Rattle.protocol.specs.declared.Fleet.{Fleet}

@@ -1,15 +1,9 @@
 -- `with_trucks` meets its contract: the loop holds that the places passed are filled.
-use mathlib.Core.Path.{◌≡◌, ap, sym, ◌∙◌}
+use mathlib.Core.Path.{◌≡◌}
 use mathlib.Core.List.{[]}
-use Prim.Native.Nat.{ℕ, ◌-◌, ◌≤◌}
-use native.Mathlib.Omega.{arith}
-use borrow.Author.Rules.{rules}
-use Rattle.basics.proofs.Laws.{filled_none, fill_step}
+use Prim.Native.Nat.{◌-◌, ◌≤◌}
 use Rattle.basics.specs.Lists.{filled}
-use Rattle.protocol.specs.declared.Fleet.{Fleet}
 use Rattle.protocol.specs.Runs.{opened_trucks}
-use Rattle.protocol.proofs.Opened.{length-opened}
-use Rattle.recordbytes.proofs.Laws.{blank-trucks}
 use Rattle.recordbytes.specs.Layout.{truck_at}
 use Rattle.recordbytes.proofs.with_trucks.Given as goal
 

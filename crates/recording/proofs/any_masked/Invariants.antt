@@ -1,13 +1,10 @@
 -- `any_masked` meets its contract: the union is not 0 exactly where a byte that the loop has passed has a bit of the mask.
-use mathlib.Core.Path.{◌≡◌, sym}
+use mathlib.Core.Path.{◌≡◌}
 use mathlib.Core.Bool.{not}
 use Prim.Native.Nat.{◌≤◌, ◌-◌}
-use native.Mathlib.Omega.{arith}
-use borrow.Author.Rules.{rules}
 use lib.Dec.{eqb}
 use Rattle.basics.specs.Lists.{some_below}
-use Rattle.basics.proofs.Laws.{some-none}
-use Rattle.recording.proofs.Masks.{masked, masked_more}
+use Rattle.recording.proofs.Masks.{masked}
 use Rattle.recording.proofs.any_masked.Given as goal
 
 abbrev pub invariant-loop-j : goal.invariant-loop-j

@@ -1,7 +1,6 @@
 -- `bits_for` meets its contract: no product or sum wraps.
 use mathlib.Core.Path.{refl}
 use native.Mathlib.Omega.{arith}
-use borrow.Author.Rules.{rules}
 use Rattle.recording.specs.Packed.{bits_for}
 use Rattle.recording.proofs.Sizes.{square_small, rounds_small}
 use Rattle.recording.proofs.bits_for.Goals as goal

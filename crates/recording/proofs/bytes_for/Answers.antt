@@ -2,7 +2,6 @@
 use mathlib.Core.Path.{ap}
 use Prim.Native.Nat.{ℕ, ◌+◌, ◌/◌}
 use native.Mathlib.Omega.{arith}
-use borrow.Author.Rules.{rules}
 use Rattle.recording.specs.Packed.{bytes_for}
 use Rattle.recording.proofs.Sizes.{bits_small}
 use Rattle.recording.proofs.bytes_for.Goals as goal

@@ -1,5 +1,4 @@
 -- `check` meets its contract: one law for each return.
-use borrow.Author.Rules.{rules}
 use Rattle.recording.proofs.Fronts.{counts-trucks, counts_rounds}
 use Rattle.recording.proofs.Searches.{check_1, check_on}
 use Rattle.recording.proofs.check.Goals as goal

@@ -1,5 +1,4 @@
 -- `check_counted` meets its contract: one law for each return.
-use borrow.Author.Rules.{rules}
 use Rattle.recording.proofs.Searches.{counted_2, counted_3, counted_4, end_fits, counted_5, own-fits, counted_6}
 use Rattle.recording.proofs.check_counted.Goals as goal
 

@@ -4,7 +4,6 @@ use native.Mathlib.Nat.{min-eq_left}
 use native.Mathlib.Omega.{arith}
 use mathlib.Core.Path.{ap, ◌∙◌}
 use lib.ListN.{length}
-use borrow.Author.Rules.{rules}
 use Rattle.bitreader.proofs.Digits.{bit_at_lt}
 use Rattle.recording.specs.Packed.{bit_at, num_at}
 use Rattle.recording.proofs.Searches.{number_tests}

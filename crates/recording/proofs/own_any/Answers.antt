@@ -1,10 +1,7 @@
 -- `own_any` meets its contract: the bit worth 128 of the union says whether a truck that the loop has passed has its own bit set.
 use mathlib.Core.Path.{◌≡◌, sym}
-use Prim.Native.Nat.{◌≤◌, ◌+◌, ◌*◌, ◌-◌, ◌/◌}
+use Prim.Native.Nat.{◌/◌}
 use native.Mathlib.Omega.{arith}
-use borrow.Author.Rules.{rules}
-use Rattle.basics.specs.Bits.{bit}
-use Rattle.basics.specs.Lists.{some_below}
 use Rattle.basics.proofs.Laws.{some-none}
 use Rattle.recording.proofs.Searches.{own_packed, own-near, union_more, within_rows}
 use Rattle.recording.proofs.own_any.Goals as goal

@@ -1,12 +1,9 @@
 -- `own_any` meets its contract: the bit worth 128 of the union says whether a truck that the loop has passed has its own bit set.
-use mathlib.Core.Path.{◌≡◌, sym}
-use Prim.Native.Nat.{◌≤◌, ◌+◌, ◌*◌, ◌-◌, ◌/◌}
-use native.Mathlib.Omega.{arith}
-use borrow.Author.Rules.{rules}
+use mathlib.Core.Path.{◌≡◌}
+use Prim.Native.Nat.{◌≤◌, ◌+◌, ◌*◌, ◌-◌}
 use Rattle.basics.specs.Bits.{bit}
 use Rattle.basics.specs.Lists.{some_below}
-use Rattle.basics.proofs.Laws.{some-none}
-use Rattle.recording.proofs.Searches.{own_packed, own-near, union_more, within_rows}
+use Rattle.recording.proofs.Searches.{own_packed}
 use Rattle.recording.proofs.own_any.Given as goal
 
 abbrev pub invariant-loop-seen : goal.invariant-loop-seen

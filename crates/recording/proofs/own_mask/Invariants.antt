@@ -1,12 +1,8 @@
 -- `own_mask` meets its contract: the bits of the mask are those of the trucks that the loop has passed.
-use mathlib.Core.Path.{◌≡◌, ap, ◌∙◌}
-use Prim.Native.Nat.{ℕ, ◌≤◌, ◌+◌, ◌*◌, ◌-◌, ◌/◌, ◌%◌, ◌^◌}
-use native.Mathlib.Omega.{arith}
-use borrow.Author.Rules.{rules}
-use lib.Bits.{bit_or}
-use lib.ListN.{length, get_or, length-set, length-replicate}
-use Rattle.recording.proofs.Masks.{OwnMask, mask_begins, mask_more}
-use Rattle.recording.proofs.Searches.{own-near}
+use mathlib.Core.Path.{◌≡◌}
+use Prim.Native.Nat.{◌≤◌, ◌+◌, ◌*◌, ◌-◌}
+use lib.ListN.{length}
+use Rattle.recording.proofs.Masks.{OwnMask}
 use Rattle.recording.proofs.own_mask.Given as goal
 
 abbrev pub invariant-loop-marked : goal.invariant-loop-marked

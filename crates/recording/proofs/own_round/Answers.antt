@@ -1,10 +1,9 @@
 -- `own_round` meets its contract: no own bit of the rounds that the loop has passed is 1.
 use mathlib.Core.Path.{◌≡◌, ap, sym, ◌∙◌}
-use Prim.Native.Nat.{◌≤◌, ◌+◌, ◌*◌, ◌-◌}
+use Prim.Native.Nat.{◌*◌}
 use native.Mathlib.Omega.{arith}
-use borrow.Author.Rules.{rules}
 use lib.ListN.{length}
-use Rattle.recording.specs.Packed.{bit_at, round_place, word_in}
+use Rattle.recording.specs.Packed.{bit_at, word_in}
 use Rattle.recording.specs.Checks.{own_in, own_round}
 use Rattle.recording.proofs.OwnLoss.{own_looked, own_begins, own_passes, own_at}
 use Rattle.recording.proofs.Searches.{own_packed, own-packed}
@@ -40,7 +39,7 @@ pub returns-then-own_any : goal.returns-then-own_any
 returns-then-own_any c =
     let a = c.args in
     let l = c.loop-r in
-    own_at (word_in (bit_at a.s.now) a.n) a.n a.rounds l.r (omega arith) l.invariant.2 (looked c ∙ c.if-own_any.true)
+    own_at (word_in (bit_at a.s.now) a.n) a.n a.rounds l.r (omega arith) l.invariant.2 (looked (goal.at.returns-then-own_any c).After-own_any ∙ c.if-own_any.true)
 
 pub overflow_add-p : goal.overflow_add-p
 overflow_add-p c =
@@ -52,7 +51,7 @@ pub loop-r-preserved : goal.loop-r-preserved
 loop-r-preserved c =
     let a = c.args in
     let l = c.loop-r in
-    (omega (arith, l.invariant.0), omega arith, own_passes (word_in (bit_at a.s.now) a.n) a.n l.r l.invariant.2 (looked c ∙ c.if-own_any.false))
+    (omega (arith, l.invariant.0), omega arith, own_passes (word_in (bit_at a.s.now) a.n) a.n l.r l.invariant.2 (looked (goal.at.loop-r-preserved c).After-own_any ∙ c.if-own_any.false))
 
 pub returns : goal.returns
 returns c =

@@ -1,25 +1,22 @@
 -- `own_round_masked` meets its contract: no own bit of the rounds that the loop has passed is 1.
 use mathlib.Core.Path.{◌≡◌, refl, ap, sym, ◌∙◌}
-use Prim.Native.Nat.{◌≤◌, ◌+◌, ◌*◌, ◌-◌, ◌/◌, ◌%◌}
+use Prim.Native.Nat.{ℕ, ◌+◌, ◌*◌, ◌/◌, ◌%◌}
 use native.Mathlib.Omega.{arith}
 use borrow.Author.Rules.{rules}
 use lib.ListN.{length}
-use Rattle.recording.specs.Packed.{bit_at, round_place, word_in}
+use Rattle.recording.specs.Packed.{bit_at, round_place, word_in, word_place}
 use Rattle.recording.specs.Checks.{own_in, own_round}
 use Rattle.recording.proofs.Masks.{masked-own, whole-bytes}
 use Rattle.recording.proofs.OwnLoss.{own_looked, own_begins, own_passes, own_at}
 use Rattle.recording.proofs.Searches.{own_packed, own-packed, own-near}
 use Rattle.recording.proofs.Sizes.{square_small, rounds_within, rows_within}
 use Rattle.recording.proofs.own_round_masked.Goals as goal
-use Rattle.recording.proofs.own_round_masked.Goals.{After-any_masked, At-loop-passed}
+use Rattle.recording.proofs.own_round_masked.Goals.{After-any_masked}
 
 -- where the first own bit of the round stands
-placed : (c : At-loop-passed)
-    → 8 * c.loop-passed.b + c.args.at % 8 ≡ round_place c.args.n c.loop-passed.passed + 3 * c.args.n
-placed c =
-    let s = c in
-    let a = s.args in
-    whole-bytes a.n c.loop-passed.passed a.at c.loop-passed.b ((3 * a.n + a.n * a.n) / 8) (omega (arith, s.requires.2)) (omega (arith, s.requires.3)) c.loop-passed.invariant.0
+placed : (n passed at b : ℕ) → at ≡ word_place n 3 → (3 * n + n * n) % 8 ≡ 0 → b ≡ at / 8 + passed * ((3 * n + n * n) / 8)
+    → 8 * b + at % 8 ≡ round_place n passed + 3 * n
+placed n passed at b is whole e = whole-bytes n passed at b ((3 * n + n * n) / 8) (omega arith) (omega arith) e
 
 -- what the look at a round says
 looked : (c : After-any_masked)
@@ -29,7 +26,7 @@ looked c =
     let a = known.args in
     let l = c.loop-passed in
     let place = 8 * l.b + a.at % 8 in
-    own_looked (word_in (bit_at a.s.now) a.n) a.n l.passed (own_packed a.s.now place a.n) (own-packed a.s.now a.n l.passed place (placed c)) c.any_masked.result
+    own_looked (word_in (bit_at a.s.now) a.n) a.n l.passed (own_packed a.s.now place a.n) (own-packed a.s.now a.n l.passed place (placed a.n l.passed a.at l.b c.requires.2 c.requires.3 l.invariant.0)) c.any_masked.result
     (c.any_masked.ensures
     ∙ masked-own a.s.now _ l.b _ (a.at % 8) a.n (λ q. omega (arith, known.type_inv.s q)) c.own_mask.ensures (omega arith))
 
@@ -64,25 +61,25 @@ any_masked-requires c =
     let s = c in
     let a = s.args in
     let l = c.loop-passed in
-    (omega (arith, own-near a.n a.n (omega arith) (omega arith)), omega (arith, rows_within a.n a.rounds l.passed (8 * l.b + a.at % 8) (8 * length a.s.now) c.loop-passed-test.true (placed c) s.requires.4))
+    (omega (arith, own-near a.n a.n (omega arith) (omega arith)), omega (arith, rows_within a.n a.rounds l.passed (8 * l.b + a.at % 8) (8 * length a.s.now) c.loop-passed-test.true (placed a.n l.passed a.at l.b s.requires.2 s.requires.3 l.invariant.0) s.requires.4))
 
 pub returns-then-any_masked : goal.returns-then-any_masked
 returns-then-any_masked c =
     let a = c.args in
     let l = c.loop-passed in
-    own_at (word_in (bit_at a.s.now) a.n) a.n a.rounds l.passed (omega arith) l.invariant.2 (looked c ∙ c.if-any_masked.true)
+    own_at (word_in (bit_at a.s.now) a.n) a.n a.rounds l.passed (omega arith) l.invariant.2 (looked (goal.at.returns-then-any_masked c).After-any_masked ∙ c.if-any_masked.true)
 
 pub overflow_add-b : goal.overflow_add-b
 overflow_add-b c =
     let a = c.args in
     let l = c.loop-passed in
-    omega (arith, placed c, rounds_within a.n l.passed (omega arith) (omega arith), square_small a.n (omega arith))
+    omega (arith, placed a.n l.passed a.at l.b c.requires.2 c.requires.3 l.invariant.0, rounds_within a.n l.passed (omega arith) (omega arith), square_small a.n (omega arith))
 
 pub loop-passed-preserved : goal.loop-passed-preserved
 loop-passed-preserved c =
     let a = c.args in
     let l = c.loop-passed in
-    (omega (arith, l.invariant.0), omega arith, own_passes (word_in (bit_at a.s.now) a.n) a.n l.passed l.invariant.2 (looked c ∙ c.if-any_masked.false))
+    (omega (arith, l.invariant.0), omega arith, own_passes (word_in (bit_at a.s.now) a.n) a.n l.passed l.invariant.2 (looked (goal.at.loop-passed-preserved c).After-any_masked ∙ c.if-any_masked.false))
 
 pub returns : goal.returns
 returns c =

@@ -1,11 +1,9 @@
 -- `own_truck` meets its contract: no truck that the loop has passed has its own bit set.
 use mathlib.Core.Path.{◌≡◌, sym, ◌∙◌}
-use Prim.Native.Nat.{◌≤◌, ◌+◌, ◌*◌, ◌-◌}
+use Prim.Native.Nat.{◌+◌, ◌*◌}
 use native.Mathlib.Omega.{arith}
-use borrow.Author.Rules.{rules}
 use borrow.Author.Tests.{eq-eqb, ne_eqb}
 use lib.Dec.{eqb}
-use Rattle.basics.specs.Lists.{first}
 use Rattle.basics.proofs.Laws.{first-none, first_step, first_found}
 use Rattle.recording.proofs.Searches.{own_packed, own-near, bit-read}
 use Rattle.recording.proofs.own_truck.Goals as goal
@@ -30,7 +28,7 @@ returns-then-read_at-eq1 c =
     let l = c.loop-i in
     sym
     (first_found (own_packed a.s.now a.at a.n) a.n l.i (omega arith) l.invariant.2
-    (sym (read c) ∙ eq-eqb c.read_at.result 1 c.if-read_at-eq1.true))
+    (sym (read (goal.at.returns-then-read_at-eq1 c).After-read_at) ∙ eq-eqb c.read_at.result 1 c.if-read_at-eq1.true))
 
 pub overflow_add-p-in-loop-i : goal.overflow_add-p-in-loop-i
 overflow_add-p-in-loop-i c =
@@ -42,7 +40,7 @@ pub loop-i-preserved : goal.loop-i-preserved
 loop-i-preserved c =
     let a = c.args in
     let l = c.loop-i in
-    (omega (arith, l.invariant.0), omega arith, first_step (own_packed a.s.now a.at a.n) l.i l.invariant.2 (sym (read c) ∙ ne_eqb c.read_at.result 1 c.if-read_at-eq1.false))
+    (omega (arith, l.invariant.0), omega arith, first_step (own_packed a.s.now a.at a.n) l.i l.invariant.2 (sym (read (goal.at.loop-i-preserved c).After-read_at) ∙ ne_eqb c.read_at.result 1 c.if-read_at-eq1.false))
 
 pub returns : goal.returns
 returns c =

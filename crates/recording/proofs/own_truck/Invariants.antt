@@ -1,13 +1,8 @@
 -- `own_truck` meets its contract: no truck that the loop has passed has its own bit set.
-use mathlib.Core.Path.{◌≡◌, sym, ◌∙◌}
+use mathlib.Core.Path.{◌≡◌}
 use Prim.Native.Nat.{◌≤◌, ◌+◌, ◌*◌, ◌-◌}
-use native.Mathlib.Omega.{arith}
-use borrow.Author.Rules.{rules}
-use borrow.Author.Tests.{eq-eqb, ne_eqb}
-use lib.Dec.{eqb}
 use Rattle.basics.specs.Lists.{first}
-use Rattle.basics.proofs.Laws.{first-none, first_step, first_found}
-use Rattle.recording.proofs.Searches.{own_packed, own-near, bit-read}
+use Rattle.recording.proofs.Searches.{own_packed}
 use Rattle.recording.proofs.own_truck.Given as goal
 
 abbrev pub invariant-loop-i : goal.invariant-loop-i

@@ -2,7 +2,6 @@
 use mathlib.Core.Path.{ap₂}
 use Prim.Native.Nat.{ℕ}
 use native.Mathlib.Omega.{arith}
-use borrow.Author.Rules.{rules}
 use Rattle.recording.specs.Packed.{trucks_of, rounds_of}
 use Rattle.recording.proofs.Fronts.{trucks-lt, rounds_lt}
 use Rattle.recording.proofs.read_counts.Goals as goal

@@ -1,6 +1,5 @@
 -- `after_event` meets its contract.
 use mathlib.Core.Path.{◌∙◌}
-use borrow.Author.Rules.{rules}
 use Rattle.truck.proofs.after_event.Goals as goal
 
 pub returns-in-Stop : goal.returns-in-Stop

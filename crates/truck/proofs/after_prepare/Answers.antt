@@ -1,5 +1,4 @@
 -- `after_prepare` meets its contract.
-use borrow.Author.Rules.{rules}
 use Rattle.truck.proofs.after_prepare.Goals as goal
 
 pub returns : goal.returns

@@ -1,5 +1,4 @@
 -- `after_proposals` meets its contract.
-use borrow.Author.Rules.{rules}
 use Rattle.truck.proofs.after_proposals.Goals as goal
 
 pub returns : goal.returns

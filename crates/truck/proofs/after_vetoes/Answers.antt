@@ -1,6 +1,5 @@
 -- `after_vetoes` meets its contract.
 use mathlib.Core.Path.{sym, ◌∙◌}
-use borrow.Author.Rules.{rules}
 use Rattle.truck.proofs.after_vetoes.Goals as goal
 
 pub returns-then-decides : goal.returns-then-decides

@@ -1,5 +1,4 @@
 -- `decides` meets its contract.
-use borrow.Author.Rules.{rules}
 use Rattle.truck.proofs.decides.Goals as goal
 
 pub returns : goal.returns

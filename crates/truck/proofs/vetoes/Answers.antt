@@ -1,5 +1,4 @@
 -- `vetoes` meets its contract.
-use borrow.Author.Rules.{rules}
 use Rattle.truck.proofs.vetoes.Goals as goal
 
 pub returns : goal.returns

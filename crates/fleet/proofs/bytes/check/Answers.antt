@@ -2,8 +2,6 @@
 use mathlib.Core.Path.{◌≡◌, ap₂, sym, ◌∙◌}
 use Prim.Native.Nat.{ℕ, ◌+◌}
 use native.Mathlib.Omega.{arith}
-use borrow.Author.Tests.{not-true, not-false}
-use borrow.Author.Rules.{rules}
 use Rattle.recording.specs.Checks.{round_check}
 use Rattle.protocol.specs.Fleets.{chosen}
 use Rattle.protocol.proofs.Good.{record_parts}
@@ -23,7 +21,7 @@ returns-then-not-good_record c =
     let a = c.args in
     let d = a.d.now in
     let sound = sym c.damaged.ensures ∙ c.if-damaged.false in
-    step_7 (chosen a.cycle) (record_of d) a.words.now (sym c.good_record.ensures ∙ not-true _ c.if-not-good_record.true) ∙ check_is (chosen a.cycle) d a.words.now sound
+    step_7 (chosen a.cycle) (record_of d) a.words.now (sym c.good_record.ensures ∙ c.if-not-good_record.true) ∙ check_is (chosen a.cycle) d a.words.now sound
 
 pub returns-then-done-eq400 : goal.returns-then-done-eq400
 returns-then-done-eq400 c =
@@ -31,7 +29,7 @@ returns-then-done-eq400 c =
     let d = a.d.now in
     let sound = sym c.damaged.ensures ∙ c.if-damaged.false in
     let full : (record_of d).done ≡ 400 = sym (c.pair-done.ensures ∙ bytes-done d sound) ∙ c.if-done-eq400.true in
-    step_14 (chosen a.cycle) (record_of d) a.words.now (sym c.good_record.ensures ∙ not-false _ c.if-not-good_record.false) full
+    step_14 (chosen a.cycle) (record_of d) a.words.now (sym c.good_record.ensures ∙ c.if-not-good_record.false) full
     ∙ check_is (chosen a.cycle) d a.words.now sound
 
 -- of a record that refusal 7 lets pass at most 400 rounds are done
@@ -40,7 +38,7 @@ overflow_add-done c =
     let a = c.args in
     let d = a.d.now in
     let sound = sym c.damaged.ensures ∙ c.if-damaged.false in
-    let good = record_parts (chosen a.cycle) (record_of d) (sym c.good_record.ensures ∙ not-false _ c.if-not-good_record.false) in
+    let good = record_parts (chosen a.cycle) (record_of d) (sym c.good_record.ensures ∙ c.if-not-good_record.false) in
     record { fits = omega (arith, good.done, c.pair-done.ensures, bytes-done d sound) }
 
 pub returns : goal.returns
@@ -52,7 +50,7 @@ returns c =
     let done : c.pair-done.result ≡ (record_of d).done = c.pair-done.ensures ∙ bytes-done d sound in
     c.check_round.ensures
     ∙ ap₂ (λ (n k : ℕ). round_check n (k + 1) w) (bytes-n d sound) done
-    ∙ step_rest (chosen a.cycle) (record_of d) w (sym c.good_record.ensures ∙ not-false _ c.if-not-good_record.false) (λ e. c.if-done-eq400.false (done ∙ e))
+    ∙ step_rest (chosen a.cycle) (record_of d) w (sym c.good_record.ensures ∙ c.if-not-good_record.false) (λ e. c.if-done-eq400.false (done ∙ e))
     ∙ check_is (chosen a.cycle) d w sound
 
 pub good_record-requires : goal.good_record-requires

@@ -2,7 +2,6 @@
 use mathlib.Core.Path.{◌≡◌, refl, ap, ◌∙◌}
 use Prim.Native.Nat.{ℕ, ◌+◌}
 use native.Mathlib.Omega.{arith}
-use borrow.Author.Rules.{rules}
 use Rattle.basics.specs.Lists.{filled}
 use Rattle.protocol.specs.declared.Fleet.{Fleet}
 use Rattle.recordbytes.specs.Layout.{size_for, record_byte, record_of}
@@ -14,38 +13,34 @@ use Rattle.fleet.proofs.bytes.next_bytes.Goals as goal
 
 pub senders_at-senders-requires : goal.senders_at-senders-requires
 senders_at-senders-requires c =
-    let s = c in
-    let g = step_good s.args.cycle (record_of s.args.d.now) s.args.words.now s.requires.1 in
-    (s.requires.0, g.count, g.small, refl)
+    let g = step_good c.args.cycle (record_of c.args.d.now) c.args.words.now c.requires.1 in
+    (c.requires.0, g.count, g.small, refl)
 
 pub overflow_add-done : goal.overflow_add-done
 overflow_add-done c =
-    let s = c in
-    let d = s.args.d.now in
-    record { fits = omega (arith, (step_good s.args.cycle (record_of d) s.args.words.now s.requires.1).room, c.pair-done.ensures, bytes-done d s.requires.0) }
+    let d = c.args.d.now in
+    record { fits = omega (arith, (step_good c.args.cycle (record_of d) c.args.words.now c.requires.1).room, c.pair-done.ensures, bytes-done d c.requires.0) }
 
 pub turn_places-requires : goal.turn_places-requires
 turn_places-requires c =
-    let s = c in
-    (s.requires.0, (step_good s.args.cycle (record_of s.args.d.now) s.args.words.now s.requires.1).count)
+    (c.requires.0, (step_good c.args.cycle (record_of c.args.d.now) c.args.words.now c.requires.1).count)
 
 pub returns : goal.returns
 returns c =
-    let s = c in
-    let cycle = s.args.cycle in
-    let d = s.args.d.now in
-    let w = s.args.words.now in
+    let cycle = c.args.cycle in
+    let d = c.args.d.now in
+    let w = c.args.words.now in
     let f = record_of d in
-    let g = step_good cycle f w s.requires.1 in
+    let g = step_good cycle f w c.requires.1 in
     let pair = c.pair-done in
     let phase = c.phase_of-phase in
     let senders = c.senders_at-senders in
-    let values = senders.new.1.1.1.0 in
-    let done : pair.result ≡ f.done = pair.ensures ∙ bytes-done d s.requires.0 in
+    let values = senders.new.values in
+    let done : pair.result ≡ f.done = pair.ensures ∙ bytes-done d c.requires.0 in
     c.turn_places.ensures
     ∙ ap (λ (k : ℕ). filled (record_byte (turned_fleet phase.result w senders.result values (k + 1) f)) (size_for f.n) d) done
     ∙ ap (λ (x : Fleet). filled (record_byte x) (size_for f.n) d)
-    (turned-next cycle f w phase.result (phase.ensures ∙ ap (phase_of cycle) done) senders.result values senders.ensures.0 senders.ensures.1 g.small g.counts)
+    (turned-next cycle f w phase.result (phase.ensures ∙ ap (phase_of cycle) done) senders.result values senders.ensures.senders senders.ensures.sorted g.small g.counts)
 
 pub bounds-d-1 : goal.bounds-d-1
 bounds-d-1 c = omega (arith, bytes_whole c.args.d.now c.requires.0)

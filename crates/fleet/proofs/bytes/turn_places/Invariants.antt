@@ -1,14 +1,9 @@
 -- `turn_places` meets its contract: the loop holds that the head and the places passed are up to date.
 use mathlib.Core.Path.{◌≡◌}
-use Prim.Native.Nat.{◌-◌, ◌≤◌, ◌<◌}
-use native.Mathlib.Omega.{arith}
-use lib.ListN.{length, length-set}
-use borrow.Author.Rules.{rules}
+use Prim.Native.Nat.{◌-◌, ◌≤◌}
 use Rattle.basics.specs.Lists.{filled}
 use Rattle.recordbytes.specs.Layout.{size_for, record_byte, record_of}
-use Rattle.recordbytes.proofs.Places.{bytes_whole, bytes-few, bytes-n}
 use Rattle.fleet.specs.Rounds.{turned_fleet}
-use Rattle.fleet.proofs.ByPlaces.{turn_holds, turn-length, turn_more, turn-done}
 use Rattle.fleet.proofs.bytes.turn_places.Given as goal
 
 abbrev pub invariant-loop-i : goal.invariant-loop-i

@@ -1,6 +1,5 @@
 -- `event_of` meets its contract.
 use mathlib.Core.Path.{◌∙◌}
-use borrow.Author.Rules.{rules}
 use Rattle.fleet.specs.Rounds.{event_of}
 use Rattle.fleet.proofs.round.event_of.Goals as goal
 

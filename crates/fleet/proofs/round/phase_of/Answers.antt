@@ -1,6 +1,5 @@
 -- `phase_of` meets its contract.
 use mathlib.Core.Path.{◌∙◌}
-use borrow.Author.Rules.{rules}
 use borrow.Author.Tests.{eq-eqb, ne_eqb}
 use Rattle.fleet.proofs.round.phase_of.Goals as goal
 

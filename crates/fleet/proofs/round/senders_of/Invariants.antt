@@ -1,17 +1,10 @@
 -- `senders_of` meets its contract: the loop holds the senders among the trucks passed, those of each crusher, and these trucks' estimates.
-use mathlib.Core.Path.{◌≡◌, refl, ap, ap₂, sym, subst, ◌∙◌}
-use mathlib.Core.Bool.{Bool, not, ◌&&◌}
-use Prim.Native.Nat.{ℕ, ◌≤◌, ◌<◌, ◌-◌}
-use native.Mathlib.Omega.{arith}
-use native.Mathlib.Numerals.{add-one}
-use borrow.Author.Rules.{rules}
+use mathlib.Core.Path.{◌≡◌}
+use Prim.Native.Nat.{◌≤◌, ◌-◌}
 use Rattle.basics.specs.Lists.{filled}
-use Rattle.basics.proofs.Laws.{filled_none, fill_step}
-use Rattle.protocol.specs.Rules.{truck, runs}
-use Rattle.sets.proofs.Members.{only_is}
-use Rattle.fleet.specs.Rounds.{message_in, sends_in}
+use Rattle.fleet.specs.Rounds.{sends_in}
 use Rattle.playback.specs.Sets.{estimates}
-use Rattle.playback.proofs.Sorting.{Sending, sending-starts, sending_more, sending-done}
+use Rattle.playback.proofs.Sorting.{Sending}
 use Rattle.fleet.proofs.round.senders_of.Given as goal
 
 abbrev pub invariant-loop-i : goal.invariant-loop-i

@@ -1,7 +1,6 @@
 -- `sends` meets its contract.
 use mathlib.Core.Path.{ap₂}
 use mathlib.Core.Bool.{Bool, not, ◌&&◌}
-use borrow.Author.Rules.{rules}
 use Rattle.fleet.proofs.round.sends.Goals as goal
 
 pub returns : goal.returns

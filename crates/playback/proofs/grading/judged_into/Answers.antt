@@ -1,5 +1,4 @@
 -- `judged_into` meets its contract.
-use borrow.Author.Rules.{rules}
 use Rattle.playback.proofs.Judged.{judged-four}
 use Rattle.playback.proofs.grading.judged_into.Goals as goal
 

@@ -1,6 +1,5 @@
 -- `judged_proposing` meets its contract.
 use mathlib.Core.Path.{refl}
-use borrow.Author.Rules.{rules}
 use Rattle.playback.proofs.grading.judged_proposing.Goals as goal
 
 pub returns-then-judging : goal.returns-then-judging

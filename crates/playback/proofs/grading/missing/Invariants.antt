@@ -1,18 +1,9 @@
 -- `missing` meets its contract.
-use mathlib.Core.Path.{◌≡◌, ap, ◌∙◌}
-use mathlib.Core.Bool.{Bool, cond, ◌&&◌}
+use mathlib.Core.Bool.{Bool}
 use mathlib.Core.List.{List}
 use Prim.Native.Nat.{ℕ}
-use native.Mathlib.Omega.{arith}
-use borrow.Author.Rules.{rules}
-use lib.Bits.{bit_or}
-use Rattle.basics.specs.Bits.{bit}
-use Rattle.sets.specs.Sets.{Members}
-use Rattle.playback.specs.Sets.{heard_set}
 use Rattle.playback.specs.Grading.{heard_at, misses_some, misses_all, misses_half}
-use Rattle.playback.proofs.Reading.{row-place}
-use Rattle.playback.proofs.Radios.{heard_by_own}
-use Rattle.playback.proofs.Asking.{Asking, next_is, asking-starts, asking_more, asking-done}
+use Rattle.playback.proofs.Asking.{Asking}
 use Rattle.playback.proofs.grading.missing.Given as goal
 
 -- `missing` meets its contract.

@@ -1,13 +1,7 @@
 -- `first_heard` meets its contract.
-use mathlib.Core.Path.{◌≡◌, ap, sym, ◌∙◌}
-use mathlib.Core.Bool.{not}
+use mathlib.Core.Path.{◌≡◌}
 use Prim.Native.Nat.{◌≤◌, ◌-◌}
-use native.Mathlib.Omega.{arith}
-use native.Mathlib.Numerals.{add-one}
-use borrow.Author.Tests.{ne_eqb, eq-eqb}
-use borrow.Author.Rules.{rules}
 use Rattle.basics.specs.Lists.{first}
-use Rattle.basics.proofs.Laws.{first_on, first_found}
 use Rattle.playback.specs.Sets.{was_heard}
 use Rattle.playback.proofs.hearing.first_heard.Given as goal
 

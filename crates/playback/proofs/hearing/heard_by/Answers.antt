@@ -1,5 +1,4 @@
 -- `heard_by` meets its contract.
-use borrow.Author.Rules.{rules}
 use Rattle.playback.proofs.hearing.heard_by.Goals as goal
 
 pub returns : goal.returns

@@ -1,11 +1,10 @@
 -- `values_of` meets its contract.
 use mathlib.Core.Path.{◌≡◌, ap, sym, ◌∙◌}
 use mathlib.Core.Bool.{Bool, cond}
-use mathlib.Core.Logic.{⊎_elim}
 use Prim.Native.Nat.{ℕ}
 use native.Mathlib.Omega.{arith}
 use borrow.Author.Rules.{rules}
-use borrow.Author.Tests.{not-true, not-false}
+use borrow.Author.Tests.{eq-eqb, ne_eqb}
 use lib.Dec.{eqb}
 use lib.ListN.{get_or}
 use Rattle.basics.proofs.Laws.{first-none, first-le}
@@ -15,6 +14,7 @@ use Rattle.sets.specs.Sets.{without}
 use Rattle.playback.specs.Sets.{was_heard}
 use Rattle.playback.proofs.ByCrusher.{values_hit, values-none}
 use Rattle.playback.proofs.hearing.values_of.Goals as goal
+use Rattle.playback.proofs.hearing.values_of.Goals.{then-several, else-several}
 
 pub first_heard-c-requires : goal.first_heard-c-requires
 first_heard-c-requires c = (search rules, first-none (was_heard c.args.by.now c.args.heard))
@@ -27,7 +27,7 @@ returns-then-c-lt16 c =
     let told : (b : Bool) → eqb w.result 0 ≡ b → cond b One Several ≡ cond (eqb (without a.heard (get_or a.by.now f.result 0)) 0) One Several
     = λ b e. ap (λ (x : Bool). cond x One Several) (sym e ∙ ap (λ (x : ℕ). eqb x 0) w.ensures) in
     ap (λ (h : Heard). record { heard = h; least = f.result })
-    (⊎_elim (λ x. x.1 ∙ told _ (not-true (eqb w.result 0) x.0.taken)) (λ x. x.1 ∙ told _ (not-false (eqb w.result 0) x.0.left)) c.if-several.branch)
+    (elim c.if-several.branch [ then-several x ↦ x.result-is ∙ told _ (ne_eqb w.result 0 x.if-several.true) | else-several x ↦ x.result-is ∙ told _ (eq-eqb w.result 0 x.if-several.false) ])
     ∙ sym (values_hit a.by.now a.heard a.estimate f.result c.if-c-lt16.true (sym f.ensures))
 
 pub returns : goal.returns

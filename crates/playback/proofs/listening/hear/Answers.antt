@@ -1,7 +1,6 @@
 -- `hear` meets its contract.
 use mathlib.Core.Path.{◌≡◌, refl, ap, sym, ◌∙◌}
 use mathlib.Core.Bool.{Bool, true, false, cond}
-use mathlib.Core.Logic.{⊎_elim}
 use Prim.Native.Nat.{ℕ}
 use lib.Dec.{eqb}
 use lib.ListN.{get_or}
@@ -17,8 +16,9 @@ use Rattle.playback.specs.Listens.{heard_from}
 use Rattle.sets.proofs.Members.{taken_out, own_out}
 use Rattle.playback.proofs.Sorting.{sent-from}
 use Rattle.playback.proofs.Reading.{row-place}
-use Rattle.playback.proofs.Asking.{Asking, next_is, asking-starts, asking_more, asking-done, heard-at, several-rest, Takes, takes-starts, takes_more, takes_none, takes-done}
+use Rattle.playback.proofs.Asking.{next_is, asking-starts, asking_more, asking-done, heard-at, several-rest, takes-starts, takes_more, takes_none, takes-done}
 use Rattle.playback.proofs.listening.hear.Goals as goal
+use Rattle.playback.proofs.listening.hear.Goals.{then-c-lt16, else-c-lt16}
 
 is-lone : (b : Bool) → is_one (cond b One Several) ≡ b
 is-lone true = refl
@@ -65,15 +65,15 @@ loop-left-preserved c =
     let next = next_is c.loop-left-test.true i.ensures own.ensures c.rest-left.ensures in
     let is : h i.result ≡ values_of a.by.now w.result 16 =
     heard-at a.s.now a.at a.n a.senders a.by.now i.result next.own c.read_at-row.ensures w.ensures in
-    ⊎_elim
-    (λ x.
-    let v = takes_more a.by.now a.wanted h next f.result w.result is f.ensures o.invariant.1 x.0.taken x.5 x.6 in
-    let lone : eqb x.2.result 0 ≡ is_one (h i.result).heard = ap (λ (y : ℕ). eqb y 0) x.2.ensures ∙ sym (ap is_one v.0 ∙ is-lone (eqb (without w.result (get_or a.by.now f.result 0)) 0)) in
-    (asking_more a.wanted (λ j. is_one (h j).heard) next (eqb x.2.result 0) lone (x.4 ∙ x.3.ensures) o.invariant.0, v.1))
-    (λ x.
-    let v = takes_none a.by.now a.wanted h next f.result w.result is f.ensures o.invariant.1 x.0.left x.2 x.3 in
-    (asking_more a.wanted (λ j. is_one (h j).heard) next false (sym (ap is_one v.0)) x.1 o.invariant.0, v.1))
-    c.if-c-lt16.branch
+    elim c.if-c-lt16.branch [
+      | then-c-lt16 x ↦ (
+          let v = takes_more a.by.now a.wanted h next f.result w.result is f.ensures o.invariant.1 x.if-c-lt16.true x.some-is x.taking-is in
+          let lone : eqb x.without-lone.result 0 ≡ is_one (h i.result).heard = ap (λ (y : ℕ). eqb y 0) x.without-lone.ensures ∙ sym (ap is_one v.0 ∙ is-lone (eqb (without w.result (get_or a.by.now f.result 0)) 0)) in
+          (asking_more a.wanted (λ j. is_one (h j).heard) next (eqb x.without-lone.result 0) lone (x.one-is ∙ x.union_where-one.ensures) o.invariant.0, v.1))
+      | else-c-lt16 x ↦ (
+          let v = takes_none a.by.now a.wanted h next f.result w.result is f.ensures o.invariant.1 x.if-c-lt16.false x.some-is x.taking-is in
+          (asking_more a.wanted (λ j. is_one (h j).heard) next false (sym (ap is_one v.0)) x.one-is o.invariant.0, v.1))
+    ]
 
 pub returns : goal.returns
 returns c =

@@ -1,15 +1,12 @@
 -- `hearing_some` meets its contract.
 use mathlib.Core.Path.{ap, ◌∙◌}
-use mathlib.Core.Bool.{Bool, not}
-use mathlib.Core.List.{List}
+use mathlib.Core.Bool.{not}
 use Prim.Native.Nat.{ℕ}
 use native.Mathlib.Omega.{arith}
-use borrow.Author.Rules.{rules}
 use lib.Dec.{eqb}
 use Rattle.sets.specs.Sets.{without}
-use Rattle.playback.specs.Listens.{row_from}
 use Rattle.playback.proofs.Reading.{row-place}
-use Rattle.playback.proofs.Asking.{Asking, next_is, asking-starts, asking_more, asking-done}
+use Rattle.playback.proofs.Asking.{next_is, asking-starts, asking_more, asking-done}
 use Rattle.playback.proofs.listening.hearing_some.Invariants.{hearsSome}
 use Rattle.playback.proofs.listening.hearing_some.Goals as goal
 

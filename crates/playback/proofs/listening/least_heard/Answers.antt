@@ -1,6 +1,5 @@
 -- `least_heard` meets its contract.
 use mathlib.Core.Path.{◌≡◌}
-use mathlib.Core.Logic.{⊎_elim}
 use Prim.Native.Nat.{ℕ}
 use native.Mathlib.Omega.{arith}
 use borrow.Author.Rules.{rules}
@@ -11,8 +10,9 @@ use Rattle.playback.specs.Listens.{heard_from}
 use Rattle.sets.proofs.Members.{taken_out, own_out}
 use Rattle.playback.proofs.Sorting.{sent-from}
 use Rattle.playback.proofs.Reading.{row-place}
-use Rattle.playback.proofs.Asking.{next_is, heard-at, Takes, takes-starts, takes_more, takes_none, takes-done}
+use Rattle.playback.proofs.Asking.{next_is, heard-at, takes-starts, takes_more, takes_none, takes-done}
 use Rattle.playback.proofs.listening.least_heard.Goals as goal
+use Rattle.playback.proofs.listening.least_heard.Goals.{then-c-lt16, else-c-lt16}
 
 pub loop-left-init : goal.loop-left-init
 loop-left-init c = let a = c.args in takes-starts a.wanted (heard_from a.s.now a.at a.n a.senders a.by.now)
@@ -52,10 +52,10 @@ loop-left-preserved c =
     let next = next_is c.loop-left-test.true i.ensures own.ensures c.rest-left.ensures in
     let is : h i.result ≡ values_of a.by.now w.result 16 =
     heard-at a.s.now a.at a.n a.senders a.by.now i.result next.own c.read_at-row.ensures w.ensures in
-    ⊎_elim
-    (λ x. (takes_more a.by.now a.wanted h next f.result w.result is f.ensures o.invariant x.0.taken x.1 x.2).1)
-    (λ x. (takes_none a.by.now a.wanted h next f.result w.result is f.ensures o.invariant x.0.left x.1 x.2).1)
-    c.if-c-lt16.branch
+    elim c.if-c-lt16.branch [
+      | then-c-lt16 x ↦ (takes_more a.by.now a.wanted h next f.result w.result is f.ensures o.invariant x.if-c-lt16.true x.changed-is x.taking-is).1
+      | else-c-lt16 x ↦ (takes_none a.by.now a.wanted h next f.result w.result is f.ensures o.invariant x.if-c-lt16.false x.changed-is x.taking-is).1
+    ]
 
 pub returns : goal.returns
 returns c =

@@ -1,6 +1,5 @@
 -- `begin` meets its contract.
 use mathlib.Core.Path.{ap, ◌∙◌}
-use borrow.Author.Rules.{rules}
 use Rattle.recording.specs.Packed.{openings_into}
 use Rattle.recording.proofs.Fronts.{counts-trucks}
 use Rattle.playback.proofs.Halts.{first-few, openings-small}
@@ -17,7 +16,7 @@ openers-requires c =
     let z = c in
     let s = z.args.s.now in
     let r = c.read_front-c in
-    (openings-small s z.requires.0 r.new.1.0 (r.ensures.1 ∙ ap (openings_into s) z.requires.1), z.requires.2)
+    (openings-small s z.requires.0 r.new.openings (r.ensures.1 ∙ ap (openings_into s) z.requires.1), z.requires.2)
 
 pub returns : goal.returns
 returns c =

@@ -1,8 +1,7 @@
 -- `ended` meets its contract.
 use native.Mathlib.Omega.{arith}
-use borrow.Author.Rules.{rules}
 use Rattle.sets.proofs.Members.{taken_out}
-use Rattle.playback.proofs.Places.{Noting, noting-starts, noting_more, noting-done}
+use Rattle.playback.proofs.Places.{noting-starts, noting_more, noting-done}
 use Rattle.playback.proofs.replay.ended.Goals as goal
 
 pub loop-left-init : goal.loop-left-init
@@ -20,7 +19,7 @@ loop-left-preserved c =
     let l = c.loop-left in
     let i = c.lowest-p in
     let t = taken_out c.loop-left-test.true i.ensures c.rest-left.ensures in
-    noting_more z.args.ends.now z.args.who z.args.k z.requires l.invariant i.result t.below t.held c.rest-left.result t.rest-left
+    noting_more z.args.ends.now z.args.who z.args.k z.requires l.invariant i.result t.below t.held c.rest-left.result t.rest
 
 pub returns : goal.returns
 returns c = let z = c in noting-done z.args.ends.now z.args.who z.args.k z.requires c.loop-left.invariant c.loop-left-test.false

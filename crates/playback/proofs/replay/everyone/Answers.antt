@@ -1,6 +1,5 @@
 -- `everyone` meets its contract.
 use native.Mathlib.Omega.{arith}
-use borrow.Author.Rules.{rules}
 use lib.Pow.{pow_pos}
 use Rattle.bitreader.proofs.Digits.{one_shifted}
 use Rattle.playback.proofs.Places.{everyone_lt, everyone_is}

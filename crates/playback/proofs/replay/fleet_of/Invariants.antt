@@ -1,19 +1,8 @@
 -- `fleet_of` meets its contract: the loop holds the record with the trucks so far.
-use mathlib.Core.Path.{◌≡◌, ap, ap₂, sym, ◌∙◌}
-use mathlib.Core.List.{List, []}
-use Prim.Native.Nat.{ℕ, ◌≤◌, ◌-◌}
-use native.Mathlib.Omega.{arith}
-use borrow.Author.Rules.{rules}
-use lib.ListN.{length}
+use mathlib.Core.Path.{◌≡◌}
+use Prim.Native.Nat.{◌≤◌, ◌-◌}
 use Rattle.basics.specs.Lists.{filled}
-use Rattle.basics.proofs.Laws.{filled_none, fill_step, first-none}
-use Rattle.protocol.specs.declared.Fleet.{Fleet}
-use Rattle.protocol.specs.declared.Truck.{Truck}
-use Rattle.protocol.specs.Fleets.{blank}
-use Rattle.protocol.proofs.Opened.{length-opened}
-use Rattle.counters.proofs.Counts.{in_use_most}
 use Rattle.playback.specs.Standing.{built_by}
-use Rattle.playback.proofs.Put.{heard-most, built_is}
 use Rattle.playback.proofs.replay.fleet_of.Given as goal
 
 abbrev pub invariant-loop-i : goal.invariant-loop-i

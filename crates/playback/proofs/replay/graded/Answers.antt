@@ -1,7 +1,6 @@
 -- `graded` meets its contract.
 use mathlib.Core.Path.{◌∙◌}
-use borrow.Author.Rules.{rules}
 use Rattle.playback.proofs.replay.graded.Goals as goal
 
 pub returns : goal.returns
-returns c = c.grades_of.ensures ∙ c.play.ensures.1.1.grades
+returns c = c.grades_of.ensures ∙ c.play.ensures.grades.grades

@@ -1,12 +1,9 @@
 -- `openers` meets its contract.
 use mathlib.Core.Path.{◌∙◌}
-use mathlib.Core.List.{List}
-use Prim.Native.Nat.{ℕ, ◌-◌}
+use Prim.Native.Nat.{◌-◌}
 use native.Mathlib.Omega.{arith}
-use borrow.Author.Rules.{rules}
-use lib.ListN.{get_or}
 use Rattle.sets.proofs.Members.{taken_out, only_is}
-use Rattle.playback.proofs.Sorting.{Sorting, sorting-starts, sorting_more, sorting-done}
+use Rattle.playback.proofs.Sorting.{sorting-starts, sorting_more, sorting-done}
 use Rattle.playback.proofs.replay.openers.Invariants.{opens}
 use Rattle.playback.proofs.replay.openers.Goals as goal
 
@@ -45,7 +42,7 @@ loop-left-preserved c =
     let i = c.lowest-p in
     let t = taken_out c.loop-left-test.true i.ensures c.rest-left.ensures in
     rw (c.only.ensures ∙ only_is i.result t.below)
-    (sorting_more 32 a.all (opens a.openings.now) l.invariant i.result t.below t.held (z.requires.0 (31 - i.result)) c.rest-left.result t.rest-left)
+    (sorting_more 32 a.all (opens a.openings.now) l.invariant i.result t.below t.held (z.requires.0 (31 - i.result)) c.rest-left.result t.rest)
 
 pub returns : goal.returns
 returns c = let a = c.args in (sorting-done 32 a.all (opens a.openings.now) c.loop-left.invariant c.loop-left-test.false, c.loop-left.invariant.long)

@@ -1,12 +1,8 @@
 -- `openers` meets its contract.
-use mathlib.Core.Path.{◌∙◌}
 use mathlib.Core.List.{List}
 use Prim.Native.Nat.{ℕ, ◌-◌}
-use native.Mathlib.Omega.{arith}
-use borrow.Author.Rules.{rules}
 use lib.ListN.{get_or}
-use Rattle.sets.proofs.Members.{taken_out, only_is}
-use Rattle.playback.proofs.Sorting.{Sorting, sorting-starts, sorting_more, sorting-done}
+use Rattle.playback.proofs.Sorting.{Sorting}
 use Rattle.playback.proofs.replay.openers.Given as goal
 
 abbrev pub opens : List ℕ → ℕ → ℕ

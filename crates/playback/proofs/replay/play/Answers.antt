@@ -1,7 +1,6 @@
 -- `play` meets its contract.
 use mathlib.Core.Path.{refl, ap, ◌∙◌}
 use native.Mathlib.Omega.{arith}
-use borrow.Author.Rules.{rules}
 use Rattle.recording.specs.Packed.{round_at}
 use Rattle.recording.proofs.Fronts.{counts_rounds}
 use Rattle.protocol.specs.Fleets.{chosen}
@@ -30,10 +29,9 @@ returns c =
     let b = c.rounds_in-b in
     let h = b.ensures.0 in
     let takes = takes_in a.cycle in
-    let played = counts_rounds s g.result.counts g.ensures.counts in (
-      (begun_few z.requires.0 g.ensures).0,
-      (
-        fleet_ended p takes h g.result.counts g.new.1.0 g.ensures.counts (begun_openings z.requires.0 g.ensures) refl ∙ ap (fleet_after p (round_at s) s) played,
-        found_ended p takes h a.judging b.new.1.1.1.1.1.1.1.1.0 played b.ensures.1,
-      ),
-    )
+    let played = counts_rounds s g.result.counts g.ensures.counts in
+    record {
+      few = (begun_few z.requires.0 g.ensures).0;
+      fleet = fleet_ended p takes h g.result.counts g.new.openings g.ensures.counts (begun_openings z.requires.0 g.ensures) refl ∙ ap (fleet_after p (round_at s) s) played;
+      grades = found_ended p takes h a.judging b.new.found played b.ensures.1;
+    }

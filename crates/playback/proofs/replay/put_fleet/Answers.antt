@@ -1,17 +1,14 @@
 -- `put_fleet` meets its contract: the first loop puts the trucks' places, the second the others.
 use mathlib.Core.Path.{◌≡◌}
-use Prim.Native.Nat.{ℕ, ◌≤◌, ◌-◌}
 use native.Mathlib.Omega.{arith}
 use borrow.Author.Rules.{rules}
 use lib.ListN.{length-set}
 use Rattle.basics.specs.Lists.{filled}
 use Rattle.basics.proofs.Laws.{first-none, fill_length}
-use Rattle.protocol.specs.declared.Truck.{Truck}
-use Rattle.protocol.specs.Rules.{opened}
 use Rattle.counters.proofs.Counts.{in_use_most}
 use Rattle.recordbytes.specs.Layout.{size_for, record_byte}
 use Rattle.playback.specs.Standing.{built_by, fleet_by}
-use Rattle.playback.proofs.Put.{heard-most, built_is, Puts, puts_more, puts-all}
+use Rattle.playback.proofs.Put.{heard-most, built_is, puts_more, puts-all}
 use Rattle.playback.proofs.replay.put_fleet.Invariants.{none}
 use Rattle.playback.proofs.replay.put_fleet.Goals as goal
 use Rattle.playback.proofs.replay.put_fleet.Goals.{After-loop-i-2}
@@ -55,7 +52,7 @@ loop-i-preserved c =
     let p = c.put_in in (
       omega (arith, n.loop-i-test.true),
       l.invariant.1,
-      puts_more (built_by a.openings.now a.b a.by.now a.ends.now a.sent.now) 0 _ _ l.i l.d l.invariant.2 (omega arith) n.loop-i-test.true l.invariant.1 t.result p.new.0
+      puts_more (built_by a.openings.now a.b a.by.now a.ends.now a.sent.now) 0 _ _ l.i l.d l.invariant.2 (omega arith) n.loop-i-test.true l.invariant.1 t.result p.new.d
           (built_is a.openings.now a.b a.by.now a.ends.now a.sent.now l.i _ _ _ _ _ (omega (arith, n.loop-i-test.true, l.invariant.1))
           c.only.ensures c.first_heard.ensures u.ensures c.sent_at.ensures t.ensures)
           p.ensures,
@@ -71,7 +68,7 @@ loop-i-2-preserved c =
     let p = c.put_in-in-loop-i-2 in (
       omega (arith, l.invariant.0),
       omega (arith, n.loop-i-2-test.true),
-      puts_more none _ 32 _ l.i l.d l.invariant.2 l.invariant.0 (omega (arith, n.loop-i-2-test.true)) (omega arith) c.opened-t.result p.new.0 c.opened-t.ensures p.ensures,
+      puts_more none _ 32 _ l.i l.d l.invariant.2 l.invariant.0 (omega (arith, n.loop-i-2-test.true)) (omega arith) c.opened-t.result p.new.d c.opened-t.ensures p.ensures,
     )
 
 pub shape_of-d : goal.shape_of-d
@@ -82,3 +79,6 @@ bounds-d-1 c = simp length-set (omega arith)
 
 pub bounds-d-2 : goal.bounds-d-2
 bounds-d-2 c = simp length-set (omega arith)
+
+pub returns : goal.returns
+returns c = whole c

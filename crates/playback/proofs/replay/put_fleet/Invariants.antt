@@ -1,17 +1,9 @@
 -- `put_fleet` meets its contract: the first loop puts the trucks' places, the second the others.
-use mathlib.Core.Path.{◌≡◌}
 use Prim.Native.Nat.{ℕ, ◌≤◌, ◌-◌}
-use native.Mathlib.Omega.{arith}
-use borrow.Author.Rules.{rules}
-use lib.ListN.{length-set}
-use Rattle.basics.specs.Lists.{filled}
-use Rattle.basics.proofs.Laws.{first-none, fill_length}
 use Rattle.protocol.specs.declared.Truck.{Truck}
 use Rattle.protocol.specs.Rules.{opened}
-use Rattle.counters.proofs.Counts.{in_use_most}
-use Rattle.recordbytes.specs.Layout.{size_for, record_byte}
-use Rattle.playback.specs.Standing.{built_by, fleet_by}
-use Rattle.playback.proofs.Put.{heard-most, built_is, Puts, puts_more, puts-all}
+use Rattle.playback.specs.Standing.{built_by}
+use Rattle.playback.proofs.Put.{Puts}
 use Rattle.playback.proofs.replay.put_fleet.Given as goal
 
 abbrev pub none : ℕ → Truck

@@ -1,7 +1,6 @@
 -- `ran` meets its contract.
 use mathlib.Core.Path.{◌∙◌}
-use borrow.Author.Rules.{rules}
 use Rattle.playback.proofs.replay.ran.Goals as goal
 
 pub returns : goal.returns
-returns c = c.fleet_of.ensures ∙ c.play-q.ensures.1.0
+returns c = c.fleet_of.ensures ∙ c.play-q.ensures.fleet

@@ -3,7 +3,6 @@ use mathlib.Core.Path.{refl, subst}
 use mathlib.Core.List.{List}
 use Prim.Native.Nat.{ℕ, ◌+◌}
 use native.Mathlib.Nat.{zero-add}
-use borrow.Author.Rules.{rules}
 use Rattle.recording.specs.Packed.{round_at}
 use Rattle.protocol.specs.Rules.{two_rules}
 use Rattle.protocol.specs.Six.{six_rules}
@@ -12,7 +11,6 @@ use Rattle.playback.specs.Standing.{Halted}
 use Rattle.playback.proofs.Graded.{found_none}
 use Rattle.playback.proofs.replay.rounds_in.Goals as goal
 
--- `rounds_in` meets its contract.
 -- the rounds are counted from 0
 ended : (s : List ℕ) (rounds : ℕ) (by ends sent : List ℕ) (b : Sets) → Halted two_rules (round_at s) s (0 + rounds) by ends sent 0 b → Halted two_rules (round_at s) s rounds by ends sent 0 b
 ended s rounds by ends sent b h = subst (λ (k : ℕ). Halted two_rules (round_at s) s k by ends sent 0 b) (zero-add rounds) h
@@ -34,7 +32,7 @@ returns-in-TwoRound c =
     let z = c in
     let p = c.proposals in
     rw c.in-TwoRound.is
-    (ended z.args.s.now z.args.rounds p.new.1.1.1.1.1.0 p.new.1.1.1.1.1.1.0 p.new.1.1.1.1.1.1.1.0 p.result p.ensures.0, p.ensures.1)
+    (ended z.args.s.now z.args.rounds p.new.by p.new.ends p.new.sent p.result p.ensures.0, p.ensures.1)
 
 pub returns-in-SixRound : goal.returns-in-SixRound
 returns-in-SixRound c =

@@ -1,11 +1,11 @@
 -- `sent_at` meets its contract: the loop holds both counts as one number, by the words passed so far.
 use mathlib.Core.Path.{◌≡◌, refl, ap, ap₂, ◌∙◌}
-use Prim.Native.Nat.{ℕ, ◌+◌, ◌-◌, ◌≤◌}
+use Prim.Native.Nat.{ℕ, ◌+◌, ◌≤◌}
 use native.Mathlib.Omega.{arith}
 use borrow.Author.Rules.{rules}
 use Rattle.counters.specs.Counters.{tally}
 use Rattle.playback.specs.Standing.{sent_by}
-use Rattle.playback.proofs.Pairs.{pair_of, pair_next, pair_lt, pair_low, pair_high}
+use Rattle.playback.proofs.Pairs.{pair_next, pair_lt, pair_low, pair_high}
 use Rattle.playback.proofs.replay.sent_at.Goals as goal
 
 pub loop-i-init : goal.loop-i-init
@@ -19,13 +19,13 @@ pub loop-i-preserved : goal.loop-i-preserved
 loop-i-preserved c =
     let l = c.loop-i in
     let a = c.args in
-    (omega (arith, c.loop-i-test.true), pair_next a.words.now l.both l.i a.p (bounds-words-i c) l.invariant.1)
+    (omega (arith, c.loop-i-test.true), pair_next a.words.now l.both l.i a.p (omega (arith, c.loop-i-test.true, c.requires.0)) l.invariant.1)
 
 pub overflow_add-both : goal.overflow_add-both
 overflow_add-both c =
     let l = c.loop-i in
     let a = c.args in
-    omega (arith, (loop-i-preserved c).1, pair_lt a.words.now (l.i + 1) a.p (omega (arith, bounds-words-i c)))
+    omega (arith, pair_next a.words.now l.both l.i a.p (omega (arith, c.loop-i-test.true, c.requires.0)) l.invariant.1, pair_lt a.words.now (l.i + 1) a.p (omega (arith, c.loop-i-test.true, c.requires.0)))
 
 pub overflow_cast-result : goal.overflow_cast-result
 overflow_cast-result c =
@@ -51,16 +51,16 @@ returns c =
     ∙ ap (λ (k : ℕ). sent_by s.args.words.now k s.args.p) all
 
 pub offset_bounds-words-i : goal.offset_bounds-words-i
-offset_bounds-words-i c = omega (arith, bounds-words-i c)
+offset_bounds-words-i c = omega (arith, c.loop-i-test.true, c.requires.0)
 
 pub overflow_shr-both : goal.overflow_shr-both
 overflow_shr-both c = omega (arith, c.requires.1)
 
 pub overflow_shl-both : goal.overflow_shl-both
-overflow_shl-both c = omega (arith, bounds-words-i c)
+overflow_shl-both c = omega (arith, c.loop-i-test.true, c.requires.0)
 
 pub overflow_add-i : goal.overflow_add-i
-overflow_add-i c = omega (arith, bounds-words-i c)
+overflow_add-i c = omega (arith, c.loop-i-test.true, c.requires.0)
 
 pub loop-i-smaller : goal.loop-i-smaller
 loop-i-smaller c = omega (arith, c.loop-i-test.true)

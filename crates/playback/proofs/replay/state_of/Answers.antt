@@ -1,5 +1,4 @@
 -- `state_of` meets its contract.
-use borrow.Author.Rules.{rules}
 use Rattle.playback.proofs.replay.state_of.Goals as goal
 
 pub returns-then-decided : goal.returns-then-decided

@@ -1,5 +1,4 @@
 -- `truck_of` meets its contract.
-use borrow.Author.Rules.{rules}
 use Rattle.playback.proofs.replay.truck_of.Goals as goal
 
 pub returns : goal.returns

@@ -1,10 +1,9 @@
 -- `veto` meets its contract.
-use mathlib.Core.Logic.{⊎_elim}
 use Prim.Native.Nat.{ℕ, ◌+◌, ◌*◌}
-use borrow.Author.Rules.{rules}
 use lib.Bits.{bit_and, bit_or}
 use Rattle.playback.proofs.Rounded.{none_asked, as_asked, vetoes_by}
 use Rattle.playback.proofs.replay.veto.Goals as goal
+use Rattle.playback.proofs.replay.veto.Goals.{then-senders-may, else-senders-may}
 
 pub returns : goal.returns
 returns c =
@@ -19,7 +18,4 @@ returns c =
     let rows : ℕ = a.at + 3 * a.n in
     vetoes_by a.s.now a.at a.n a.running a.marked a.one a.several stop.result mark.result going.result may.result m.some
     z.ranges.running.fits stop.ensures mark.ensures going.ensures may.ensures
-    (⊎_elim
-    (λ x. none_asked a.s.now rows a.n senders may.result x.0.taken x.1)
-    (λ x. as_asked a.s.now rows a.n senders may.result x.2 x.1.ensures)
-    m.branch)
+    (elim m.branch [ then-senders-may w ↦ none_asked a.s.now rows a.n senders may.result w.if-senders-may.true w.some-is | else-senders-may w ↦ as_asked a.s.now rows a.n senders may.result w.some-is w.hearing_some-some.ensures ])

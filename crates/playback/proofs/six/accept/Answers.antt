@@ -1,5 +1,4 @@
 -- `accept` meets its contract.
-use borrow.Author.Rules.{rules}
 use Rattle.playback.proofs.Rounded.{accepts_by}
 use Rattle.playback.proofs.six.accept.Goals as goal
 

@@ -1,5 +1,4 @@
 -- `bit_round` meets its contract.
-use borrow.Author.Rules.{rules}
 use Rattle.playback.proofs.Rounded.{listens_by}
 use Rattle.playback.proofs.six.bit_round.Goals as goal
 

@@ -1,5 +1,4 @@
 -- `prepare` meets its contract.
-use borrow.Author.Rules.{rules}
 use Rattle.playback.proofs.Rounded.{prepares_by}
 use Rattle.playback.proofs.six.prepare.Goals as goal
 
@@ -13,5 +12,5 @@ returns c =
     let unmarked = c.without in
     let wanted = c.listeners-wanted in
     let h = c.least_heard-h in
-    prepares_by a.s.now a.at a.n a.running a.by.now c.settle.new.0 stop.result active.result mark.result going.result unmarked.result wanted.result h.result
+    prepares_by a.s.now a.at a.n a.running a.by.now c.settle.new.by stop.result active.result mark.result going.result unmarked.result wanted.result h.result
     stop.ensures active.ensures mark.ensures going.ensures unmarked.ensures wanted.ensures h.ensures c.settle.ensures

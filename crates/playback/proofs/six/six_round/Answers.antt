@@ -1,7 +1,6 @@
 -- `six_round` meets its contract.
 use mathlib.Core.Path.{refl}
 use native.Mathlib.Omega.{arith}
-use borrow.Author.Rules.{rules}
 use Rattle.playback.proofs.six.six_round.Goals as goal
 
 pub returns-then-d-eq0 : goal.returns-then-d-eq0

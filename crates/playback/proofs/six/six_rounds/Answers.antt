@@ -1,12 +1,11 @@
 -- `six_rounds` meets its contract: before each turn of the loop the run stands after k rounds.
 use mathlib.Core.Path.{◌≡◌, refl, subst}
-use Prim.Native.Nat.{ℕ, ◌+◌, ◌-◌, ◌≤◌}
+use Prim.Native.Nat.{ℕ, ◌+◌, ◌-◌}
 use native.Mathlib.Omega.{arith}
 use borrow.Author.Rules.{rules}
 use lib.ListN.{replicate}
 use Rattle.recording.specs.Packed.{round_at}
 use Rattle.protocol.specs.Six.{six_rules}
-use Rattle.playback.specs.Replays.{FoundAfter}
 use Rattle.playback.specs.Standing.{Due}
 use Rattle.playback.proofs.Halts.{due-room}
 use Rattle.playback.proofs.HaltsSix.{on_test, six-next, six-graded, six_halts}
@@ -109,7 +108,7 @@ loop-k-preserved c =
     let e = c.ended in (
       omega (arith, r.1.1.1.0),
       (
-        six-next l.invariant.1.0 on q.ensures w.result e.new.0 (a.rounds - (l.k + 1)) w.ensures e.ensures (omega arith),
+        six-next l.invariant.1.0 on q.ensures w.result e.new.ends (a.rounds - (l.k + 1)) w.ensures e.ensures (omega arith),
         six-graded l.invariant.1.0 on q.ensures a.judging l.invariant.1.1 j.ensures,
       ),
     )

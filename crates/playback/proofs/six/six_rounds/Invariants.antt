@@ -1,15 +1,10 @@
 -- `six_rounds` meets its contract: before each turn of the loop the run stands after k rounds.
-use mathlib.Core.Path.{◌≡◌, refl, subst}
-use Prim.Native.Nat.{ℕ, ◌+◌, ◌-◌, ◌≤◌}
-use native.Mathlib.Omega.{arith}
-use borrow.Author.Rules.{rules}
+use Prim.Native.Nat.{◌-◌, ◌≤◌}
 use lib.ListN.{replicate}
 use Rattle.recording.specs.Packed.{round_at}
 use Rattle.protocol.specs.Six.{six_rules}
 use Rattle.playback.specs.Replays.{FoundAfter}
 use Rattle.playback.specs.Standing.{Due}
-use Rattle.playback.proofs.Halts.{due-room}
-use Rattle.playback.proofs.HaltsSix.{on_test, six-next, six-graded, six_halts}
 use Rattle.playback.proofs.six.six_rounds.Given as goal
 
 abbrev pub invariant-loop-k : goal.invariant-loop-k

@@ -1,17 +1,11 @@
 -- `with_bit` meets its contract: the loop holds the trucks of the crushers so far.
-use mathlib.Core.Path.{◌≡◌, refl, ap, sym, ◌∙◌}
-use mathlib.Core.Bool.{Bool, true, false, cond, ◌&&◌, ◌||◌}
+use mathlib.Core.Path.{◌≡◌}
+use mathlib.Core.Bool.{Bool, ◌&&◌}
 use Prim.Native.Nat.{ℕ, ◌-◌, ◌≤◌, ◌<◌}
-use native.Mathlib.Omega.{arith}
-use borrow.Author.Rules.{rules}
-use lib.Bits.{bit_or}
 use lib.ListN.{get_or}
 use mathlib.Core.List.{List}
 use Rattle.basics.specs.Bits.{bit}
 use Rattle.basics.specs.Lists.{some_below}
-use Rattle.basics.proofs.Laws.{some-none, some_more}
-use Rattle.basics.proofs.Bits.{bit-or}
-use Rattle.sets.proofs.Words.{bit-zero}
 use Rattle.playback.proofs.six.with_bit.Given as goal
 
 abbrev pub has : List ℕ → ℕ → ℕ → ℕ → Bool

@@ -2,10 +2,10 @@
 """Wrong versions: what the must-fail edits hold, and what the check said of each of them.
 
     tests/versions.py layout [ROOT]       each version changes what it names, and no two of an edit are looked up in the same place
-    tests/versions.py refusals [ROOT]     a line for each version, from the logs of `rt ci`: 'ok ..' where it is refused for a fact, else 'FAILED ..'
+    tests/versions.py try [ROOT]          checks each edit over what `rt check` kept, and writes what the check says to target/must-fail; a line as each is done
+    tests/versions.py refusals [ROOT]     a line for each version, from those logs: 'ok ..' where it is refused for a fact, else 'FAILED ..'
     tests/versions.py bystanders [ROOT]   functions that no version of an edit names, but that call one that is refused, have no fact of their own
-    tests/versions.py find CRATE LABEL    the edit that has a version, and its lines
-    tests/versions.py said CRATE LABEL LOG   what a log says of a version
+    tests/versions.py alone CRATE LABEL   checks one version by itself, and says what it is refused for
 
 An edit holds versions, each after a line
 
@@ -13,21 +13,28 @@ An edit holds versions, each after a line
 
 NAME is a function, with its module as in `replay::veto`, whose body the version changes; `contract NAME` says that it changes the function's contract; or NAME
 is a definition of specs/. A check goes on after a refusal, so one check of the crate serves all versions of an edit. What the check says of a function stands
-in the log with the function's own proof file, whether or not a function that it calls is refused too: its needs rest on the contract of what it calls. So a
-version of a function is looked up by that file, and where an edit has two versions of a function by the need that each breaks (DECLARATION). A definition is no
-function's, so its version says at which declaration of which file of proofs/ it is refused."""
+in the log with the function's own answers, or on its own line where it has none, whether or not a function that it calls is refused too: its goals rest on the
+contract of what it calls. So a version of a function is looked up by that, and where an edit has two versions of a function by the goal that each breaks
+(DECLARATION). A definition is no function's, so its version says at which declaration of which file of proofs/ it is refused; a function's answers are the file
+F/Answers, also where the function has no such file. A goal's name may have a number of the code in it, as in `returns-then-k-lt64`: where a version changes that
+number, it changes the name in the function's answers too, so that it is refused for the fact."""
+import concurrent.futures
+import os
 import pathlib
 import re
+import shutil
+import subprocess
 import sys
+import tempfile
 
 FACT = re.compile(
     "the two types|expected type|but this has type|does not follow|does not close|no proof of|it is not proved|differ|is not proved|found no proof"
-    "|give a proof of that as the last argument"
+    "|give a proof of that as the last argument|did not prove"
 )
 # a name out of scope, or a proof file that no longer fits the code, shows nothing
-FORM = re.compile("not in scope|has no `Need-|[Pp]arse|cannot be named|no module is declared|unsupported|does not cover|cannot find")
-# what a function promises, what a loop keeps and what a callee asks for; any other need is a bound, and what was cited for it may just be out of date
-MEANING = re.compile(r"(?:^|-)(?:returns(?:-\d+)?|loop-(?:holds|again)(?:-\d+)?|requires(?:-\d+)?|same-length(?:-\d+)?)$")
+FORM = re.compile("not in scope|has no field|has no `|can be named|[Pp]arse|cannot be named|no module is declared|unsupported|does not cover|cannot find|is built with")
+# what a function promises, what a loop keeps and what a callee asks for; any other goal is a bound, and what was cited for it may just be out of date
+MEANING = re.compile(r"(?:^|-)(?:returns(?:-.*)?|loop-.*-(?:init|preserved)|.*requires(?:-.*)?|shape_of-.*|prove-.*)$")
 
 
 class Version:
@@ -44,7 +51,7 @@ class Version:
             return re.compile(re.escape(self.file))
         *modules, name = self.what.split("::")
         # functions that call each other have one proof, with the names of them all
-        return re.compile("".join(re.escape(m) + "/" for m in modules) + rf"(?:{name}|(?:\+[a-z0-9_]+)*\+{name}(?:\+[a-z0-9_]+)*)/Proof")
+        return re.compile("".join(re.escape(m) + "/" for m in modules) + rf"(?:{name}|\+[a-z0-9_]*{name}[a-z0-9_]*)/(?:Answers|Invariants|Proof)")
 
     def place(self):
         return (self.file or self.what, self.decl)
@@ -127,7 +134,10 @@ def layout_of(edit):
                 path = edit.parent.parent / file
                 texts[file] = path.read_text() if path.is_file() else ""
             at = texts[file].find(old)
-            if file.startswith("src/"):
+            if file.startswith("proofs/"):
+                # the answers of that function name what the version changes
+                right = at >= 0 and v.is_function() and v.proof_files().fullmatch(file[len("proofs/") : -len(".antt")])
+            elif file.startswith("src/"):
                 name, body = function_at(file, texts[file], at) if at >= 0 else (None, False)
                 right = name == v.what and body != v.contract and v.is_function()
             else:
@@ -164,23 +174,26 @@ class Said:
     def __init__(self, text):
         self.errors, self.functions = [], {}
         for line in text.split("\n"):
-            m = re.match(r"\S*/proofs/(\S+?)\.antt:\d+:\d+: error: (?:`([^`]+)`)?(.*)", line)
-            if m and "was not admitted" not in line:
+            m = re.match(r"(?!so far)\S*proofs/(\S+?)\.antt:\d+:\d+: error: (?:`([^`]+)`)?(.*)", line)
+            if m and not re.search("was not admitted|was rejected|was not checked", line):
                 self.errors.append((m.group(1), m.group(2), line))
             m = re.match(r"fn [a-z0-9_]+::(\S+): (.*)", line)
             if m:
                 self.functions[m.group(1)] = m.group(2)
-                # a function with no proof file of its own has the needs that the toolchain could not answer on this line
-                for part in re.findall(r"`search` does not close ((?:`[^`]+`(?:, | and )?)+)", m.group(2)):
-                    self.errors += [(m.group(1).replace("::", "/") + "/Proof", decl, line) for decl in re.findall(r"`([^`]+)`", part)]
+                # goals that no answer is given for, and that the toolchain could not prove, are on this line
+                place = re.search(r"expected answers in (?:\S*/)?proofs/(\S+)\.antt", m.group(2))
+                part = re.search(r"`search` did not prove ((?:`[^`]+`(?:, | and )?)+)", m.group(2))
+                if part:
+                    file = place.group(1) if place else m.group(1).replace("::", "/") + "/Answers"
+                    self.errors += [(file, decl, line) for decl in re.findall(r"`([^`]+)`", part.group(1))]
 
     def refusal(self, v):
         """The error for which a version is refused, and whether it is a fact; what a function means comes before a bound."""
         own = v.proof_files()
         found = [(decl, line) for file, decl, line in self.errors if own.fullmatch(file)]
-        name = v.what.split("::")[-1].replace("_", "-")
+        name = v.what.split("::")[-1]
         if v.is_function() and any("+" in file for file, _, _ in self.errors if own.fullmatch(file)):
-            found = [(decl, line) for decl, line in found if (decl or "").startswith(name + "-")]
+            found = [(decl, line) for decl, line in found if (decl or "").startswith(name + "-")] or found
         if v.decl:
             found = [(decl, line) for decl, line in found if decl == v.decl]
         facts = [(decl, line) for decl, line in found if FACT.search(line) and not FORM.search(line)]
@@ -196,6 +209,60 @@ class Said:
 def log_of(root, edit):
     path = root / "target/must-fail" / edit.parent.parent.name / edit.stem / ".log"
     return Said(path.read_text() if path.is_file() else "")
+
+
+# ---- the checks
+
+
+def below(root):
+    """The crates that each crate rests on, by the lines of crates.txt."""
+    rests = {}
+    for line in (root / "crates.txt").read_text().split("\n"):
+        name, colon, deps = line.split("#")[0].partition(":")
+        if colon:
+            rests[name.split()[0]] = deps.split()
+
+    def all_of(crate, found):
+        for dep in rests[crate]:
+            if dep in rests and dep not in found:
+                all_of(dep, found)
+                found.append(dep)
+        return found
+
+    return {crate: all_of(crate, []) for crate in rests}
+
+
+def check(root, crate, changes):
+    """What `rt check` says of a crate with these changes, in a copy of it and of what it rests on; what is proved already is taken over."""
+    with tempfile.TemporaryDirectory() as place:
+        copy = pathlib.Path(place)
+        shutil.copy(root / "crates.txt", copy)
+        for name in [*below(root)[crate], crate]:
+            # links to the same files: the check replaces those that it writes
+            shutil.copytree(root / "crates" / name, copy / "crates" / name, copy_function=os.link)
+        for file, old, new in changes:
+            path = copy / "crates" / crate / file
+            text = path.read_text()
+            if text.count(old) != 1:
+                return f"the old text stands {text.count(old)} times in {file}: {old}"
+            path.unlink()
+            path.write_text(text.replace(old, new))
+        ran = subprocess.run(["rt", "check"], cwd=copy / "crates" / crate, stdin=subprocess.DEVNULL, stdout=subprocess.PIPE, stderr=subprocess.STDOUT, text=True, errors="replace")
+        return ran.stdout
+
+
+def write_log(root, edit):
+    path = root / "target/must-fail" / edit.parent.parent.name / edit.stem / ".log"
+    path.parent.mkdir(parents=True, exist_ok=True)
+    path.write_text(check(root, edit.parent.parent.name, [c for v in versions_of(edit)[0] for c in v.changes]))
+
+
+def try_all(root):
+    every = edits(root)
+    with concurrent.futures.ThreadPoolExecutor(max(1, int(os.environ.get("JOBS") or (os.cpu_count() or 2) - 1))) as pool:
+        for k, edit in enumerate(pool.map(lambda e: (write_log(root, e), e)[1], every), 1):
+            print(f"[{k} of {len(every)}] {edit.parent.parent.name}/{edit.stem}", flush=True)
+    return 0 if every else 1
 
 
 def refusals(root):
@@ -235,18 +302,22 @@ def find(root, crate, label):
     sys.exit(f"no such wrong version: {crate}/{label}")
 
 
+def alone(root, crate, label):
+    v = find(root, crate, label)
+    fact, _, line = Said(check(root, crate, v.changes)).refusal(v)
+    print(line[:600])
+    print("refused for a fact" if fact else "not refused for a fact")
+    return 0 if fact else 1
+
+
 def main():
     here = pathlib.Path(__file__).resolve().parent.parent
+    commands = {"layout": layout, "try": try_all, "refusals": refusals, "bystanders": bystanders}
     match sys.argv[1:]:
-        case [("layout" | "refusals" | "bystanders") as command, *root] if len(root) < 2:
-            sys.exit({"layout": layout, "refusals": refusals, "bystanders": bystanders}[command](pathlib.Path(root[0]) if root else here))
-        case ["find", crate, label]:
-            for file, old, new in find(here, crate, label).changes:
-                print(f"file: {file}\nold: {old}\nnew: {new}")
-        case ["said", crate, label, log]:
-            fact, _, line = Said(pathlib.Path(log).read_text()).refusal(find(here, crate, label))
-            print(line[:600])
-            sys.exit(0 if fact else 1)
+        case [("layout" | "try" | "refusals" | "bystanders") as command, *root] if len(root) < 2:
+            sys.exit(commands[command](pathlib.Path(root[0]) if root else here))
+        case ["alone", crate, label]:
+            sys.exit(alone(here, crate, label))
         case _:
             sys.exit(__doc__)
 

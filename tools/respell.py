@@ -167,8 +167,8 @@ def main():
         for line in found:
             print("clash:", line)
         return
-    pages = {a: snake(a).replace("-", "_") for a in TURNED} | turned
-    pages |= {a: turned[b] for a, b in pages.items() if b in turned}
+    pages = {a: snake(a).replace("-", "_") for a in TURNED}
+    pages = {a: turned.get(b, b) for a, b in pages.items()} | turned
     for file in sorted(root.glob("crates/**/*")):
         if "out" in file.parts or not file.is_file():
             continue

@@ -9,7 +9,7 @@ use Rattle.basics.proofs.Laws.{filled_none, fill_step}
 use Rattle.bitreader.specs.declared.Reader.{Reader}
 use Rattle.bitreader.specs.Bits.{num_at, bits_read, place_after, moved_by}
 use Rattle.recording.specs.Packed.{bit_at, trucks_of, rounds_of, opening_place, opening_at}
-use Rattle.recording.proofs.Fronts.{after-opening, trucks-lt, rounds_lt, opening-lt}
+use Rattle.recording.proofs.Fronts.{after-counts, after-opening, trucks-lt, rounds_lt, opening-lt}
 use Rattle.recording.proofs.read_front.Goals as goal
 use Rattle.recording.proofs.read_front.Goals.{After-take-trucks, After-take-rounds, After-take}
 
@@ -21,7 +21,7 @@ module _ (s : List ℕ) (r : Reader) (p k : ℕ) (b : r.bytes.now ≡ s) (a : r.
   moved : (n : Reader) → n ≡ moved_by r k → (n.bytes.now ≡ s) × (n.at ≡ place_after p k)
   moved n e = (ap (λ (m : Reader). m.bytes.now) e ∙ b, ap (λ (m : Reader). m.at) e ∙ ap (λ (q : ℕ). place_after q k) a)
 
-trucks-read : (c : After-take-trucks) → (c.take-trucks.result ≡ trucks_of c.args.s.now) × (c.take-trucks.new.r.bytes.now ≡ c.args.s.now) × (c.take-trucks.new.r.at ≡ 6)
+trucks-read : (c : After-take-trucks) → (c.take-trucks.result ≡ trucks_of c.args.s.now) × (c.take-trucks.new.r.bytes.now ≡ c.args.s.now) × (c.take-trucks.new.r.at ≡ place_after 0 6)
 unfolding trucks_of
 trucks-read c =
     let b : c.new-r.result.bytes.now ≡ c.args.s.now = ap (λ x. x.now) c.new-r.ensures.0 in
@@ -35,8 +35,8 @@ rounds-read : (c : After-take-rounds) → (c.take-rounds.result ≡ rounds_of c.
 unfolding rounds_of
 rounds-read c =
     let t = trucks-read (goal.at.overflow_cast-rounds c).After-take-trucks in
-    let m = moved c.args.s.now c.take-trucks.new.r 6 10 t.1 t.2 c.take-rounds.new.r c.take-rounds.ensures.1 in
-    (taken c.args.s.now c.take-trucks.new.r 6 10 t.1 t.2 c.take-rounds.result c.take-rounds.ensures.0, m.0, m.1)
+    let m = moved c.args.s.now c.take-trucks.new.r (place_after 0 6) 10 t.1 t.2 c.take-rounds.new.r c.take-rounds.ensures.1 in
+    (taken c.args.s.now c.take-trucks.new.r (place_after 0 6) 10 t.1 t.2 c.take-rounds.result c.take-rounds.ensures.0, m.0, m.1 ∙ after-counts)
 
 pub overflow_cast-rounds : goal.overflow_cast-rounds
 overflow_cast-rounds c = omega (arith, (rounds-read c).0, rounds_lt c.args.s.now)

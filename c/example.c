@@ -2,7 +2,7 @@
  * Runs a recording to its listing, follows the same rounds as a live fleet, steps a fleet in the six-round cycle, finds what
  * is wrong with another recording, asks the panel, and picks an opening crusher.
  *
- *   rt staticlib ffi
+ *   ./staticlib ffi
  *   cc -std=c99 -Wall -Wextra -Ic c/example.c target/staticlib/libffi.a -o example
  */
 #include <stdio.h>

@@ -2,7 +2,7 @@
  * What the panel in the crusher hut shows of the recording on standard input: its listing, or a line with the number of the
  * refusal. Exits with status 1 where the recording is refused, 2 where reading or printing fails.
  *
- *   rt staticlib ffi
+ *   ./staticlib ffi
  *   cc -std=c99 -Wall -Wextra -Ic c/panel.c target/staticlib/libffi.a -o panel && ./panel < FILE
  *
  * Both buffers together have 1,106 bytes, and the calls take less than RAJVOKSHUL_PANEL_STACK bytes of stack.

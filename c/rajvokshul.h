@@ -2,7 +2,7 @@
  * Rajvokshul for C and C++: crusher agreement by radio rounds.
  *
  * Link with librajvokshul.a of an installation (`pkg-config --cflags --libs rajvokshul`), or in the repository with the
- * archive that `rt staticlib ffi` writes, target/staticlib/libffi.a (name the file: `-lffi` is another library).
+ * archive that `./staticlib ffi` writes, target/staticlib/libffi.a (name the file: `-lffi` is another library).
  *
  * Every function that is not inline answers 0, or the number of the refusal, which rajvokshul_reason puts in words; but for
  * the three whose names end in _own_loss, which tell the round and the truck where another answered 6. On a refusal nothing

@@ -2,7 +2,7 @@
  * How much stack each call of the library takes, on inputs of the largest size. Prints a line for each call, and exits
  * with status 1 where one takes as many bytes as the header says that it does not, 2 where it can't tell.
  *
- *   rt staticlib ffi
+ *   ./staticlib ffi
  *   cc -std=c99 -Wall -Wextra -Ic c/stack.c target/staticlib/libffi.a -lpthread -o stack && ./stack
  *
  * A call is made in a thread whose stack was filled with a pattern. What it took is what lies between the thread's own

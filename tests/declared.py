@@ -1,12 +1,12 @@
 #!/usr/bin/env python3
-"""The exported functions are declared alike wherever they are: for C in c/rajvokshul.h, for Rust in rust/rajvokshul-sys, and in crates/ffi, which has them.
+"""The exported functions are declared alike wherever they are: for C in c/rajvokshul.h, for Rust in rust/rajvokshul-sys, and in crates/ffi_c, which has them.
 
     tests/declared.py [ROOT]
 
 A function that one of the three lacks is named, and so is one whose arguments or answer differ in number, order or type. Between C and Rust the arguments also
 have the same names. Inline functions of the header are none of the archive's and have no counterpart.
 
-In crates/ffi a slice is one argument, where C and Rust have a pointer and a length."""
+In crates/ffi_c a slice is one argument, where C and Rust have a pointer and a length."""
 import pathlib
 import re
 import sys
@@ -74,7 +74,7 @@ def bare(function):
 def main():
     root = pathlib.Path(sys.argv[1]) if len(sys.argv) > 1 else pathlib.Path(__file__).resolve().parent.parent
     tables = {}
-    for file, read in (("c/rajvokshul.h", of_header), ("rust/rajvokshul-sys/src/lib.rs", of_rust), ("crates/ffi/src/lib.rt", of_rattle)):
+    for file, read in (("c/rajvokshul.h", of_header), ("rust/rajvokshul-sys/src/lib.rs", of_rust), ("crates/ffi_c/src/lib.rt", of_rattle)):
         tables[file] = read((root / file).read_text())
     (header, in_c), (sys_crate, in_rust), (_, in_rattle) = tables.items()
     wrong = []
@@ -86,7 +86,7 @@ def main():
         if in_c[name] != in_rust[name]:
             wrong.append(f"{name} is {shown(in_c[name])} in {header}, but {shown(in_rust[name])} in {sys_crate}")
         if bare(in_rust[name]) != bare(in_rattle[name]):
-            wrong.append(f"{name} is {shown(in_rust[name])} in {sys_crate}, but crates/ffi has {shown(in_rattle[name])}")
+            wrong.append(f"{name} is {shown(in_rust[name])} in {sys_crate}, but crates/ffi_c has {shown(in_rattle[name])}")
     for line in wrong:
         print(line)
     print(len(in_c), "functions")

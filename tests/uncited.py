@@ -22,7 +22,7 @@ def stripped(path):
 
 def parts(name):
     """The words by which a name is used: those of a mixfix name stand apart."""
-    return [p for p in name.split("_") if p] if name.startswith("_") or name.endswith("_") else [name]
+    return [p for p in name.split("◌") if p] if "◌" in name else [name]
 
 
 def imports(text):
@@ -71,7 +71,8 @@ own = collections.Counter(name for text in files.values() for name, block in dec
 promises = root / "docs/PROMISES.md"
 named = set(re.findall(r"`([^`]+)`", promises.read_text())) if promises.is_file() else set()
 for path, text in files.items():
-    if path.suffix != ".antt" or path.name == "Proof.antt":
+    # the goals of a function are the toolchain's, so nothing of the repository cites their answers
+    if path.suffix != ".antt" or path.name in ("Answers.antt", "Invariants.antt"):
         continue
     for name in {name for name, _ in declared(text)}:
         if sum(cited[p] for p in {name, *parts(name)}) <= own[name] and name not in named:

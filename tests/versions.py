@@ -193,7 +193,7 @@ class Said:
         found = [(decl, line) for file, decl, line in self.errors if own.fullmatch(file)]
         name = v.what.split("::")[-1]
         if v.is_function() and any("+" in file for file, _, _ in self.errors if own.fullmatch(file)):
-            found = [(decl, line) for decl, line in found if (decl or "").startswith(name + "-")] or found
+            found = [(decl, line) for decl, line in found if (decl or "").startswith(name + "-")]
         if v.decl:
             found = [(decl, line) for decl, line in found if decl == v.decl]
         facts = [(decl, line) for decl, line in found if FACT.search(line) and not FORM.search(line)]

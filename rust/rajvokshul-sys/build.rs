@@ -1,4 +1,4 @@
-//! Links the archive of the proved library: `libffi.a`, which `rt staticlib ffi` writes, or `librajvokshul.a`, which is the
+//! Links the archive of the proved library: `libffi.a`, which `./staticlib ffi` writes, or `librajvokshul.a`, which is the
 //! same under the name that it is installed by. It is looked for in the folder that `RAJVOKSHUL_LIB_DIR` names, else where
 //! it stands beside this crate: in the repository's `target/staticlib`, or in the installation's `lib`.
 
@@ -26,7 +26,7 @@ fn main() {
         println!("cargo:rerun-if-changed={}", candidate.display());
     }
     let Some(archive) = candidates.iter().find(|candidate| candidate.exists()) else {
-        panic!("the archive of the library is not there: {candidates:?}; `rt staticlib ffi` writes it in the repository, and RAJVOKSHUL_LIB_DIR may name its folder");
+        panic!("the archive of the library is not there: {candidates:?}; `./staticlib ffi` writes it in the repository, and RAJVOKSHUL_LIB_DIR may name its folder");
     };
     // Under a name of its own, so that the linker takes no other `libffi` for it.
     let out = PathBuf::from(env::var_os("OUT_DIR").unwrap());

@@ -43,22 +43,17 @@ expect "replay through links" ends 0 "$listing" "" bash -c "cd / && exec '$box/s
 
 # A tree of its own. Its rt writes down where and how it was called, does what the file 'then' says, and puts the program in place.
 tree=$box/tree
-mkdir -p "$tree/crates/one/src" "$tree/target/bin" "$box/bin"
+mkdir -p "$tree/crates/one/src" "$tree/crates/replay/src" "$tree/target/bin" "$box/bin"
 cp replay prove "$tree"
-printf 'one:\nreplay: one io\n' > "$tree/crates.txt"
-touch -d '2 hours ago' "$tree/crates.txt" "$tree/crates/one/src/lib.rt" "$tree/crates/one/src/more.rt" "$tree/crates/one/src" "$tree/crates/one" "$tree/crates"
+printf 'one:\nreplay: one\n' > "$tree/crates.txt"
+touch -d '2 hours ago' "$tree/crates.txt" "$tree"/crates/{one/src/{lib.rt,more.rt},replay/src/main.rt,one/src,replay/src,one,replay} "$tree/crates"
 cat > "$box/bin/rt" << END
 #!/bin/sh
 echo "\$PWD: \$*" >> "$box/asked"
 echo "rt: at work"
 echo "error: none of note" >&2
-mkdir -p target/log target/bin
-for crate in one replay; do
-    echo "rt: \$crate proved (unchanged since it was last proved)" > target/log/\$crate.out
-    [ -e "$box/unchanged-\$crate" ] || touch target/log/\$crate.say
-done
 . "$box/then"
-mkdir -p target/bin && cp "$PWD/target/bin/replay" target/bin
+[ "\$1" != run ] || cp "$PWD/target/bin/replay" out
 END
 chmod +x "$box/bin/rt"
 echo : > "$box/then"
@@ -68,32 +63,35 @@ asks() { # TIMES STATUS OUTPUT ERROR: how often a call of the tree's script asks
     rm -f "$box/asked"
     touch "$box/asked"
     PATH=$box/bin:$PATH ends "$@" "$tree/replay" "$box/c01" || return 1
-    [ "$(wc -l < "$box/asked")" -eq "$times" ] && [ "$(grep -cvxF "$tree: check replay" "$box/asked")" -eq 0 ]
+    [ "$(grep -cxF "$tree/crates/replay: run" "$box/asked")" -eq "$times" ] && [ "$(grep -cvxE "$tree/crates/(one: check|replay: (check|run))" "$box/asked")" -eq 0 ]
 }
 expect "replay builds the first time, and says so" asks 1 0 "$listing" "replay: proving and building"
 expect "replay says which crate begins, and no more" test "$(grep -v '^replay: ' "$box/err" | paste -sd /)" = "[1 of 2] one/[2 of 2] replay"
 expect "replay does not build again" asks 0 0 "$listing" ""
-touch "$tree/crates/one/src/lib.rt" "$box/unchanged-one"
+touch "$tree/crates/replay/src/main.rt"
 expect "replay builds after a change" asks 1 0 "$listing" "replay: proving and building"
 expect "replay does not name what is proved already" test "$(grep -v '^replay: ' "$box/err")" = "[2 of 2] replay"
+touch "$tree/crates/one/src/lib.rt"
+expect "replay builds after a change below" asks 1 0 "$listing" "replay: proving and building"
+expect "replay names what rests on the change" test "$(grep -v '^replay: ' "$box/err" | paste -sd /)" = "[1 of 2] one/[2 of 2] replay"
 expect "replay does not build again after that" asks 0 0 "$listing" ""
 touch "$tree/crates.txt"
 expect "replay builds after a change of crates.txt" asks 1 0 "$listing" "replay: proving and building"
 rm "$tree/crates/one/src/more.rt"
 expect "replay builds after a file is taken away" asks 1 0 "$listing" "replay: proving and building"
-# rt leaves a program alone that would be the same
+# a program that would be the same is left alone
 touch "$tree/crates.txt"
 echo exit > "$box/then"
 expect "replay builds where rt leaves the program alone" asks 1 0 "$listing" "replay: proving and building"
 expect "replay does not build again then" asks 0 0 "$listing" ""
 touch "$tree/crates.txt"
-echo 'sleep 0.02; touch crates.txt' > "$box/then"
+echo "sleep 0.02; touch '$tree/crates.txt'" > "$box/then"
 expect "replay builds while a file changes" asks 1 0 "$listing" "replay: proving and building"
 expect "replay builds again after that" asks 1 0 "$listing" "replay: proving and building"
 echo 'exit 1' > "$box/then"
 expect "replay ends where the build fails" asks 1 3 "" "replay: the program could not be built"
 expect "replay says all of it then" grep -qx 'error: none of note' "$box/err"
-echo 'rm target/bin/replay; exit 0' > "$box/then"
+echo 'rm -f out/replay; exit 0' > "$box/then"
 expect "replay ends where no program is built" asks 1 3 "" "replay: the program could not be built"
 mkdir "$box/tools"
 for tool in bash dirname readlink find; do ln -s "$(command -v "$tool")" "$box/tools"; done

@@ -1,10 +1,8 @@
 # From outside the proofs: the archive for other languages, those of the bit reader and of whole records for tests, the Rust tests (the independent reading of document 01, its comparison with the library and with steps of whole records, the bit reader bit by bit, the safe crate), and the examples.
-build() { rt staticlib "$1" > /dev/null 2>&1; }
 echo "archives"
-# one after the other: two calls of rt at once may take each other's word for a crate that is just being looked at
-expect "rt staticlib ffi" build ffi
-expect "rt staticlib bitcalls" build bitcalls
-expect "rt staticlib recordcalls" build recordcalls
+for name in ffi bitcalls recordcalls; do
+    expect "staticlib $name" ./staticlib "$name"
+done
 echo "Rust tests"
 log=$(mktemp)
 (cd rust && cargo test --offline --release --workspace --exclude oracle) > "$log" 2>&1

@@ -22,10 +22,10 @@ cc -std=c99 $strict tests/c/reasons.c -o "$out/reasons" && "$out/reasons" > "$ou
 expect "the words of the header" test $? -eq 0
 expect "README.md has the words of the header" cmp -s "$out/rows" <(grep -E '^\| [0-9]+ \|' README.md)
 
-# The header, rajvokshul-sys and crates/ffi declare the same functions, and the script that says so tells one that is missing, one more, and arguments or an answer that differ.
+# The header, rajvokshul-sys and crates/ffi_c declare the same functions, and the script that says so tells one that is missing, one more, and arguments or an answer that differ.
 expect "tests/declared.py" python3 tests/declared.py
 sample=$(mktemp -d)
-files="c/rajvokshul.h rust/rajvokshul-sys/src/lib.rs crates/ffi/src/lib.rt"
+files="c/rajvokshul.h rust/rajvokshul-sys/src/lib.rs crates/ffi_c/src/lib.rt"
 while IFS=@ read -r file change line; do
     expect "tests/declared.py says of $file after $change: $line" tells tests/declared.py "$files" "$file" "$change" "$line"
 done << 'END'
@@ -39,8 +39,8 @@ rust/rajvokshul-sys/src/lib.rs@/^    pub fn rajvokshul_recording_own_loss/d@rust
 rust/rajvokshul-sys/src/lib.rs@/^        crusher: /d@rajvokshul_opening is (
 rust/rajvokshul-sys/src/lib.rs@s/^        grades: \*mut u16,/        grades: *mut u32,/@rajvokshul_grade_six is (
 rust/rajvokshul-sys/src/lib.rs@s/^        round: u32,/        trucks: u32,/@rajvokshul_round_own_loss is (
-crates/ffi/src/lib.rt@s/fn rajvokshul_round_own_loss(trucks: u32, /fn rajvokshul_round_own_loss(/@but crates/ffi has (round: u32, words: *const u32, words_len: usize) -> u32
-crates/ffi/src/lib.rt@s/fn rajvokshul_step_six(/fn rajvokshul_step_eight(/@crates/ffi/src/lib.rt lacks rajvokshul_step_six
+crates/ffi_c/src/lib.rt@s/fn rajvokshul_round_own_loss(trucks: u32, /fn rajvokshul_round_own_loss(/@but crates/ffi_c has (round: u32, words: *const u32, words_len: usize) -> u32
+crates/ffi_c/src/lib.rt@s/fn rajvokshul_step_six(/fn rajvokshul_step_eight(/@crates/ffi_c/src/lib.rt lacks rajvokshul_step_six
 END
 rm -rf "$sample"
 

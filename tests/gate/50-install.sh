@@ -86,11 +86,11 @@ expect "install with two arguments" install_ends 2 '^usage: install PREFIX' "$bo
 expect "install with a blank in PREFIX" install_ends 2 '^usage: install PREFIX' "$box/one two"
 expect "install where nothing can be written" install_ends 1 'could not be written' "$box/c01/prefix"
 # a build that fails: with an rt that refuses, and a change for it to look at
-mkdir -p "$box/bin" "$box/tree/target/staticlib" "$box/tree/crates"
+mkdir -p "$box/bin" "$box/tree/target/staticlib" "$box/tree/crates"/{replay,ffi,ffi_c}
 printf '#!/bin/sh\necho "rt: NOT PROVED"\nexit 1\n' > "$box/bin/rt"
 chmod +x "$box/bin/rt"
 cp install prove "$box/tree"
-printf 'replay:\nffi: replay\n' > "$box/tree/crates.txt"
+printf 'replay:\nffi: replay\nffi_c staticlib: ffi\n' > "$box/tree/crates.txt"
 unproved() { PATH=$box/bin:$PATH "$box/tree/install" "$box/three" 2> "$box/err"; [ $? -eq 1 ] && grep -qx 'rt: NOT PROVED' "$box/err" && grep -q 'nothing is installed' "$box/err" && [ ! -e "$box/three" ]; }
 expect "install of what is not proved" unproved
 rm -rf "$box"

@@ -16,7 +16,7 @@
 //! # Linking
 //!
 //! The archive is looked for in the folder that the environment variable `RAJVOKSHUL_LIB_DIR` names when this crate is built,
-//! else where it stands beside this crate: in `target/staticlib` of the repository, where `rt staticlib ffi` writes it, or in
+//! else where it stands beside this crate: in `target/staticlib` of the repository, where `./staticlib ffi` writes it, or in
 //! `lib` of an installation.
 
 #![no_std]

@@ -8,7 +8,7 @@
 //!
 //! The crate `rajvokshul-sys`, which stands beside this one, declares those functions and links the archive of the library.
 //! The archive is looked for in the folder that the environment variable `RAJVOKSHUL_LIB_DIR` names when that crate is built,
-//! else where it stands beside it: in `target/staticlib` of the repository, where `rt staticlib ffi` writes it, or in `lib` of
+//! else where it stands beside it: in `target/staticlib` of the repository, where `./staticlib ffi` writes it, or in `lib` of
 //! an installation.
 //!
 //! # Stack

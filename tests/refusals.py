@@ -1,10 +1,10 @@
 #!/usr/bin/env python3
-"""Every table of refusals has the numbers of `numberOf` (crates/refusals/specs/Numbers.antt), each once and no other: the defines and the words of c/rajvokshul.h,
+"""Every table of refusals has the numbers of `number_of` (crates/refusals/specs/Numbers.antt), each once and no other: the defines and the words of c/rajvokshul.h,
 the cases, numbers and words of the safe crate, and the tables of README.md and docs/API.md.
 
     tests/refusals.py [ROOT]
 
-Where a table names its rows, a number stands beside the name that `numberOf` gives it to; and where tables say what was wrong in the words that a program prints,
+Where a table names its rows, a number stands beside the name that `number_of` gives it to; and where tables say what was wrong in the words that a program prints,
 they say the same: the header, the safe crate and README.md."""
 import pathlib
 import re
@@ -22,7 +22,7 @@ def camel(name):
 
 
 def spec(text):
-    return [(int(number), name) for name, number in re.findall(r"(?m)^numberOf \(?(\w+)[^=\n]*= (\d+)$", text)]
+    return [(int(number), name) for name, number in re.findall(r"(?m)^number_of \(?(\w+)[^=\n]*= (\d+)$", text)]
 
 
 def words(text):
@@ -84,7 +84,7 @@ def main():
             wrong += [f"{place} {number} ({names[number]}) is not there" for number in names if number not in numbers]
             wrong += [f"{place} {number} ({name or 'without a name'}) is no refusal's number" for number, name in rows if number not in names]
             wrong += [f"{place} {number} is there twice" for number in sorted(set(numbers) & set(names)) if numbers.count(number) > 1]
-            wrong += [f"{place} {number} is {name}, but {names[number]} by numberOf" for number, name in rows if number in names and name not in (None, names[number])]
+            wrong += [f"{place} {number} is {name}, but {names[number]} by number_of" for number, name in rows if number in names and name not in (None, names[number])]
             if reasons is not None:
                 said[place] = reasons
     (first, expected), *others = said.items()

@@ -23,7 +23,7 @@ README.md@/^| 9 |/d@README.md, table: 9 (ShortBuffer) is not there
 README.md@/^| 14 |/a | 15 | the fleet is asleep |@README.md, table: 15 (without a name) is no refusal's number
 README.md@s/^| 12 | .*/| 12 | no time |/@README.md, table: 12 is 'no time', but
 docs/API.md@/^| 6 | `OwnLoss/d@docs/API.md, table: 6 (OwnLoss) is not there
-docs/API.md@s/`NoTime`/`Seconds`/@docs/API.md, table: 12 is Seconds, but NoTime by numberOf
+docs/API.md@s/`NoTime`/`Seconds`/@docs/API.md, table: 12 is Seconds, but NoTime by number_of
 docs/API.md@/^| 3 | `RoundCount/p@docs/API.md, table: 3 is there twice
 c/rajvokshul.h@/^#define RAJVOKSHUL_END_BIT /d@c/rajvokshul.h, defines: 5 (EndBit) is not there
 c/rajvokshul.h@s/^#define RAJVOKSHUL_ROUNDS_DONE 14/#define RAJVOKSHUL_ROUNDS_DONE 15/@c/rajvokshul.h, defines: 15 (RoundsDone) is no refusal's number
@@ -32,8 +32,8 @@ rust/rajvokshul/src/refusal.rs@s/Refusal::AllIdle => 13,/Refusal::AllIdle => 12,
 rust/rajvokshul/src/refusal.rs@/^    PlainRound,$/d@rust/rajvokshul/src/refusal.rs, cases: 8 (PlainRound) is not there
 rust/rajvokshul/src/refusal.rs@/^        Refusal::Record,$/d@rust/rajvokshul/src/refusal.rs, cases of a number: 7 (Record) is not there
 rust/rajvokshul/src/refusal.rs@s/=> "a lent buffer is too short"/=> "too short"/@rust/rajvokshul/src/refusal.rs, words: 9 is 'too short', but
-crates/refusals/specs/Numbers.antt@/^numberOf AllIdle/d@docs/API.md, table: 13 (AllIdle) is no refusal's number
-crates/refusals/specs/Numbers.antt@/^numberOf RoundsDone/a numberOf Late = 15@rust/rajvokshul/src/refusal.rs, words: 15 (Late) is not there
+crates/refusals/specs/Numbers.antt@/^number_of AllIdle/d@docs/API.md, table: 13 (AllIdle) is no refusal's number
+crates/refusals/specs/Numbers.antt@/^number_of RoundsDone/a number_of Late = 15@rust/rajvokshul/src/refusal.rs, words: 15 (Late) is not there
 END
 rm -rf "$sample"
 finished=yes

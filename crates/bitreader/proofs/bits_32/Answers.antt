@@ -2,7 +2,6 @@
 use mathlib.Core.Path.{◌∙◌}
 use native.Mathlib.Nat.{le_refl}
 use native.Mathlib.Omega.{arith}
-use borrow.Author.Rules.{rules}
 use Rattle.bitreader.proofs.Ways.{by_bytes-bits, both_ways}
 use Rattle.bitreader.proofs.bits_32.Goals as goal
 

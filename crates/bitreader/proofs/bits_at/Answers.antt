@@ -3,7 +3,6 @@ use mathlib.Core.Path.{◌≡◌, ap, sym, ◌∙◌}
 use Prim.Native.Nat.{ℕ, ◌-◌, ◌/◌, ◌^◌}
 use native.Mathlib.Nat.{div-le_self}
 use native.Mathlib.Omega.{arith}
-use borrow.Author.Rules.{rules}
 use Rattle.bitreader.specs.Bits.{bit_at, num_at}
 use Rattle.bitreader.proofs.Digits.{bit_at_lt, num_at-lt, num_at-one, num_at-first}
 use Rattle.bitreader.proofs.bits_at.Goals as goal

@@ -1,7 +1,6 @@
 -- `by_bytes` meets its contract: of the bytes that hold the bits, what is behind them is shifted out.
 use mathlib.Core.Path.{ap}
 use Prim.Native.Nat.{ℕ, ◌*◌, ◌-◌, ◌/◌, ◌%◌, ◌^◌}
-use borrow.Author.Rules.{rules}
 use Rattle.bitreader.specs.Ways.{holding}
 use Rattle.bitreader.proofs.by_bytes.Goals as goal
 

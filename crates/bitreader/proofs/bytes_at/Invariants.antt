@@ -1,11 +1,7 @@
 -- `bytes_at` meets its contract: the loop holds the number that the bytes so far make.
-use mathlib.Core.Path.{◌≡◌, refl, ap₂, ◌∙◌}
-use Prim.Native.Nat.{ℕ, ◌≤◌, ◌*◌, ◌-◌, ◌+◌}
-use native.Mathlib.Omega.{arith}
-use lib.Pow.{pow_mono}
-use borrow.Author.Rules.{rules}
+use mathlib.Core.Path.{◌≡◌}
+use Prim.Native.Nat.{◌≤◌, ◌-◌}
 use Rattle.bitreader.specs.Ways.{bytes_from}
-use Rattle.bitreader.proofs.Ways.{bytes_from-lt, bytes_from_more}
 use Rattle.bitreader.proofs.bytes_at.Given as goal
 
 abbrev pub invariant-loop-i : goal.invariant-loop-i

@@ -1,5 +1,4 @@
 -- `eight_at` meets its contract: the two halves joined are the number that the eight bytes make.
-use borrow.Author.Rules.{rules}
 use Rattle.bitreader.proofs.Ways.{bytes_from_eight}
 use Rattle.bitreader.proofs.eight_at.Goals as goal
 

@@ -4,7 +4,6 @@ use Prim.Native.Nat.{ℕ, ◌%◌}
 use native.Mathlib.Nat.{mod-eq_of_lt}
 use native.Mathlib.Omega.{arith}
 use lib.Pow.{pow_pos, pow_mono}
-use borrow.Author.Rules.{rules}
 use Rattle.bitreader.proofs.Digits.{one_shifted}
 use Rattle.bitreader.proofs.low_bits.Goals as goal
 

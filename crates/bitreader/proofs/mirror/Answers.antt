@@ -3,7 +3,6 @@ use mathlib.Core.Path.{ap, ◌∙◌}
 use Prim.Native.Nat.{ℕ, ◌-◌}
 use native.Mathlib.Omega.{arith}
 use lib.Pow.{shr_le}
-use borrow.Author.Rules.{rules}
 use Rattle.bitreader.specs.Bits.{mirrored}
 use Rattle.bitreader.proofs.Digits.{mirrored-lt, mirrored_of_32}
 use Rattle.bitreader.proofs.mirror.Goals as goal

@@ -1,7 +1,6 @@
 -- `mirror_2` meets its contract: two digits change places.
 use mathlib.Core.Path.{sym}
 use native.Mathlib.Omega.{arith}
-use borrow.Author.Rules.{rules}
 use Rattle.bitreader.proofs.Digits.{mirrored_two}
 use Rattle.bitreader.proofs.mirror_2.Goals as goal
 

@@ -1,5 +1,4 @@
 -- `mirror_32` meets its contract: each half is reversed, and the halves change places.
-use borrow.Author.Rules.{rules}
 use Rattle.bitreader.proofs.Digits.{mirrored-joined}
 use Rattle.bitreader.proofs.mirror_32.Goals as goal
 

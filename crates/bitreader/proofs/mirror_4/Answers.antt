@@ -1,6 +1,5 @@
 -- `mirror_4` meets its contract: each half is reversed, and the halves change places.
 use native.Mathlib.Omega.{arith}
-use borrow.Author.Rules.{rules}
 use Rattle.bitreader.proofs.Digits.{mirrored-joined}
 use Rattle.bitreader.proofs.mirror_4.Goals as goal
 

@@ -3,7 +3,6 @@ use mathlib.Core.Path.{ap, ◌∙◌}
 use Prim.Native.Nat.{ℕ, ◌%◌, ◌^◌}
 use native.Mathlib.Nat.{mod-le}
 use native.Mathlib.Omega.{arith}
-use borrow.Author.Rules.{rules}
 use Rattle.bitreader.specs.Bits.{bit_at, mirrored}
 use Rattle.bitreader.proofs.Digits.{bit_at_lt, row_at_low, mirrored_num}
 use Rattle.bitreader.proofs.row_at.Goals as goal

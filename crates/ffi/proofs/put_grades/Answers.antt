@@ -1,7 +1,6 @@
 -- `put_grades` meets its contract: a law for each return.
 use native.Mathlib.Omega.{arith}
 use lib.ListN.{length-set}
-use borrow.Author.Rules.{rules}
 use Rattle.ffi.proofs.Answers.{grades_0, grades_9, grades-refused}
 use Rattle.ffi.proofs.put_grades.Goals as goal
 

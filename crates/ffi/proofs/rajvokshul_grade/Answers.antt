@@ -1,5 +1,4 @@
 -- `rajvokshul_grade` meets its contract.
-use borrow.Author.Rules.{rules}
 use Rattle.ffi.proofs.Answers.{grade_put}
 use Rattle.ffi.proofs.rajvokshul_grade.Goals as goal
 

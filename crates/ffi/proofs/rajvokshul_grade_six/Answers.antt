@@ -1,5 +1,4 @@
 -- `rajvokshul_grade_six` meets its contract.
-use borrow.Author.Rules.{rules}
 use Rattle.ffi.proofs.Answers.{grade_put}
 use Rattle.ffi.proofs.rajvokshul_grade_six.Goals as goal
 

@@ -1,5 +1,4 @@
 -- `rajvokshul_list` meets its contract.
-use borrow.Author.Rules.{rules}
 use Rattle.ffi.proofs.Answers.{list_left}
 use Rattle.ffi.proofs.rajvokshul_list.Goals as goal
 

@@ -1,5 +1,4 @@
 -- `rajvokshul_opening` meets its contract: a law for each return.
-use borrow.Author.Rules.{rules}
 use Rattle.ffi.proofs.Answers.{opening_call_0, opening_call_refused}
 use Rattle.ffi.proofs.rajvokshul_opening.Goals as goal
 

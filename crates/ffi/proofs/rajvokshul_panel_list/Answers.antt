@@ -1,5 +1,4 @@
 -- `rajvokshul_panel_list` meets its contract.
-use borrow.Author.Rules.{rules}
 use Rattle.ffi.proofs.Answers.{panel_list_left}
 use Rattle.ffi.proofs.rajvokshul_panel_list.Goals as goal
 

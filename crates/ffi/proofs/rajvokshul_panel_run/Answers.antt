@@ -1,5 +1,4 @@
 -- `rajvokshul_panel_run` meets its contract.
-use borrow.Author.Rules.{rules}
 use Rattle.ffi.proofs.Records.{panel_run-left}
 use Rattle.ffi.proofs.rajvokshul_panel_run.Goals as goal
 

@@ -1,5 +1,4 @@
 -- `rajvokshul_read` meets its contract: a law for each return.
-use borrow.Author.Rules.{rules}
 use Rattle.ffi.proofs.Answers.{read_call_0, read_call_refused}
 use Rattle.ffi.proofs.rajvokshul_read.Goals as goal
 

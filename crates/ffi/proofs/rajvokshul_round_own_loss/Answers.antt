@@ -1,7 +1,6 @@
 -- `rajvokshul_round_own_loss` meets its contract: a law for each return.
 use mathlib.Core.Bool.{◌||◌}
 use native.Mathlib.Omega.{arith}
-use borrow.Author.Rules.{rules}
 use lib.Dec.{eqb}
 use Rattle.ffi.proofs.OwnLoss.{round-none, round-few, round-own}
 use Rattle.ffi.proofs.rajvokshul_round_own_loss.Goals as goal

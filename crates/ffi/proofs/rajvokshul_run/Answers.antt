@@ -1,5 +1,4 @@
 -- `rajvokshul_run` meets its contract.
-use borrow.Author.Rules.{rules}
 use Rattle.ffi.proofs.Records.{run-left}
 use Rattle.ffi.proofs.rajvokshul_run.Goals as goal
 

@@ -1,5 +1,4 @@
 -- `rajvokshul_start` meets its contract: a law for each return.
-use borrow.Author.Rules.{rules}
 use Rattle.ffi.proofs.Records.{start_range, start_stored}
 use Rattle.ffi.proofs.rajvokshul_start.Goals as goal
 

@@ -1,5 +1,4 @@
 -- `rajvokshul_write` meets its contract: a law for each return.
-use borrow.Author.Rules.{rules}
 use Rattle.ffi.proofs.Answers.{write_call_0, write_call_refused}
 use Rattle.ffi.proofs.rajvokshul_write.Goals as goal
 

@@ -1,5 +1,4 @@
 -- `rajvokshul_write_own_loss` meets its contract: a law for each return.
-use borrow.Author.Rules.{rules}
 use Rattle.ffi.proofs.OwnLoss.{write_own}
 use Rattle.ffi.proofs.rajvokshul_write_own_loss.Goals as goal
 

@@ -1,5 +1,4 @@
 -- `step_bytes` meets its contract.
-use borrow.Author.Rules.{rules}
 use Rattle.ffi.proofs.Records.{step_left}
 use Rattle.ffi.proofs.step_bytes.Goals as goal
 

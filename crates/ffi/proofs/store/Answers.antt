@@ -1,5 +1,4 @@
 -- `store` meets its contract: a law for each return.
-use borrow.Author.Rules.{rules}
 use Rattle.ffi.proofs.Records.{store_refused, store_0}
 use Rattle.ffi.proofs.store.Goals as goal
 

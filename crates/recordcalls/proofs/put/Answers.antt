@@ -1,5 +1,4 @@
 -- `put` meets its contract: a law for each return.
-use borrow.Author.Rules.{rules}
 use Rattle.recordcalls.proofs.Records.{put_refused, put_0}
 use Rattle.recordcalls.proofs.put.Goals as goal
 

@@ -1,5 +1,4 @@
 -- `recordcalls_copy` meets its contract: a law for each return.
-use borrow.Author.Rules.{rules}
 use Rattle.recordcalls.proofs.Records.{copy_put}
 use Rattle.recordcalls.proofs.recordcalls_copy.Goals as goal
 

@@ -1,5 +1,4 @@
 -- `recordcalls_start` meets its contract: a law for each return.
-use borrow.Author.Rules.{rules}
 use Rattle.recordcalls.proofs.Records.{start-refused, start_0}
 use Rattle.recordcalls.proofs.recordcalls_start.Goals as goal
 

@@ -1,5 +1,4 @@
 -- `step_record` meets its contract: a law for each return.
-use borrow.Author.Rules.{rules}
 use Rattle.recordcalls.proofs.Records.{step_7, step_put}
 use Rattle.recordcalls.proofs.step_record.Goals as goal
 

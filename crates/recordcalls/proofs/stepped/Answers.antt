@@ -1,5 +1,4 @@
 -- `stepped` meets its contract: a law for each return.
-use borrow.Author.Rules.{rules}
 use Rattle.recordcalls.proofs.Records.{two_step, six_step}
 use Rattle.recordcalls.proofs.stepped.Goals as goal
 

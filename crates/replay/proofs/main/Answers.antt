@@ -3,7 +3,6 @@ use mathlib.Core.Path.{ap, sym}
 use native.Mathlib.Omega.{arith}
 use lib.Seq.{length-take-le}
 use Rattle.replay.specs.Input.{bytes_read}
-use borrow.Author.Rules.{rules}
 use Rattle.replay.proofs.main.Goals as goal
 
 pub slice_bounds-buf-end : goal.slice_bounds-buf-end

@@ -1,7 +1,6 @@
 -- `holds` meets its contract: a word of 32 bits has no bit above them.
 use mathlib.Core.Path.{sym}
 use native.Mathlib.Omega.{arith}
-use borrow.Author.Rules.{rules}
 use Rattle.sets.proofs.Words.{bit_high}
 use Rattle.sets.proofs.holds.Goals as goal
 

@@ -1,5 +1,4 @@
 -- `rest` meets its contract.
-use borrow.Author.Rules.{rules}
 use borrow.Author.Tests.{eq-eqb, ne_eqb}
 use Rattle.sets.specs.Sets.{rest_of}
 use Rattle.sets.proofs.Words.{positive, trailing_rest}

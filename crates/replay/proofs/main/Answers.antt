@@ -7,6 +7,3 @@ use Rattle.replay.proofs.main.Goals as goal
 
 pub slice_bounds-buf-end : goal.slice_bounds-buf-end
 slice_bounds-buf-end c = omega (arith, ap bytes_read c.in-Bytes.is, c.read_input-input.ensures)
-
-pub slice_bounds-replay-end : goal.slice_bounds-replay-end
-slice_bounds-replay-end c = sym (length-take-le _ _ (slice_bounds-buf-end c))

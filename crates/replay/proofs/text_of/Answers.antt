@@ -9,8 +9,8 @@ pub returns-in-Text : goal.returns-in-Text
 returns-in-Text c =
     let l = c.list-listed in
     record {
-      within = rw l.auto.text (listed-fits _ _ l.new.text l.result _ l.ensures c.in-Text.is);
-      printed = list_text _ _ l.new.text l.result l.ensures _ c.in-Text.is;
+      within = rw l.auto.buf (listed-fits _ _ l.new.buf l.result _ l.ensures c.in-Text.is);
+      printed = list_text _ _ l.new.buf l.result l.ensures _ c.in-Text.is;
     }
 
 pub returns-in-Refused : goal.returns-in-Refused
@@ -19,10 +19,10 @@ returns-in-Refused c =
     let line = c.line_of in
     record {
       within = search rules;
-      printed = line.ensures.line ∙ list_refused _ _ l.new.text l.result l.ensures _ c.in-Refused.is (search rules);
+      printed = line.ensures.line ∙ list_refused _ _ l.new.buf l.result l.ensures _ c.in-Refused.is (search rules);
     }
 
 pub line_of-requires : goal.line_of-requires
 line_of-requires c =
     let l = c.list-listed in
-    rw l.auto.text (list_room _ _ l.new.text l.result l.ensures _ c.in-Refused.is (search rules))
+    rw l.auto.buf (list_room _ _ l.new.buf l.result l.ensures _ c.in-Refused.is (search rules))

@@ -23,7 +23,7 @@ returns-then-seconds-k-gt3600 c =
     some_hit (above s) (length s) k c.loop-k-test.true (lt-ltb 3600 (get_or s k 0) c.if-seconds-k-gt3600.true)
 
 pub loop-k-preserved : goal.loop-k-preserved
-loop-k-preserved c = (search rules, below_more _ _ c.loop-k.invariant.1 (le-ltb 3600 _ c.if-seconds-k-gt3600.false))
+loop-k-preserved c = (search rules, below_more _ _ c.loop-k.invariant.1 (le-ltb 3600 _ (omega arith)))
 
 pub returns : goal.returns
 returns c = some_end (above c.args.seconds.now) (length c.args.seconds.now) c.loop-k.k c.loop-k-test.false c.loop-k.invariant.1

@@ -19,7 +19,7 @@ use Rattle.recording.specs.Packed.{trucks_of, rounds_of, openings_of, round_at}
 use Rattle.recording.specs.Checks.{check_of}
 use Rattle.protocol.specs.declared.Fleet.{Fleet}
 use Rattle.protocol.specs.declared.Answer.{Answer}
-use Rattle.protocol.specs.Fleets.{two_round, answer, blank, fleet_at, ran, ran_in}
+use Rattle.protocol.specs.Fleets.{two_round, blank, fleet_at, ran, ran_in}
 use Rattle.protocol.proofs.Ran.{ran_cut}
 use Rattle.protocol.proofs.Steps.{answer-outcome}
 use Rattle.listing.specs.declared.Listed.{Listed}

@@ -1,6 +1,5 @@
 -- `lend_text` meets its contract: a text that fits is put at the front, one that does not leaves the buffer.
 use Rattle.listing.proofs.Laws.{lent, not-lent}
-use borrow.Author.Rules.{rules}
 use Rattle.listing.proofs.lend_text.Goals as goal
 
 pub returns-then-t-buf : goal.returns-then-t-buf

@@ -1,11 +1,10 @@
 -- `put` meets its contract: the loop holds the buffer with the text so far, and what follows it unchanged.
-use borrow.Author.Rules.{rules}
 use mathlib.Core.Path.{◌≡◌, refl, ap, sym, ◌∙◌}
-use mathlib.Core.List.{◌++◌, append-nil}
-use Prim.Native.Nat.{ℕ, ◌+◌, ◌-◌, ◌≤◌}
+use mathlib.Core.List.{append-nil}
+use Prim.Native.Nat.{ℕ, ◌+◌}
 use native.Mathlib.Nat.{add-zero}
 use native.Mathlib.Omega.{arith}
-use lib.ListN.{length, get_or, take, drop, set, length-set}
+use lib.ListN.{get_or, take, drop, set, length-set}
 use Rattle.listing.proofs.Laws.{put_more, rest_more, put-done}
 use Rattle.listing.proofs.put.Goals as goal
 

@@ -1,5 +1,4 @@
 -- `put_byte` meets its contract.
-use borrow.Author.Rules.{rules}
 use Rattle.listing.proofs.Laws.{put_one}
 use Rattle.listing.proofs.put_byte.Goals as goal
 

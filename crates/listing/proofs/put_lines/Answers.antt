@@ -1,10 +1,7 @@
 -- `put_lines` meets its contract: the loop holds the buffer with the lines of the trucks so far, 69 bytes or fewer for each.
 use mathlib.Core.Path.{◌≡◌, ap}
-use Prim.Native.Nat.{◌+◌, ◌*◌, ◌-◌, ◌≤◌}
 use native.Mathlib.Omega.{arith}
-use lib.ListN.{length}
 use Rattle.listing.specs.Text.{truck_lines}
-use Rattle.listing.specs.Writing.{Put}
 use Rattle.listing.proofs.Laws.{put_as, lines_none, lines_more}
 use borrow.Author.Rules.{rules}
 use Rattle.listing.proofs.put_lines.Goals as goal

@@ -1,12 +1,9 @@
 -- `put_lines` meets its contract: the loop holds the buffer with the lines of the trucks so far, 69 bytes or fewer for each.
-use mathlib.Core.Path.{◌≡◌, ap}
+use mathlib.Core.Path.{◌≡◌}
 use Prim.Native.Nat.{◌+◌, ◌*◌, ◌-◌, ◌≤◌}
-use native.Mathlib.Omega.{arith}
 use lib.ListN.{length}
 use Rattle.listing.specs.Text.{truck_lines}
 use Rattle.listing.specs.Writing.{Put}
-use Rattle.listing.proofs.Laws.{put_as, lines_none, lines_more}
-use borrow.Author.Rules.{rules}
 use Rattle.listing.proofs.put_lines.Given as goal
 
 abbrev pub invariant-loop-i : goal.invariant-loop-i

@@ -1,7 +1,6 @@
 -- `refusal_line` meets its contract.
 use Rattle.listing.specs.Listed.{refusal_listed}
 use Rattle.listing.proofs.Laws.{put_count}
-use borrow.Author.Rules.{rules}
 use Rattle.listing.proofs.refusal_line.Goals as goal
 
 pub slice_bounds-lend_text-end : goal.slice_bounds-lend_text-end

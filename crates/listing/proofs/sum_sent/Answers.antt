@@ -1,11 +1,10 @@
 -- `sum_sent` meets its contract: the loop holds the two sums over the trucks so far; a count is a byte, so that no sum of 32 is too large.
 use mathlib.Core.Path.{◌≡◌, ap, ◌∙◌}
-use Prim.Native.Nat.{ℕ, ◌+◌, ◌*◌, ◌-◌, ◌≤◌}
+use Prim.Native.Nat.{ℕ, ◌+◌}
 use native.Mathlib.Omega.{arith}
 use Rattle.basics.specs.Lists.{sum_below}
 use Rattle.basics.proofs.Laws.{sum_none, sum_more}
 use Rattle.protocol.specs.Rules.{truck}
-use borrow.Author.Rules.{rules}
 use Rattle.listing.proofs.sum_sent.Goals as goal
 
 pub loop-i-init : goal.loop-i-init

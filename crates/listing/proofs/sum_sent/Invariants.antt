@@ -1,11 +1,8 @@
 -- `sum_sent` meets its contract: the loop holds the two sums over the trucks so far; a count is a byte, so that no sum of 32 is too large.
-use mathlib.Core.Path.{◌≡◌, ap, ◌∙◌}
-use Prim.Native.Nat.{ℕ, ◌+◌, ◌*◌, ◌-◌, ◌≤◌}
-use native.Mathlib.Omega.{arith}
+use mathlib.Core.Path.{◌≡◌}
+use Prim.Native.Nat.{◌*◌, ◌-◌, ◌≤◌}
 use Rattle.basics.specs.Lists.{sum_below}
-use Rattle.basics.proofs.Laws.{sum_none, sum_more}
 use Rattle.protocol.specs.Rules.{truck}
-use borrow.Author.Rules.{rules}
 use Rattle.listing.proofs.sum_sent.Given as goal
 
 abbrev pub invariant-loop-i : goal.invariant-loop-i

@@ -1,5 +1,4 @@
 -- `list` meets its contract: a law for each return.
-use borrow.Author.Rules.{rules}
 use Rattle.panel.proofs.Calls.{list_refused, list_desk}
 use Rattle.panel.proofs.list.Goals as goal
 

@@ -1,5 +1,4 @@
 -- `run` meets its contract: a law for each return.
-use borrow.Author.Rules.{rules}
 use Rattle.panel.proofs.Calls.{run-refused, run_desk}
 use Rattle.panel.proofs.run.Goals as goal
 

@@ -1,5 +1,4 @@
 -- `run_bytes` meets its contract: a law for each return.
-use borrow.Author.Rules.{rules}
 use Rattle.panel.proofs.Calls.{outcome-refused, bytes-refused, outcome_desk, bytes_desk}
 use Rattle.panel.proofs.run_bytes.Goals as goal
 

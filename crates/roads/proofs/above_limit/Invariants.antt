@@ -3,13 +3,8 @@ use mathlib.Core.Path.{◌≡◌}
 use mathlib.Core.Bool.{Bool, false}
 use mathlib.Core.List.{List}
 use Prim.Native.Nat.{ℕ, ◌-◌, ◌≤◌, ◌<◌}
-use native.Mathlib.Omega.{arith}
 use lib.Dec.{ltb}
 use lib.ListN.{length, get_or}
-use borrow.Author.Rules.{rules}
-use borrow.Author.Tests.{lt-ltb, le-ltb}
-use borrow.Author.Count.{below_none, below_more}
-use Rattle.basics.proofs.Laws.{some_hit, some_end}
 use Rattle.roads.proofs.above_limit.Given as goal
 
 -- `above_limit` meets its contract: the loop holds that no seconds passed are above the limit.

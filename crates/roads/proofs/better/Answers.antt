@@ -1,5 +1,4 @@
 -- `better` meets its contract: each of the four ways is one law of `better_of`.
-use borrow.Author.Rules.{rules}
 use Rattle.roads.proofs.Choice.{better_idle, better_first, better_less, better_kept}
 use Rattle.roads.proofs.better.Goals as goal
 

@@ -1,10 +1,7 @@
 -- `fastest_road` meets its contract: the loop holds that the road chosen so far is that of the roads passed.
-use mathlib.Core.Path.{◌≡◌, ap, ◌∙◌}
-use Prim.Native.Nat.{◌-◌, ◌≤◌}
-use lib.ListN.{length}
+use mathlib.Core.Path.{ap, ◌∙◌}
 use borrow.Author.Rules.{rules}
 use Rattle.roads.specs.Estimates.{estimate_of}
-use Rattle.roads.specs.Choice.{chosen_below, estimate_at}
 use Rattle.roads.proofs.Choice.{chosen_none, chosen_more, chosen-all}
 use Rattle.roads.proofs.fastest_road.Goals as goal
 

@@ -1,11 +1,8 @@
 -- `fastest_road` meets its contract: the loop holds that the road chosen so far is that of the roads passed.
-use mathlib.Core.Path.{◌≡◌, ap, ◌∙◌}
+use mathlib.Core.Path.{◌≡◌}
 use Prim.Native.Nat.{◌-◌, ◌≤◌}
 use lib.ListN.{length}
-use borrow.Author.Rules.{rules}
-use Rattle.roads.specs.Estimates.{estimate_of}
 use Rattle.roads.specs.Choice.{chosen_below, estimate_at}
-use Rattle.roads.proofs.Choice.{chosen_none, chosen_more, chosen-all}
 use Rattle.roads.proofs.fastest_road.Given as goal
 
 abbrev pub invariant-loop-k : goal.invariant-loop-k

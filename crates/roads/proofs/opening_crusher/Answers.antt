@@ -1,11 +1,6 @@
 -- `opening_crusher` meets its contract: each return cites the law of its answer, with what the tests before it left.
-use mathlib.Core.Path.{◌≡◌, sym, ◌∙◌}
-use mathlib.Core.Bool.{false}
-use mathlib.Core.List.{List}
-use Prim.Native.Nat.{ℕ}
-use lib.ListN.{length}
-use Rattle.roads.specs.Opening.{bad_lists, seconds_above, no_time}
-use Rattle.roads.proofs.Answers.{Short, right, opening_10, opening_11, opening_12, opening_13, opening-road}
+use mathlib.Core.Path.{sym, ◌∙◌}
+use Rattle.roads.proofs.Answers.{right, opening_10, opening_11, opening_12, opening_13, opening-road}
 use Rattle.roads.proofs.opening_crusher.Goals as goal
 
 pub returns-then-bad_lists : goal.returns-then-bad_lists

@@ -3,12 +3,8 @@ use mathlib.Core.Path.{◌≡◌}
 use mathlib.Core.Bool.{Bool, false, ◌&&◌}
 use mathlib.Core.List.{List}
 use Prim.Native.Nat.{ℕ, ◌-◌, ◌≤◌, ◌<◌}
-use native.Mathlib.Omega.{arith}
 use lib.Dec.{ltb, eqb}
 use lib.ListN.{length, get_or}
-use borrow.Author.Rules.{rules}
-use borrow.Author.Count.{below_none, below_more}
-use Rattle.basics.proofs.Laws.{some_hit, some_end}
 use Rattle.roads.proofs.without_time.Given as goal
 
 -- `without_time` meets its contract: the loop holds that no road passed has metres above 0 in 0 seconds.

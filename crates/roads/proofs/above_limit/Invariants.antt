@@ -7,7 +7,6 @@ use lib.Dec.{ltb}
 use lib.ListN.{length, get_or}
 use Rattle.roads.proofs.above_limit.Given as goal
 
--- `above_limit` meets its contract: the loop holds that no seconds passed are above the limit.
 -- the seconds at k are above the limit
 abbrev pub above : List ℕ → ℕ → Bool
 above seconds k = ltb 3600 (get_or seconds k 0)

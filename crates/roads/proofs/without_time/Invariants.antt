@@ -7,7 +7,6 @@ use lib.Dec.{ltb, eqb}
 use lib.ListN.{length, get_or}
 use Rattle.roads.proofs.without_time.Given as goal
 
--- `without_time` meets its contract: the loop holds that no road passed has metres above 0 in 0 seconds.
 -- road k has metres above 0 in 0 seconds
 abbrev pub timeless : List ℕ → List ℕ → ℕ → Bool
 timeless metres seconds k = ltb 0 (get_or metres k 0) && eqb (get_or seconds k 0) 0

@@ -1,6 +1,6 @@
 /*
  * Runs a recording to its listing, follows the same rounds as a live fleet, steps a fleet in the six-round cycle, finds what
- * is wrong with another recording, asks the panel, and picks an opening crusher.
+ * is wrong with another recording, and picks an opening crusher.
  *
  *   ./staticlib ffi
  *   cc -std=c99 -Wall -Wextra -Ic c/example.c target/staticlib/libffi.a -o example
@@ -77,16 +77,6 @@ int main(void) {
         uint32_t own_loss = rajvokshul_recording_own_loss(wrong, sizeof wrong);
         printf("refused 6 round %u truck %u: %s\n", (unsigned)rajvokshul_own_loss_round(own_loss),
                (unsigned)rajvokshul_own_loss_truck(own_loss), rajvokshul_reason(RAJVOKSHUL_OWN_LOSS));
-    }
-
-    /* The panel in the crusher hut takes up to 8 trucks and 60 rounds: it lists the two trucks alike, and these nine, which open
-     * with crusher 3 and have no rounds, not at all. */
-    const uint8_t nine[] = {0x24, 0x00, 0x33, 0x33, 0x33, 0x33, 0x30};
-    if (refused("panel", rajvokshul_panel_list(recording, sizeof recording, text, sizeof text, &written))) {
-        return 1;
-    }
-    if (!refused("panel", rajvokshul_panel_list(nine, sizeof nine, text, sizeof text, &written))) {
-        return 1;
     }
 
     /* The first road is idle, so the second one is taken; but a truck that stands at crusher 0 opens with it. */

@@ -58,9 +58,6 @@ extern "C" {
 #define RAJVOKSHUL_SECONDS 11    /* seconds above 3,600 */
 #define RAJVOKSHUL_NO_TIME 12    /* metres above 0 in 0 seconds */
 #define RAJVOKSHUL_ALL_IDLE 13   /* every road idle and longer than 0 */
-/* Whoever made the recording, where the panel is asked; see 'The panel'. */
-#define RAJVOKSHUL_PANEL_TRUCK_COUNT 17 /* more than 8 trucks */
-#define RAJVOKSHUL_PANEL_ROUND_COUNT 18 /* more than 60 rounds */
 
 /* What was wrong, in words; a text that lasts. 0 is "accepted". */
 static inline const char *rajvokshul_reason(uint32_t number) {
@@ -95,10 +92,6 @@ static inline const char *rajvokshul_reason(uint32_t number) {
         return "every road is idle and longer than 0";
     case RAJVOKSHUL_ROUNDS_DONE:
         return "400 rounds are done already";
-    case RAJVOKSHUL_PANEL_TRUCK_COUNT:
-        return "the number of trucks is above 8, the most that the panel takes";
-    case RAJVOKSHUL_PANEL_ROUND_COUNT:
-        return "the number of rounds is above 60, the most that the panel takes";
     default:
         return "no refusal has this number";
     }
@@ -132,11 +125,9 @@ static inline size_t rajvokshul_words(uint32_t trucks, uint32_t rounds) {
 
 /* ---- Stack ----------------------------------------------------------------------------------------------------------
  * Every call takes fewer bytes of stack than these, also on inputs of the largest size; there is no other memory behind a
- * call. Measured on x86-64: list 64 KiB, run and grade 61 KiB, list of the panel 14 KiB, run of the panel 10 KiB, a run of six
- * rounds 1.0 KiB, the others below 1 KiB. */
-#define RAJVOKSHUL_RUN_STACK 131072  /* run, grade and list, in either cycle */
-#define RAJVOKSHUL_PANEL_STACK 32768 /* run and list of the panel */
-#define RAJVOKSHUL_STACK 4096        /* every other call */
+ * call. Measured on x86-64: list 64 KiB, run and grade 61 KiB, a run of six rounds 1.0 KiB, the others below 1 KiB. */
+#define RAJVOKSHUL_RUN_STACK 131072 /* run, grade and list, in either cycle */
+#define RAJVOKSHUL_STACK 4096       /* every other call */
 
 /* ---- Recordings ---------------------------------------------------------------------------------------------------
  * A round in plain form is 3 + n words: stop, active, mark, then a row of loss bits for each truck; truck j is the bit
@@ -147,8 +138,7 @@ static inline size_t rajvokshul_words(uint32_t trucks, uint32_t rounds) {
 #define RAJVOKSHUL_WORD_LOST 3 /* the row of truck 0; that of truck i is i words further */
 
 /* A recording does not say by which cycle of rounds it is to be run: the caller does, by the name of the call.
- * - Two rounds, which are proposals and vetoes: rajvokshul_run, rajvokshul_grade, rajvokshul_step, rajvokshul_list, and the
- *   panel's.
+ * - Two rounds, which are proposals and vetoes: rajvokshul_run, rajvokshul_grade, rajvokshul_step, and rajvokshul_list.
  * - Six rounds, which are prepare, four bit rounds and accept: rajvokshul_run_six, rajvokshul_grade_six, rajvokshul_step_six. */
 
 /* Runs a recording in the two-round cycle and writes its listing: the numbers of trucks and rounds, a line for each truck,
@@ -188,30 +178,6 @@ uint32_t rajvokshul_read(const uint8_t *bytes, size_t bytes_len, uint8_t *openin
 RAJVOKSHUL_NODISCARD
 uint32_t rajvokshul_write(uint32_t trucks, uint32_t rounds, const uint8_t *openings, size_t openings_len,
                           const uint32_t *words, size_t words_len, uint8_t *bytes, size_t bytes_len, size_t *written);
-
-/* ---- The panel ------------------------------------------------------------------------------------------------------
- * The panel in the crusher hut takes smaller recordings, up to 8 trucks and 60 rounds, and runs them in the two-round cycle.
- * What it takes it runs and lists as rajvokshul_run and rajvokshul_list do, byte for byte. It reads, writes, grades and steps
- * nothing. */
-#define RAJVOKSHUL_PANEL_MAX_TRUCKS 8
-#define RAJVOKSHUL_PANEL_MAX_ROUNDS 60
-#define RAJVOKSHUL_PANEL_MAX_RECORDING 666 /* bytes of a recording */
-#define RAJVOKSHUL_PANEL_MAX_TEXT 439      /* bytes of a listing */
-
-/* Both calls look for refusals in the same order: 1, 2, 17, 3, 18, 4, 5, 6, and then 9. So 9 trucks and 401 rounds are refused
- * with 17, 8 trucks and 401 rounds with 3, and 8 trucks and 61 rounds with 18, whatever follows these two numbers. Where the
- * calls answer 6, rajvokshul_recording_own_loss tells the round and the truck.
- *
- * A program that reads a file for the panel should ask for one byte more than RAJVOKSHUL_PANEL_MAX_RECORDING, so that a longer
- * recording is not taken for its first part: with that byte it is refused, whatever follows. */
-
-/* Runs a recording and writes the fleet record that it leaves, which has 323 bytes as any other. */
-RAJVOKSHUL_NODISCARD
-uint32_t rajvokshul_panel_run(const uint8_t *bytes, size_t bytes_len, uint8_t *record, size_t record_len);
-
-/* Runs a recording and writes its listing; *written becomes the number of bytes. */
-RAJVOKSHUL_NODISCARD
-uint32_t rajvokshul_panel_list(const uint8_t *bytes, size_t bytes_len, uint8_t *text, size_t text_len, size_t *written);
 
 /* ---- A live fleet -------------------------------------------------------------------------------------------------
  * A fleet record has 323 bytes:
@@ -319,7 +285,7 @@ static inline uint32_t rajvokshul_own_loss_truck(uint32_t own_loss) {
     return own_loss % 256;
 }
 
-/* Of a recording that list, read, run or grade of either cycle, or run or list of the panel refuses. */
+/* Of a recording that list, read, or run or grade of either cycle refuses. */
 RAJVOKSHUL_NODISCARD
 uint32_t rajvokshul_recording_own_loss(const uint8_t *bytes, size_t bytes_len);
 

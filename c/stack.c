@@ -21,16 +21,14 @@
 #define PATTERN 0xA5
 
 enum { N = RAJVOKSHUL_MAX_TRUCKS, ROUNDS = RAJVOKSHUL_MAX_ROUNDS, ROUND = 3 + N };
-enum { PANEL_N = RAJVOKSHUL_PANEL_MAX_TRUCKS, PANEL_ROUNDS = RAJVOKSHUL_PANEL_MAX_ROUNDS, PANEL_ROUND = 3 + PANEL_N };
 
-/* ---- The recordings, the largest and the largest of the panel: in each even round every truck has a mark, so that in neither
- * cycle one decides and all run on to the last. ---- */
+/* ---- The recording: in each even round every truck has a mark, so that in neither cycle one decides and all run on to the
+ * last. ---- */
 
 static uint8_t openings[N];
 static uint32_t words[RAJVOKSHUL_MAX_WORDS];
 static uint8_t bytes[RAJVOKSHUL_MAX_RECORDING];
 static size_t length;
-static uint8_t panel_bytes[RAJVOKSHUL_PANEL_MAX_RECORDING];
 static uint8_t begun[RAJVOKSHUL_RECORD_SIZE], proposed[RAJVOKSHUL_RECORD_SIZE]; /* before round 1, and after it */
 static uint8_t prepared[RAJVOKSHUL_RECORD_SIZE], heard[RAJVOKSHUL_RECORD_SIZE]; /* after rounds 1 and 5 of six */
 
@@ -43,28 +41,22 @@ static uint32_t noise(void) {
     return state;
 }
 
-/* A round of n trucks. */
-static void fill_round(uint32_t *round, int n, int marked) {
-    uint32_t all = UINT32_MAX >> (32 - n);
+static void fill_round(uint32_t *round, int marked) {
     round[0] = 0;
-    round[1] = noise() & all;
-    round[2] = marked ? all : noise() & noise() & all;
-    for (int i = 0; i < n; i++) {
-        round[3 + i] = noise() & noise() & all & ~(UINT32_C(1) << i);
+    round[1] = noise();
+    round[2] = marked ? UINT32_MAX : noise() & noise();
+    for (int i = 0; i < N; i++) {
+        round[3 + i] = noise() & noise() & ~(UINT32_C(1) << i);
     }
 }
 
-/* Whether a record is that of a fleet of n after so many rounds, every truck running. */
-static int all_of(const uint8_t *record, int n, int done) {
+/* Whether a record is that of a fleet of 32 after so many rounds, every truck running. */
+static int all_run(const uint8_t *record, int done) {
     int running = 0;
-    for (uint32_t i = 0; i < (uint32_t)n; i++) {
+    for (uint32_t i = 0; i < N; i++) {
         running += rajvokshul_truck_state(record, i) == RAJVOKSHUL_RUNNING;
     }
-    return rajvokshul_trucks(record) == n && rajvokshul_rounds_done(record) == done && running == n;
-}
-
-static int all_run(const uint8_t *record, int done) {
-    return all_of(record, N, done);
+    return rajvokshul_trucks(record) == N && rajvokshul_rounds_done(record) == done && running == N;
 }
 
 /* Steps a record by rounds of six from the first on. */
@@ -76,20 +68,6 @@ static int step_six(uint8_t *record, int rounds) {
     return good;
 }
 
-/* Makes the panel's recording; whether it is what it should be. */
-static int make_panel(void) {
-    static uint32_t rounds[PANEL_ROUNDS * PANEL_ROUND];
-    uint8_t end[RAJVOKSHUL_RECORD_SIZE];
-    size_t size = 0;
-    for (int k = 0; k < PANEL_ROUNDS; k++) {
-        fill_round(rounds + PANEL_ROUND * k, PANEL_N, k % 2 == 1);
-    }
-    return rajvokshul_write(PANEL_N, PANEL_ROUNDS, openings, PANEL_N, rounds, PANEL_ROUNDS * PANEL_ROUND, panel_bytes,
-                            sizeof panel_bytes, &size) == 0 &&
-           size == sizeof panel_bytes && rajvokshul_panel_run(panel_bytes, size, end, sizeof end) == 0 &&
-           all_of(end, PANEL_N, PANEL_ROUNDS);
-}
-
 /* Makes the inputs; whether they are what they should be. */
 static int make(void) {
     uint8_t end[RAJVOKSHUL_RECORD_SIZE], end_of_six[RAJVOKSHUL_RECORD_SIZE];
@@ -97,7 +75,7 @@ static int make(void) {
         openings[i] = noise() % 16;
     }
     for (int k = 0; k < ROUNDS; k++) {
-        fill_round(words + ROUND * k, N, k % 2 == 1);
+        fill_round(words + ROUND * k, k % 2 == 1);
     }
     if (rajvokshul_write(N, ROUNDS, openings, N, words, RAJVOKSHUL_MAX_WORDS, bytes, sizeof bytes, &length) != 0 ||
         rajvokshul_run(bytes, length, end, sizeof end) != 0 ||
@@ -110,7 +88,7 @@ static int make(void) {
     memcpy(heard, begun, sizeof begun);
     return rajvokshul_step(proposed, sizeof proposed, words, ROUND) == 0 && step_six(prepared, 1) && step_six(heard, 5) &&
            length == sizeof bytes && all_run(end, ROUNDS) && all_run(end_of_six, ROUNDS) && all_run(begun, 0) &&
-           all_run(proposed, 1) && all_run(prepared, 1) && all_run(heard, 5) && make_panel();
+           all_run(proposed, 1) && all_run(prepared, 1) && all_run(heard, 5);
 }
 
 /* ---- The calls: each answers what the library does. ---- */
@@ -139,15 +117,6 @@ static uint32_t grade_six(void) {
 static uint32_t list(void) {
     static uint8_t text[RAJVOKSHUL_MAX_TEXT];
     return rajvokshul_list(bytes, length, text, sizeof text, &written);
-}
-
-static uint32_t panel_run(void) {
-    return rajvokshul_panel_run(panel_bytes, sizeof panel_bytes, record, sizeof record);
-}
-
-static uint32_t panel_list(void) {
-    static uint8_t text[RAJVOKSHUL_PANEL_MAX_TEXT];
-    return rajvokshul_panel_list(panel_bytes, sizeof panel_bytes, text, sizeof text, &written);
 }
 
 /* A step of a copy, so that each is taken from the rounds done that it is named for. */
@@ -275,8 +244,6 @@ static const struct {
     {"list", list, RAJVOKSHUL_RUN_STACK},
     {"run of six", run_six, RAJVOKSHUL_RUN_STACK},
     {"grade of six", grade_six, RAJVOKSHUL_RUN_STACK},
-    {"run of the panel", panel_run, RAJVOKSHUL_PANEL_STACK},
-    {"list of the panel", panel_list, RAJVOKSHUL_PANEL_STACK},
     {"step, proposals", step_proposals, RAJVOKSHUL_STACK},
     {"step, vetoes", step_vetoes, RAJVOKSHUL_STACK},
     {"step of six, prepare", step_prepare, RAJVOKSHUL_STACK},

@@ -1,6 +1,6 @@
 /*
- * What c/rajvokshul.h adds to the calls: sizes, fields of a record, what each cycle of rounds refuses of one, what the panel
- * takes and refuses, where an own loss bit is, and that the pointer of an empty list may be NULL.
+ * What c/rajvokshul.h adds to the calls: sizes, fields of a record, what each cycle of rounds refuses of one, where an own
+ * loss bit is, and that the pointer of an empty list may be NULL.
  * Compiled as C and as C++. Exits with the number of tests that fail.
  */
 #include <stdio.h>
@@ -31,7 +31,6 @@ static void sizes(void) {
     EXPECT(rajvokshul_bytes(1, 400), 203);
     EXPECT(rajvokshul_bytes(32, 0), 18);
     EXPECT(rajvokshul_bytes(32, 400), RAJVOKSHUL_MAX_RECORDING);
-    EXPECT(rajvokshul_bytes(RAJVOKSHUL_PANEL_MAX_TRUCKS, RAJVOKSHUL_PANEL_MAX_ROUNDS), RAJVOKSHUL_PANEL_MAX_RECORDING);
     EXPECT(rajvokshul_words(2, 4), 20);
     EXPECT(rajvokshul_words(1, 0), 0);
     EXPECT(rajvokshul_words(32, 400), RAJVOKSHUL_MAX_WORDS);
@@ -317,96 +316,6 @@ static void from_one_cycle_to_the_other(void) {
     EXPECT(rajvokshul_truck_vetoes(record, 1), 1);
 }
 
-/* ---- The panel ---- */
-
-/* Both calls of the panel answer a number; nothing that was lent changes where that is a refusal. */
-static void panel_answers(const uint8_t *bytes, size_t length, uint32_t answer, int line) {
-    uint8_t record[RAJVOKSHUL_RECORD_SIZE], text[RAJVOKSHUL_PANEL_MAX_TEXT];
-    size_t written = 77;
-    memset(record, 77, sizeof record);
-    memset(text, 77, sizeof text);
-    expect(rajvokshul_panel_run(bytes, length, record, sizeof record), answer, line);
-    expect(rajvokshul_panel_list(bytes, length, text, sizeof text, &written), answer, line);
-    for (size_t k = 0; answer != RAJVOKSHUL_ACCEPTED && k < sizeof record; k++) {
-        expect(record[k], 77, line);
-    }
-    for (size_t k = 0; answer != RAJVOKSHUL_ACCEPTED && k < sizeof text; k++) {
-        expect(text[k], 77, line);
-    }
-    expect(written == 77, answer != RAJVOKSHUL_ACCEPTED, line);
-}
-
-#define PANEL_ANSWERS(bytes, length, answer) panel_answers((bytes), (length), (answer), __LINE__)
-
-/* Up to 8 trucks and 60 rounds are taken. What is refused is refused in the order 1, 2, 17, 3, 18, 4: all bits after the two
- * numbers are 0, and the length is that of the numbers where they are within the limits of the desk, else 2. */
-static void panel_limits(void) {
-    static const uint32_t cases[][3] = {
-        {1, 0, 0},     {8, 0, 0},    {1, 60, 0},   {8, 60, 0},   {9, 0, 17},    {9, 60, 17},   {32, 60, 17},  {1, 61, 18},
-        {8, 61, 18},   {8, 62, 18},  {8, 400, 18}, {8, 401, 3},  {8, 1023, 3},  {9, 61, 17},   {9, 400, 17},  {9, 401, 17},
-        {32, 400, 17}, {32, 401, 17}, {33, 60, 2}, {33, 61, 2},  {33, 401, 2},  {63, 1023, 2}, {0, 60, 2},    {0, 401, 2},
-    };
-    static uint8_t bytes[RAJVOKSHUL_MAX_RECORDING];
-    for (size_t k = 0; k < sizeof cases / sizeof cases[0]; k++) {
-        const uint32_t trucks = cases[k][0], rounds = cases[k][1];
-        const size_t length = rajvokshul_bytes(trucks, rounds);
-        bytes[0] = (uint8_t)(trucks << 2 | rounds >> 8);
-        bytes[1] = (uint8_t)rounds;
-        PANEL_ANSWERS(bytes, length == 0 ? 2 : length, cases[k][2]);
-        PANEL_ANSWERS(bytes, 1, RAJVOKSHUL_SHORT_RECORDING);
-        if (cases[k][2] == RAJVOKSHUL_ACCEPTED) {
-            PANEL_ANSWERS(bytes, length - 1, RAJVOKSHUL_RECORDING_LENGTH);
-            PANEL_ANSWERS(bytes, length + 1, RAJVOKSHUL_RECORDING_LENGTH);
-        } else {
-            PANEL_ANSWERS(bytes, 2, cases[k][2]);
-        }
-    }
-}
-
-/* Case C1: what the panel leaves is what the desk's calls leave. */
-static void panel_and_desk(void) {
-    uint8_t record[RAJVOKSHUL_RECORD_SIZE], panel_record[RAJVOKSHUL_RECORD_SIZE];
-    uint8_t text[RAJVOKSHUL_MAX_TEXT], panel_text[RAJVOKSHUL_PANEL_MAX_TEXT];
-    size_t written = 0, panel_written = 77;
-    EXPECT(rajvokshul_run(c1, sizeof c1, record, sizeof record), RAJVOKSHUL_ACCEPTED);
-    EXPECT(rajvokshul_panel_run(c1, sizeof c1, panel_record, sizeof panel_record), RAJVOKSHUL_ACCEPTED);
-    EXPECT(memcmp(record, panel_record, sizeof record), 0);
-    EXPECT(rajvokshul_truck_round(panel_record, 1), 4);
-    EXPECT(rajvokshul_list(c1, sizeof c1, text, sizeof text, &written), RAJVOKSHUL_ACCEPTED);
-    EXPECT(rajvokshul_panel_list(c1, sizeof c1, panel_text, written - 1, &panel_written), RAJVOKSHUL_SHORT_BUFFER);
-    EXPECT(panel_written, 77);
-    EXPECT(rajvokshul_panel_list(c1, sizeof c1, panel_text, written, &panel_written), RAJVOKSHUL_ACCEPTED);
-    EXPECT(panel_written, written);
-    EXPECT(memcmp(text, panel_text, written), 0);
-    EXPECT(rajvokshul_panel_run(c1, sizeof c1, panel_record, sizeof panel_record - 1), RAJVOKSHUL_SHORT_BUFFER);
-    /* case C9, of which a bit after the last field is 1 */
-    const uint8_t c9[6] = {0x08, 0x02, 0x35, 0x31, 0x80, 0x01};
-    PANEL_ANSWERS(c9, sizeof c9, RAJVOKSHUL_END_BIT);
-}
-
-/* The longest listing: 8 trucks that open with crusher 15 send in every round but the last, by a mark in each proposal round but
- * the last of them, and decide in round 60. */
-static void panel_listing(void) {
-    enum { N = RAJVOKSHUL_PANEL_MAX_TRUCKS, ROUNDS = RAJVOKSHUL_PANEL_MAX_ROUNDS, ROUND = 3 + N };
-    static uint32_t words[ROUNDS * ROUND];
-    uint8_t openings[N], bytes[RAJVOKSHUL_PANEL_MAX_RECORDING], text[RAJVOKSHUL_PANEL_MAX_TEXT];
-    size_t length = 0, written = 0;
-    memset(openings, 15, sizeof openings);
-    for (size_t k = 0; k < ROUNDS; k += 2) {
-        words[k * ROUND + RAJVOKSHUL_WORD_ACTIVE] = 255;
-        words[k * ROUND + RAJVOKSHUL_WORD_MARK] = k + 2 < ROUNDS ? 255 : 0;
-    }
-    EXPECT(rajvokshul_write(N, ROUNDS, openings, N, words, ROUNDS * ROUND, bytes, sizeof bytes, &length), RAJVOKSHUL_ACCEPTED);
-    EXPECT(length, sizeof bytes);
-    EXPECT(rajvokshul_panel_list(bytes, length, text, sizeof text, &written), RAJVOKSHUL_ACCEPTED);
-    EXPECT(written, sizeof text);
-    EXPECT(rajvokshul_panel_list(bytes, length, text, sizeof text - 1, &written), RAJVOKSHUL_SHORT_BUFFER);
-    const char *first = "trucks 8 rounds 60\n0 opened 15 decided 15 round 60 sent 30 vetoes 29\n";
-    const char *last = "\n7 opened 15 decided 15 round 60 sent 30 vetoes 29\nsent 240 vetoes 232\n";
-    EXPECT(memcmp(text, first, strlen(first)), 0);
-    EXPECT(memcmp(text + sizeof text - strlen(last), last, strlen(last)), 0);
-}
-
 static void grades(void) {
     const uint8_t c2[6] = {0x08, 0x02, 0x35, 0x31, 0x80, 0x00};
     uint16_t first[RAJVOKSHUL_GRADES];
@@ -428,10 +337,6 @@ static void null_recordings(void) {
     EXPECT(rajvokshul_list(c1, sizeof c1, NULL, 0, &written), RAJVOKSHUL_SHORT_BUFFER);
     EXPECT(rajvokshul_run(NULL, 0, record, sizeof record), RAJVOKSHUL_SHORT_RECORDING);
     EXPECT(rajvokshul_run(c1, sizeof c1, NULL, 0), RAJVOKSHUL_SHORT_BUFFER);
-    EXPECT(rajvokshul_panel_list(NULL, 0, text, sizeof text, &written), RAJVOKSHUL_SHORT_RECORDING);
-    EXPECT(rajvokshul_panel_list(c1, sizeof c1, NULL, 0, &written), RAJVOKSHUL_SHORT_BUFFER);
-    EXPECT(rajvokshul_panel_run(NULL, 0, record, sizeof record), RAJVOKSHUL_SHORT_RECORDING);
-    EXPECT(rajvokshul_panel_run(c1, sizeof c1, NULL, 0), RAJVOKSHUL_SHORT_BUFFER);
     EXPECT(rajvokshul_grade(NULL, 0, first, RAJVOKSHUL_GRADES), RAJVOKSHUL_SHORT_RECORDING);
     EXPECT(rajvokshul_grade(c1, sizeof c1, NULL, 0), RAJVOKSHUL_SHORT_BUFFER);
     EXPECT(rajvokshul_read(NULL, 0, openings, 2, words, 20, &trucks, &rounds), RAJVOKSHUL_SHORT_RECORDING);
@@ -505,7 +410,6 @@ static void own_loss_of_recordings(void) {
     EXPECT(rajvokshul_grade(c10, sizeof c10, first, RAJVOKSHUL_GRADES), RAJVOKSHUL_OWN_LOSS);
     EXPECT(rajvokshul_read(c10, sizeof c10, openings, 2, words, 10, &trucks, &rounds), RAJVOKSHUL_OWN_LOSS);
     EXPECT(written + trucks + rounds + words[0] + first[3], 5 * 77);
-    PANEL_ANSWERS(c10, sizeof c10, RAJVOKSHUL_OWN_LOSS);
     EXPECT(openings[0] + openings[1] + record[0] + record[322] + text[0] + text[1760], 6 * 77);
     NAMED(rajvokshul_recording_own_loss(c10, sizeof c10), 1, 0);
     /* accepted, and refused otherwise */
@@ -588,9 +492,6 @@ int main(void) {
     six_refusals();
     six_records();
     from_one_cycle_to_the_other();
-    panel_limits();
-    panel_and_desk();
-    panel_listing();
     grades();
     null_recordings();
     null_writing();

@@ -34,10 +34,10 @@ expect "rustfmt" quiet cargo fmt --all --check
 expect "clippy" quiet cargo clippy --offline --release --workspace --all-targets -- -D warnings
 expect "cargo doc" quiet env RUSTDOCFLAGS='-D warnings' cargo doc --offline --release --workspace --no-deps
 
-# The examples print case C1's listing, its openings decided after six rounds, where the own bit of case C10 is, that the panel does not take nine trucks, the opening of case C12, and that of a
-# truck that stands at crusher 0; what the recorder's prints is worked out by hand.
+# The examples print case C1's listing, its openings decided after six rounds, where the own bit of case C10 is, the opening of case C12, and that of a truck that stands at crusher 0; what the
+# recorder's prints is worked out by hand.
 shows_c1() { # OUTPUT
-    grep -qE '^refused 6 round 1 truck 0: ' "$1" && grep -qE '^panel: refused 17: ' "$1" && grep -qx 'opening 1' "$1" && grep -qx 'standing at 0: opening 0' "$1" && grep -qE '^six rounds, after round (6|12): truck 0 decided at 3\b.*truck 1 decided at 3\b' "$1" && grep -A 3 -x 'trucks 2 rounds 4' "$1" | cmp -s - tests/cases/c01.out
+    grep -qE '^refused 6 round 1 truck 0: ' "$1" && grep -qx 'opening 1' "$1" && grep -qx 'standing at 0: opening 0' "$1" && grep -qE '^six rounds, after round (6|12): truck 0 decided at 3\b.*truck 1 decided at 3\b' "$1" && grep -A 3 -x 'trucks 2 rounds 4' "$1" | cmp -s - tests/cases/c01.out
 }
 out=$(mktemp -d)
 (cd rust && cargo run --offline --release -q -p rajvokshul --example quarry) > "$out/rust" 2>&1
@@ -54,10 +54,9 @@ small_stack() {
     local status=$? calls
     cat "$out/taken"
     calls=$(sed -nE 's/^(.*) [0-9,]+ bytes of stack$/\1/p' "$out/taken" | paste -sd '/')
-    [ "$status" -eq 0 ] && [ "$calls" = "run/grade/list/run of six/grade of six/run of the panel/list of the panel/step, proposals/step, vetoes/step of six, prepare/step of six, bit/step of six, accept/read/write/start/opening/own loss of a recording/own loss of writing/own loss of a round" ]
+    [ "$status" -eq 0 ] && [ "$calls" = "run/grade/list/run of six/grade of six/step, proposals/step, vetoes/step of six, prepare/step of six, bit/step of six, accept/read/write/start/opening/own loss of a recording/own loss of writing/own loss of a round" ]
 }
 expect "the header says 128 KiB of stack for run, grade and list" grep -qE '^#define RAJVOKSHUL_RUN_STACK 131072 ' c/rajvokshul.h
-expect "the header says 32 KiB of stack for the panel" grep -qE '^#define RAJVOKSHUL_PANEL_STACK 32768 ' c/rajvokshul.h
 expect "the stack of largest calls is below what the header says" small_stack
 
 # Memory: the program and the archive under valgrind.
@@ -74,7 +73,6 @@ clean_test() { # PROGRAM TEST
     said=$(valgrind -q --error-exitcode=9 "$program" --test-threads=1 "$2" 2> /dev/null) && grep -q 'ok\. 1 passed' <<< "$said"
 }
 expect "the comparison in both cycles under valgrind" clean_test compare small_set
-expect "the panel's calls under valgrind" clean_test compare_panel small_set
 expect "the bit reader under valgrind" clean_test boundaries blocks_of_their_own_length
 expect "steps of whole records under valgrind" clean_test in_place small_set
 rm -rf "$out"

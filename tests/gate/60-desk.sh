@@ -46,51 +46,6 @@ expect "desk record of C1" cmp -s <(bytes_of tests/cases/c01.hex) <("$desk" reco
 expect "desk record of a truck that is not there" desk_ends 1 record < <(printf 'start 3 5\nround active 2\n')
 expect "desk record says where" grep -q '^desk: line 2: active 2: refused 8: ' "$said/err"
 
-# what the panel in the crusher hut shows, by the desk program and by the one in C that is written for it (c/panel.c): of each case its listing or the line of its refusal, but for those of more
-# than 8 trucks or 60 rounds; a refused one has status 1, and the desk program says why
-expect "the panel's program in C" cc -std=c99 -Wall -Wextra -Wpedantic -Wconversion -Werror -Ic c/panel.c target/staticlib/libffi.a -o "$said/panel"
-panel_shows() { # EXPECTED, on standard input a recording
-    local status=0
-    case $(head -n 1 "$1") in refused*) status=1 ;; esac
-    cat > "$said/recording"
-    desk_ends "$status" list --panel "$said/recording" && cmp -s "$1" "$said/out" || return 1
-    if [ "$status" -eq 0 ]; then [ ! -s "$said/err" ]; else grep -q "^desk: $(cat "$1"): " "$said/err"; fi || return 1
-    "$said/panel" < "$said/recording" > "$said/out"
-    [ $? -eq "$status" ] && cmp -s "$1" "$said/out"
-}
-for case in tests/cases/*.hex; do
-    case $case in
-        */c06-32.hex) echo "refused 17" > "$said/expected" ;;
-        */c07-400.hex | */f05-every-round.hex) echo "refused 18" > "$said/expected" ;;
-        *) cp "${case%.hex}.out" "$said/expected" ;;
-    esac
-    expect "the panel shows $case" panel_shows "$said/expected" < <(bytes_of "$case")
-done
-silent() { printf "$1"; head -c "$2" /dev/zero; } # COUNTS BYTES: a recording of zeros after its counts
-{
-    echo "trucks 8 rounds 60"
-    for truck in 0 1 2 3 4 5 6 7; do echo "$truck opened 0 running 0 sent 0 vetoes 0"; done
-    echo "sent 0 vetoes 0"
-} > "$said/expected"
-expect "the panel shows 8 trucks and 60 rounds" panel_shows "$said/expected" < <(silent '\x20\x3c' 664)
-while read -r number counts bytes what; do
-    echo "refused $number" > "$said/expected"
-    expect "the panel refuses $what with $number" panel_shows "$said/expected" < <(silent "$counts" "$bytes")
-done << 'END'
-17 \x24\x3c 815 9 trucks and 60 rounds
-18 \x20\x3d 675 8 trucks and 61 rounds
-17 \x25\x91 0 9 trucks and 401 rounds
-3 \x21\x91 0 8 trucks and 401 rounds
-18 \x20\x3d 0 61 rounds of which none is there
-4 \x20\x3c 665 a byte more than 8 trucks and 60 rounds take
-4 \x20\x3c 100000 a file that goes on after 8 trucks and 60 rounds
-END
-panel_clean() { valgrind -q --error-exitcode=9 "$said/panel" < "$said/recording" > "$said/out" && [ "$(head -n 1 "$said/out")" = "trucks 8 rounds 60" ]; }
-silent '\x20\x3c' 664 > "$said/recording"
-expect "the panel's program under valgrind" panel_clean
-expect "desk grade for the panel" desk_ends 2 grade --panel "$said/recording"
-expect "desk grade for the panel says why not" grep -q '^desk: no --panel with "grade": the panel lists runs and does nothing else$' "$said/err"
-
 # other statuses
 expect "desk without a command" desk_ends 2
 expect "desk with an unknown command" desk_ends 2 draw

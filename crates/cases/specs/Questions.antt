@@ -25,7 +25,6 @@ use Rattle.recordbytes.specs.Layout.{unpacked}
 use Rattle.fleet.specs.Bytes.{bytes_check_in, bytes_step_in}
 use Rattle.listing.specs.Text.{text, decimal, printed}
 use Rattle.listing.specs.Listed.{list_answer, listed}
-use Rattle.panel.specs.Panel.{panel_ran, panel_listed, panel_printed}
 use Rattle.roads.specs.Opening.{Road, numerator, denominator, opening_of, opening_answer}
 
 pub data Question : Type 0 where
@@ -53,12 +52,6 @@ pub data Question : Type 0 where
   reads : List ℕ → List ℕ → List ℕ → Question
   -- listing a recording in this buffer
   lists : List ℕ → List ℕ → Question
-  -- what the panel shows for a recording
-  panel_prints : List ℕ → Question
-  -- running a recording for the panel
-  panel_runs : List ℕ → Question
-  -- listing a recording for the panel in this buffer
-  panel_lists : List ℕ → List ℕ → Question
   -- writing these counts, openings and words into this buffer
   writes_into : ℕ → ℕ → List ℕ → List ℕ → List ℕ → Question
   -- what writing them is refused for, where the buffer is long enough
@@ -144,9 +137,6 @@ reply (starts n openings) = held (started n openings)
 reply (runs_in c s) = held (ran_in (chosen c) s)
 reply (reads s openings words) = let l = read_plain s openings words in left (read_answer l.answer) (l.openings ∷ l.words ∷ [])
 reply (lists s buffer) = let l = listed s buffer in left (list_answer l.answer) (l.buffer ∷ [])
-reply (panel_prints s) = bytes (panel_printed s)
-reply (panel_runs s) = held (panel_ran s)
-reply (panel_lists s buffer) = let l = panel_listed s buffer in left (list_answer l.answer) (l.buffer ∷ [])
 reply (writes_into n R openings words buffer) =
     let l = write_plain n R openings words buffer in left (write_answer l.answer) (l.buffer ∷ [])
 reply (writes n R openings words) = outcome (plain_check n R openings words)

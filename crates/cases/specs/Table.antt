@@ -1,5 +1,5 @@
 -- The starred cases C1 to C12 of document 01, a row for each thing that it says of them; C13, the classes of marks and each refusal, alone and with the next one true
--- besides; and cases of F-2, F-4, F-5, F-7 and F-10 of document 02.
+-- besides; and cases of F-2, F-4, F-5 and F-7 of document 02.
 use Rattle.std.specs.Prelude.{Bool, true, false, List, [], ◌∷◌, ◌++◌, ℕ, ◌+◌, replicate}
 use Rattle.listing.specs.Text.{text}
 use Rattle.refusals.specs.declared.Refusal.TheVariants.{ShortRecording, RecordingLength, OwnLoss}
@@ -12,7 +12,7 @@ use Rattle.protocol.specs.declared.State.TheVariants.{Running, Stopped, Decided}
 use Rattle.protocol.specs.declared.Truck.{Truck}
 use Rattle.protocol.specs.declared.Fleet.{Fleet}
 use Rattle.cases.specs.Questions.{Question, prints, shows, grades_in, grades, leaves_in, estimates_in, estimates, senders_in, senders, values, messages}
-use Rattle.cases.specs.Questions.{starts, runs_in, runs, reads, lists, panel_prints, panel_runs, panel_lists, writes_into, writes, steps, steps_in, steps_of, returns_in, unpacks, steps_bytes_in, opens, takes}
+use Rattle.cases.specs.Questions.{starts, runs_in, runs, reads, lists, writes_into, writes, steps, steps_in, steps_of, returns_in, unpacks, steps_bytes_in, opens, takes}
 use Rattle.cases.specs.Questions.{Reply, numbers, trucks, refused, holds, left, opening, exactly, says, grades_are, not_graded}
 
 pub record Row : Type 0 where
@@ -438,42 +438,6 @@ table =
     ∷ (steps_in SixRound 1 11 (six 3 3 false (Decided 6) ∷ []) quiet_one ⟶ refused (0, Unnamed))
     ∷ (steps_in SixRound 1 11 (six 3 3 false (Decided 12) ∷ []) quiet_one ⟶ refused (7, Unnamed))
     ∷ (steps_in SixRound 1 11 (six 3 3 false (Decided 0) ∷ []) quiet_one ⟶ refused (7, Unnamed))
-    -- F-10: the panel shows what the desk prints; 8 trucks and 60 rounds are taken, 9 and 61 are not, whatever else the recording is
-    ∷ (panel_prints (0x04 ∷ 0x02 ∷ 0x74 ∷ 0x00 ∷ []) ⟶ says "trucks 1 rounds 2\n0 opened 7 decided 7 round 2 sent 1 vetoes 0\nsent 1 vetoes 0\n")
-    ∷ (panel_prints (0x20 ∷ 0x3c ∷ replicate 664 0x00)
-    ⟶ says
-    "trucks 8 rounds 60\n0 opened 0 running 0 sent 0 vetoes 0\n1 opened 0 running 0 sent 0 vetoes 0\n2 opened 0 running 0 sent 0 vetoes 0\n3 opened 0 running 0 sent 0 vetoes 0\n4 opened 0 running 0 sent 0 vetoes 0\n5 opened 0 running 0 sent 0 vetoes 0\n6 opened 0 running 0 sent 0 vetoes 0\n7 opened 0 running 0 sent 0 vetoes 0\nsent 0 vetoes 0\n")
-    ∷ (panel_prints (0x24 ∷ 0x3c ∷ replicate 815 0x00) ⟶ says "refused 17\n")
-    ∷ (panel_prints (0x20 ∷ 0x3d ∷ replicate 675 0x00) ⟶ says "refused 18\n")
-    -- 32 trucks and 400 rounds, each the most that the desk takes
-    ∷ (panel_prints (0x80 ∷ 0x00 ∷ replicate 16 0x00) ⟶ says "refused 17\n")
-    ∷ (panel_prints (0x05 ∷ 0x90 ∷ replicate 201 0x00) ⟶ says "refused 18\n")
-    -- its order: 1 before 2; 2 before 17 and 3; 17 before 3, 18 and 4; 3 before 18; 18 before 4; 4 before 5; 5 before 6
-    ∷ (panel_prints (0xfc ∷ []) ⟶ says "refused 1\n")
-    ∷ (panel_prints (0x00 ∷ 0x00 ∷ []) ⟶ says "refused 2\n")
-    ∷ (panel_prints (0x84 ∷ 0x00 ∷ []) ⟶ says "refused 2\n")
-    ∷ (panel_prints (0x85 ∷ 0x91 ∷ []) ⟶ says "refused 2\n")
-    ∷ (panel_prints (0x25 ∷ 0x91 ∷ []) ⟶ says "refused 17\n")
-    ∷ (panel_prints (0x24 ∷ 0x3d ∷ []) ⟶ says "refused 17\n")
-    ∷ (panel_prints (0x24 ∷ 0x00 ∷ []) ⟶ says "refused 17\n")
-    ∷ (panel_prints (0x21 ∷ 0x91 ∷ []) ⟶ says "refused 3\n")
-    ∷ (panel_prints (0x20 ∷ 0x3d ∷ []) ⟶ says "refused 18\n")
-    ∷ (panel_prints (0x20 ∷ 0x3c ∷ []) ⟶ says "refused 4\n")
-    ∷ (panel_prints (0x04 ∷ 0x00 ∷ 0x7f ∷ 0x00 ∷ []) ⟶ says "refused 4\n")
-    ∷ (panel_prints (0x04 ∷ 0x02 ∷ 0x71 ∷ 0x01 ∷ []) ⟶ says "refused 5\n")
-    ∷ (panel_prints (0x04 ∷ 0x02 ∷ 0x71 ∷ 0x10 ∷ []) ⟶ says "refused 6 round 1 truck 0\n")
-    -- the own bit of the last truck in the last round
-    ∷ (panel_prints (0x20 ∷ 0x3c ∷ replicate 663 0x00 ++ (0x01 ∷ [])) ⟶ says "refused 6 round 60 truck 7\n")
-    -- the records of a run, also of refused ones; buffers longer than the listing, as long, and a byte too short; 9 after all others
-    ∷ (panel_runs (0x08 ∷ 0x00 ∷ 0x3f ∷ []) ⟶ holds (0, Unnamed) two_trucks)
-    ∷ (panel_runs (0x24 ∷ 0x00 ∷ []) ⟶ holds (17, Unnamed) no_fleet)
-    ∷ (panel_runs (0x04 ∷ 0x3d ∷ []) ⟶ holds (18, Unnamed) no_fleet)
-    ∷ (panel_runs (0x04 ∷ 0x02 ∷ 0x70 ∷ 0x10 ∷ []) ⟶ holds (6, At 2 0) no_fleet)
-    ∷ (panel_lists (0x04 ∷ 0x02 ∷ 0x70 ∷ 0x00 ∷ []) (replicate 72 9) ⟶ left (0, 71 ∷ []) ((text "trucks 1 rounds 2\n0 opened 7 running 7 sent 0 vetoes 0\nsent 0 vetoes 0\n" ++ (9 ∷ [])) ∷ []))
-    ∷ (panel_lists (0x04 ∷ 0x02 ∷ 0x70 ∷ 0x00 ∷ []) (replicate 71 9) ⟶ left (0, 71 ∷ []) (text "trucks 1 rounds 2\n0 opened 7 running 7 sent 0 vetoes 0\nsent 0 vetoes 0\n" ∷ []))
-    ∷ (panel_lists (0x04 ∷ 0x02 ∷ 0x70 ∷ 0x00 ∷ []) (replicate 70 9) ⟶ left (9, []) (replicate 70 9 ∷ []))
-    ∷ (panel_lists (0x24 ∷ 0x00 ∷ []) [] ⟶ left (17, []) ([] ∷ []))
-    ∷ (panel_lists (0x20 ∷ 0x3d ∷ []) (9 ∷ []) ⟶ left (18, []) ((9 ∷ []) ∷ []))
     -- C11: both roads take 180 seconds
     ∷ (takes 1200 600 90 ⟶ exactly (180, 0))
     ∷ (takes 900 300 60 ⟶ exactly (180, 0))

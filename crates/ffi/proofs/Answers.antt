@@ -1,18 +1,13 @@
 -- What an exported function leaves, one law for each return of the code.
-use mathlib.Core.Path.{◌≡◌, refl, ap, ◌∙◌}
+use mathlib.Core.Path.{◌≡◌, refl, ◌∙◌}
 use mathlib.Core.List.{List, [], ◌∷◌}
 use Prim.Native.Nat.{ℕ, min, ◌≤◌, ◌<◌}
 use native.Mathlib.Omega.{arith}
-use lib.ListN.{length, get_or, drop, set}
-use lib.Dec.{ltb}
+use lib.ListN.{length, drop, set}
 use borrow.Author.Tests.{lt-ltb, le-ltb}
-use Rattle.refusals.specs.Numbers.{number_of, outcome_number, numbered}
+use Rattle.refusals.specs.Numbers.{number_of}
 use Rattle.refusals.specs.declared.Refusal.{Refusal}
 use Rattle.refusals.specs.declared.Refusal.TheVariants.{ShortBuffer}
-use Rattle.refusals.specs.declared.Outcome.{Outcome}
-use Rattle.refusals.specs.declared.Outcome.TheVariants.{Accepted, Refused}
-use Rattle.refusals.specs.Outcomes.{refuse, and_then}
-use Rattle.protocol.specs.declared.Fleet.{Fleet}
 use Rattle.protocol.specs.declared.Grades.{Grades}
 use Rattle.protocol.specs.declared.Grading.{Grading}
 use Rattle.protocol.specs.declared.Grading.TheVariants as grading
@@ -26,11 +21,9 @@ use Rattle.plain.specs.declared.WriteOutcome.{WriteOutcome}
 use Rattle.plain.specs.declared.WriteOutcome.TheVariants as write
 use Rattle.plain.specs.Forms.{after_read, read_plain, after_write, write_plain}
 use Rattle.listing.specs.declared.Listed.{Listed}
-use Rattle.listing.specs.Text.{listing_of}
-use Rattle.listing.specs.Listed.{Left, left, list_answer, listed_for, listed}
-use Rattle.listing.proofs.Prints.{left-answer}
-use Rattle.panel.specs.Panel.{panel_listed}
-use Rattle.ffi.specs.Calls.{Result, call_result, list_result, list_call, panel_list_call, grade_result, grade_call_in, opening_call, read_call, write_call}
+use Rattle.listing.specs.declared.Listed.TheVariants as listing
+use Rattle.listing.specs.Listed.{left, listed}
+use Rattle.ffi.specs.Calls.{Result, call_result, list_call, grade_result, grade_call_in, opening_call, read_call, write_call}
 use Rattle.ffi.proofs.Narrow.{narrow_write}
 
 -- ---- the opening crusher
@@ -72,29 +65,14 @@ module _ (n R m S : ℕ) (openings words bytes : List ℕ) (written : ℕ) (few 
 
 -- ---- a recording's listing
 
-module _ (bytes text : List ℕ) (written : ℕ) (o : Listed) (left₁ : List ℕ) (k w : ℕ) (number : k ≡ (list_answer o).0) (length : w ≡ get_or (list_answer o).1 0 written) where
-  listed_as : (l : Left) → left o left₁ ≡ l → call_result k (left₁ ∷ []) (w ∷ []) ≡ list_result l written
-  listed_as l done = rw (number, length) (ap (λ (x : Left). list_result x written) done)
-
-  -- the desk's, and the panel's
-  pub list_left : left o left₁ ≡ listed bytes text → call_result k (left₁ ∷ []) (w ∷ []) ≡ list_call bytes text written
+module _ (bytes text : List ℕ) (written : ℕ) (o : Listed) (left₁ : List ℕ) (done : left o left₁ ≡ listed bytes text) where
+  pub list_call_0 : (k : ℕ) → o ≡ listing.Text k → call_result 0 (left₁ ∷ []) (k ∷ []) ≡ list_call bytes text written
   unfolding list_call
-  list_left done = listed_as (listed bytes text) done
+  list_call_0 k h = rw (← done, h)
 
-  pub panel_list_left : left o left₁ ≡ panel_listed bytes text → call_result k (left₁ ∷ []) (w ∷ []) ≡ panel_list_call bytes text written
-  unfolding panel_list_call
-  panel_list_left done = listed_as (panel_listed bytes text) done
-
-pub number_of_lem : (o : Outcome) (values : List ℕ) → (numbered o values).0 ≡ outcome_number o
-number_of_lem Accepted values = refl
-number_of_lem (Refused r) values = refl
-
--- the number of a listing by any outcome and record
-pub listed-number : (o : Outcome) (f : Fleet) (d : List ℕ) (written : ℕ)
-    → (list_result (listed_for o f d) written).number ≡ outcome_number (and_then o (refuse (ltb (length d) (length (listing_of f))) ShortBuffer Accepted))
-listed-number o f d written =
-    ap (λ (x : ℕ × List ℕ). x.0) (left-answer o f d)
-    ∙ number_of_lem (and_then o (refuse (ltb (length d) (length (listing_of f))) ShortBuffer Accepted)) (length (listing_of f) ∷ [])
+  pub list_call_refused : (r : Refusal) (k : ℕ) → o ≡ listing.Refused r → k ≡ number_of r → call_result k (left₁ ∷ []) (written ∷ []) ≡ list_call bytes text written
+  unfolding list_call
+  list_call_refused r k h e = rw (e, ← done, h)
 
 -- ---- a recording's grading
 

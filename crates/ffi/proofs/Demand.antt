@@ -11,9 +11,7 @@ use Rattle.basics.proofs.Laws.{get_or-filled, filled_ext}
 use Rattle.refusals.specs.Numbers.{number_of, outcome_number}
 use Rattle.refusals.specs.declared.Refusal.TheVariants.{ShortBuffer}
 use Rattle.refusals.specs.declared.Outcome.TheVariants.{Accepted}
-use Rattle.refusals.specs.Outcomes.{refuse, and_then}
-use Rattle.refusals.proofs.Outcomes.{then-first}
-use Rattle.refusals.proofs.Numbers.{number_range, outcome_0}
+use Rattle.refusals.proofs.Numbers.{number_range}
 use Rattle.recording.specs.Packed.{trucks_of, rounds_of, openings_of, round_at}
 use Rattle.protocol.specs.declared.Fleet.{Fleet}
 use Rattle.protocol.specs.declared.Answer.{Answer}
@@ -28,15 +26,11 @@ use Rattle.protocol.proofs.Demand3.{demand_3, mixed_agreement}
 use Rattle.protocol.proofs.SixDemand.{six-demand}
 use Rattle.protocol.proofs.Gradings.{two_grade, six_grade}
 use Rattle.protocol.proofs.Counts.{sent-counts}
-use Rattle.listing.specs.Text.{listing_of}
-use Rattle.listing.specs.Listed.{Left}
-use Rattle.panel.specs.Panel.{panel_check, panel_ran, panel_listed}
-use Rattle.panel.proofs.Desk.{panel_checked, as_desk}
 use Rattle.recordbytes.specs.Layout.{size_for, record_byte, unpacked}
-use Rattle.ffi.specs.Calls.{Result, call_result, buffer_of, list_result, list_call, grade_result, grade_call_in, store_call, start_call, run_call_in, run_call, panel_run_call, panel_list_call}
+use Rattle.ffi.specs.Calls.{Result, call_result, buffer_of, grade_result, grade_call_in, store_call, start_call, run_call_in}
 use Rattle.ffi.specs.Claims.{RecordWith, bytes_of, HoldsOnBytes, SameOnBytes, DemandOnBytes, BytesDemand, SixBytesDemand, MixedBytesAgreement, BytesSentCounts}
-use Rattle.ffi.specs.Claims.{HoldsOfPanelBytes, PanelBytesDemand, grade_place, BytesAgreeByGrade}
-use Rattle.ffi.proofs.Answers.{listed-number, grades-refused}
+use Rattle.ffi.specs.Claims.{grade_place, BytesAgreeByGrade}
+use Rattle.ffi.proofs.Answers.{grades-refused}
 use Rattle.ffi.proofs.Records.{store_whole, store_accepted}
 use Rattle.ffi.proofs.Lists.{bytes_hold, bytes-laid, next-number, run_holds}
 
@@ -117,45 +111,6 @@ mixed_bytes-agreement = holds-on-bytes two_round (agrees_with MixedMarks) mixed_
 
 pub bytes-sent-counts : BytesSentCounts
 bytes-sent-counts = holds-on-bytes two_round counts_sent sent-counts
-
--- ---- the panel
-
--- a call of it that answers 0 accepted the recording
-panel_run-accepted : (s d : List ℕ) → (panel_run_call s d).number ≡ 0 → panel_check s ≡ Accepted
-unfolding panel_run_call
-panel_run-accepted s d z = sym (panel_checked s) ∙ (store_accepted (panel_ran s) d z).0
-
-panel_list_accepted : (s d : List ℕ) (written : ℕ) → (panel_list_call s d written).number ≡ 0 → panel_check s ≡ Accepted
-unfolding panel_list_call panel_listed
-panel_list_accepted s d written z =
-    let o = (panel_ran s).outcome in
-    let fits = refuse (ltb (length d) (length (listing_of (panel_ran s).fleet))) ShortBuffer Accepted in
-    sym (panel_checked s) ∙ then-first o fits (outcome_0 (and_then o fits) (sym (listed-number o (panel_ran s).fleet d written) ∙ z))
-
--- so the desk's call leaves the same
-panel_run-same : (s d : List ℕ) → (panel_run_call s d).number ≡ 0 → panel_run_call s d ≡ run_call s d
-unfolding panel_run_call run_call_in
-panel_run-same s d z = ap (λ (a : Answer). store_call a d) ((as_desk s).same_record (panel_run-accepted s d z))
-
-panel_list_same : (s d : List ℕ) (written : ℕ) → (panel_list_call s d written).number ≡ 0 → panel_list_call s d written ≡ list_call s d written
-unfolding panel_list_call list_call
-panel_list_same s d written z = ap (λ (l : Left). list_result l written) ((as_desk s).same_listing (panel_list_accepted s d written z) d)
-
--- and what is claimed of its bytes is claimed of the panel's
-panel_on-bytes : (claim : Claim) → HoldsOnBytes two_round claim → HoldsOfPanelBytes claim
-panel_on-bytes claim h s d z =
-    let same = panel_run-same s d z in
-    subst (λ (r : Result). RecordWith (claim (trucks_of s) (openings_of s) (round_at s) (rounds_of s)) (buffer_of r)) (sym same)
-    (h.run s d (ap (λ (r : Result). r.number) (sym same) ∙ z))
-
-pub panel_bytes-demand : PanelBytesDemand
-panel_bytes-demand =
-    record {
-      same_record = panel_run-same;
-      same_listing = panel_list_same;
-      agreement = panel_on-bytes (agrees_with MixedMarks) mixed_bytes-agreement;
-      deciding = panel_on-bytes (decides_in two_round) bytes-demand.deciding;
-    }
 
 -- ---- by a grade
 

@@ -13,13 +13,13 @@ use Rattle.recording.specs.Checks.{bad_trucks, bad_rounds, plain_check}
 use Rattle.plain.specs.declared.WriteOutcome.TheVariants as write
 use Rattle.plain.specs.Forms.{after_write, write_check, write_plain}
 
-pub many_trucks_lem : (n : ℕ) → 32 < n → bad_trucks n ≡ true
+pub many_trucks : (n : ℕ) → 32 < n → bad_trucks n ≡ true
 unfolding bad_trucks
-many_trucks_lem n h = rw (ne_eqb n 0 (λ e. omega arith), lt-ltb 32 n h)
+many_trucks n h = rw (ne_eqb n 0 (λ e. omega arith), lt-ltb 32 n h)
 
-many_rounds_lem : (R : ℕ) → 400 < R → bad_rounds R ≡ true
+many_rounds : (R : ℕ) → 400 < R → bad_rounds R ≡ true
 unfolding bad_rounds
-many_rounds_lem R h = lt-ltb 400 R h
+many_rounds R h = lt-ltb 400 R h
 
 -- two counts that are both refused, where one of them is handed on for the other, or one and the same count
 pub narrowed {ℓ} : {A : Type ℓ} (f : ℕ → A) (bad : ℕ → Bool) (x : A) (n m most : ℕ)
@@ -35,12 +35,12 @@ module _ {ℓ} {A : Type ℓ} (f : ℕ → ℕ → A) (x y : A) (two : (n R : �
   narrow_rounds : (n R S : ℕ) → S ≡ min R 65535 → (b : Bool) → bad_trucks n ≡ b → f n S ≡ f n R
   narrow_rounds n R S e true h = two n S h ∙ sym (two n R h)
   narrow_rounds n R S e false h =
-      narrowed (f n) bad_rounds y R S 65535 e (many_rounds_lem 65535 (omega arith)) (λ l. many_rounds_lem R (omega arith)) (λ k g. three n k h g)
+      narrowed (f n) bad_rounds y R S 65535 e (many_rounds 65535 (omega arith)) (λ l. many_rounds R (omega arith)) (λ k g. three n k h g)
 
   narrow_counts : (n R m S : ℕ) → m ≡ min n 255 → S ≡ min R 65535 → f m S ≡ f n R
   narrow_counts n R m S e h =
       narrow_rounds m R S h (bad_trucks m) refl
-      ∙ narrowed (λ k. f k R) bad_trucks x n m 255 e (many_trucks_lem 255 (omega arith)) (λ l. many_trucks_lem n (omega arith)) (λ k g. two k R g)
+      ∙ narrowed (λ k. f k R) bad_trucks x n m 255 e (many_trucks 255 (omega arith)) (λ l. many_trucks n (omega arith)) (λ k g. two k R g)
 
 pub narrow_check : (openings words : List ℕ) (n R m S : ℕ) → m ≡ min n 255 → S ≡ min R 65535 → plain_check m S openings words ≡ plain_check n R openings words
 unfolding plain_check

@@ -29,14 +29,10 @@ use Rattle.protocol.proofs.Steps.{answer-outcome, step_checked, step_names}
 use Rattle.listing.specs.Text.{listing_of}
 use Rattle.listing.specs.Listed.{list_check}
 use Rattle.listing.proofs.Prints.{list_answer_lem}
-use Rattle.panel.specs.Panel.{panel_ran, panel_listed}
-use Rattle.panel.proofs.Checks.{panel_own}
-use Rattle.panel.proofs.Desk.{panel_checked}
 use Rattle.recordbytes.specs.Layout.{size_for, damaged, record_of, no_record, unpacked}
-use Rattle.ffi.specs.Calls.{read_call, write_call, list_call, call_result, grade_result, grade_call_in, run_call_in, step_call_in, panel_run_call, panel_list_call, recording_own_loss, write_own_loss, round_own_loss}
-use Rattle.ffi.proofs.Narrow.{many_trucks_lem, narrowed, narrow_check}
-use Rattle.ffi.proofs.Answers.{number_of_lem, listed-number}
-use Rattle.ffi.proofs.Records.{record_number, store_number}
+use Rattle.ffi.specs.Calls.{read_call, write_call, list_call, call_result, grade_result, grade_call_in, store_call, run_call_in, step_call_in, recording_own_loss, write_own_loss, round_own_loss}
+use Rattle.ffi.proofs.Narrow.{many_trucks, narrowed, narrow_check}
+use Rattle.ffi.proofs.Records.{record_number}
 
 -- ---- a law for each return
 abbrev own_loss : Outcome → ℕ
@@ -59,7 +55,7 @@ round-few a k h = ltb-false 400 k (or_right a (ltb 400 k) h)
 module _ (n m k : ℕ) (words : List ℕ) (few : m ≡ min n 255) where
   same-trucks : bad_trucks m ≡ bad_trucks n
   same-trucks =
-      narrowed bad_trucks bad_trucks true n m 255 few (many_trucks_lem 255 (omega arith)) (λ l. many_trucks_lem n (omega arith)) (λ j h. h)
+      narrowed bad_trucks bad_trucks true n m 255 few (many_trucks 255 (omega arith)) (λ l. many_trucks n (omega arith)) (λ j h. h)
 
   -- what is answered, by the test that the code makes
   round_by : (b t : Bool) → b ≡ bad_trucks m → (b || eqb k 0 || ltb 400 k) ≡ t → round_own_loss n k words ≡ cond t 0 (own_loss (round_check n k words))
@@ -81,6 +77,9 @@ module _ (n m k : ℕ) (words : List ℕ) (few : m ≡ min n 255) where
     round-own o j c g = g ∙ ap own_loss (c ∙ ap (λ (i : ℕ). round_check i k words) same_number) ∙ sym (round_by b false e h)
 
 -- ---- what they answer where a call answers 6
+number_of_lem : (o : Outcome) (values : List ℕ) → (numbered o values).0 ≡ outcome_number o
+number_of_lem Accepted values = refl
+number_of_lem (Refused r) values = refl
 
 -- a buffer that is too short is not what is answered 6 for
 before_9 : (o : Outcome) (b : Bool) → outcome_number (and_then o (refuse b ShortBuffer Accepted)) ≡ 6 → outcome_number o ≡ 6
@@ -112,28 +111,12 @@ module _ (s : List ℕ) where
       (before_9 (check_of s) short
       (sym (ap (λ (x : ℕ × List ℕ). x.0) (list_answer_lem s text) ∙ number_of_lem (list_check s (length text)) (length (listing_of (ran s).fleet) ∷ [])) ∙ h))
 
-  -- of the panel's calls
-  panel_named : outcome_number (panel_ran s).outcome ≡ 6 → RecordingNamed
-  panel_named h =
-      let six = sym (ap outcome_number (panel_checked s)) ∙ h in
-      named (sym (ap outcome_number (panel_own s six)) ∙ six)
-
-  pub panel_run_6 : (d : List ℕ) → (panel_run_call s d).number ≡ 6 → RecordingNamed
-  unfolding panel_run_call
-  panel_run_6 d h = panel_named (before_9 (panel_ran s).outcome (ltb (length d) (size_for 32)) (sym (store_number (panel_ran s) d) ∙ h))
-
-  pub panel_list_6 : (text : List ℕ) (written : ℕ) → (panel_list_call s text written).number ≡ 6 → RecordingNamed
-  unfolding panel_list_call panel_listed
-  panel_list_6 text written h =
-      panel_named
-      (before_9 (panel_ran s).outcome (ltb (length text) (length (listing_of (panel_ran s).fleet)))
-      (sym (listed-number (panel_ran s).outcome (panel_ran s).fleet text written) ∙ h))
-
   pub run_6 : (p : Protocol) (d : List ℕ) → (run_call_in p s d).number ≡ 6 → RecordingNamed
-  unfolding run_call_in ran_in
+  unfolding run_call_in store_call ran_in
   run_6 p d h =
+      let short = ltb (length d) (size_for 32) in
       let f : Fleet = fleet_in p (trucks_of s) (openings_of s) (round_at s) (rounds_of s) in
-      let ran-6 = before_9 (ran_in p s).outcome (ltb (length d) (size_for 32)) (sym (store_number (ran_in p s) d) ∙ h) in
+      let ran-6 = before_9 (ran_in p s).outcome short (sym (record_number (and_then (ran_in p s).outcome (refuse short ShortBuffer Accepted)) 32 (ran_in p s).fleet d) ∙ h) in
       named (sym (ap outcome_number (answer-outcome (check_of s) f blank)) ∙ ran-6)
 
   pub grade_6 : (p : Protocol) (grades : List ℕ) → (grade_call_in p s grades).number ≡ 6 → RecordingNamed

@@ -1,5 +1,5 @@
 -- What is left of a lent record: after a start or a run, and after a step.
-use mathlib.Core.Path.{◌≡◌, refl, ap, sym, ◌∙◌}
+use mathlib.Core.Path.{◌≡◌, refl, ap, ◌∙◌}
 use mathlib.Core.Bool.{true, false, not}
 use mathlib.Core.List.{List, [], ◌∷◌}
 use Prim.Native.Nat.{ℕ, min, ◌+◌, ◌≤◌}
@@ -27,10 +27,9 @@ use Rattle.protocol.proofs.Good.{record_parts}
 use Rattle.protocol.proofs.Steps.{accepted_by, start_by}
 use Rattle.recordbytes.specs.Layout.{size_for, record_byte, pack_check, pack_for, packed_whole, unpacked}
 use Rattle.playback.specs.Bytes.{run_check_in, run_bytes_in}
-use Rattle.panel.specs.Panel.{panel_ran, panel_run_check, panel_run_bytes}
 use Rattle.fleet.specs.Bytes.{bytes_check_in, bytes_step_in}
-use Rattle.ffi.specs.Calls.{Result, call_result, record_as, store_call, run_call_in, start_call, step_call_in, panel_run_call}
-use Rattle.ffi.proofs.Narrow.{many_trucks_lem, narrowed}
+use Rattle.ffi.specs.Calls.{Result, call_result, record_as, store_call, run_call_in, start_call, step_call_in}
+use Rattle.ffi.proofs.Narrow.{many_trucks, narrowed}
 
 -- the record of an accepted step has an n in range
 pub step_trucks : (p : Protocol) (f : Fleet) (w : List ℕ) → step_check_in p f w ≡ Accepted → bad_trucks f.n ≡ false
@@ -61,11 +60,6 @@ packed_as f m d l c o k p q e = rw (e, p, q) (both c)
 -- ---- a whole record
 
 module _ (a : Answer) (d : List ℕ) where
-  -- the number that is answered
-  pub store_number : (store_call a d).number ≡ outcome_number (and_then a.outcome (refuse (ltb (length d) (size_for 32)) ShortBuffer Accepted))
-  unfolding store_call
-  store_number = record_number (and_then a.outcome (refuse (ltb (length d) (size_for 32)) ShortBuffer Accepted)) 32 a.fleet d
-
   pub store_refused : (r : Refusal) (k : ℕ) → a.outcome ≡ Refused r → k ≡ number_of r → call_result k (d ∷ []) [] ≡ store_call a d
   unfolding store_call
   store_refused r k h e = rw (e, h)
@@ -81,9 +75,10 @@ module _ (a : Answer) (d : List ℕ) where
   store_whole h room = rw (h, le-ltb (length d) (size_for 32) room)
 
   pub store_accepted : (store_call a d).number ≡ 0 → (a.outcome ≡ Accepted) × (size_for 32 ≤ length d)
+  unfolding store_call
   store_accepted z =
       let fits = refuse (ltb (length d) (size_for 32)) ShortBuffer Accepted in
-      let o = outcome_0 (and_then a.outcome fits) (sym store_number ∙ z) in (
+      let o = outcome_0 (and_then a.outcome fits) (rw record_number at z) in (
         then-first a.outcome fits o,
         ltb-false (length d) (size_for 32) (refuse-false (ltb (length d) (size_for 32)) ShortBuffer Accepted (then_second a.outcome fits o)),
       )
@@ -103,8 +98,8 @@ start_2 n openings h = rw h
 narrow_start : (n m : ℕ) (openings : List ℕ) → m ≡ min n 255 → started m openings ≡ started n openings
 narrow_start n m openings e =
     narrowed (λ k. started k openings) bad_trucks (record { outcome = Refused TruckCount; fleet = blank }) n m 255 e
-    (many_trucks_lem 255 (omega arith))
-    (λ l. many_trucks_lem n (omega arith))
+    (many_trucks 255 (omega arith))
+    (λ l. many_trucks n (omega arith))
     (λ k h. start_2 k openings h)
 
 pub start_stored : (n m : ℕ) (openings d : List ℕ) (a : Answer) (x : Result) → m ≡ min n 255 → a ≡ started m openings → x ≡ store_call a d → x ≡ start_call n openings d
@@ -134,16 +129,8 @@ run_range p s a e h =
     let g = (bytes_good s o.0).frame in
     rw (e, o.1) (in_trucks (trucks_of s) g.some g.most)
 
--- of any answer
-whole-left : (a : Answer) (d l : List ℕ) (o : Outcome) (k : ℕ) → let c = and_then a.outcome (refuse (ltb (length d) (size_for 32)) ShortBuffer Accepted) in
-    o ≡ c → l ≡ pack_for c 32 a.fleet d → k ≡ outcome_number o → call_result k (l ∷ []) [] ≡ store_call a d
-unfolding store_call
-whole-left a d l o k eo el ek = packed_as a.fleet 32 d l (and_then a.outcome (refuse (ltb (length d) (size_for 32)) ShortBuffer Accepted)) o k eo el ek
-
 pub run-left : (p : Protocol) (s d l : List ℕ) (o : Outcome) (k : ℕ) → o ≡ run_check_in p s d → l ≡ run_bytes_in p s d → k ≡ outcome_number o → call_result k (l ∷ []) [] ≡ run_call_in p s d
-unfolding run_call_in run_check_in run_bytes_in
-run-left p s d l o k eo el ek = whole-left (ran_in p s) d l o k eo el ek
-
-pub panel_run-left : (s d l : List ℕ) (o : Outcome) (k : ℕ) → o ≡ panel_run_check s d → l ≡ panel_run_bytes s d → k ≡ outcome_number o → call_result k (l ∷ []) [] ≡ panel_run_call s d
-unfolding panel_run_call panel_run_check panel_run_bytes
-panel_run-left s d l o k eo el ek = whole-left (panel_ran s) d l o k eo el ek
+unfolding run_call_in store_call run_check_in run_bytes_in
+run-left p s d l o k eo el ek =
+    let a = ran_in p s in
+    packed_as a.fleet 32 d l (and_then a.outcome (refuse (ltb (length d) (size_for 32)) ShortBuffer Accepted)) o k eo el ek

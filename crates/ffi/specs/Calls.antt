@@ -1,5 +1,5 @@
 -- What each exported function answers, with everything lent as it leaves it, by the answers of the library.
--- The number answered is the papers' number of the refusal, and 0 where nothing is refused; the values of an answer are put where the caller said, and
+-- The number answered is document 01's number of the refusal, and 0 where nothing is refused; the values of an answer are put where the caller said, and
 -- without a value what is there stays: a refusal changes nothing that was lent.
 use Rattle.std.specs.Prelude.{ℕ, cond, ◌||◌, List, [], ◌∷◌, ◌++◌, ltb, eqb, length, get_or, drop}
 use Rattle.basics.specs.Lists.{filled}
@@ -15,8 +15,7 @@ use Rattle.plain.specs.Forms.{read_answer, read_plain, write_answer, write_plain
 use Rattle.protocol.specs.declared.Fleet.{Fleet}
 use Rattle.protocol.specs.declared.Answer.{Answer}
 use Rattle.protocol.specs.Fleets.{Protocol, two_round, started, stepped_in, ran_in, grade_answer, graded_in}
-use Rattle.listing.specs.Listed.{Left, list_answer, listed}
-use Rattle.panel.specs.Panel.{panel_ran, panel_listed}
+use Rattle.listing.specs.Listed.{list_answer, listed}
 use Rattle.recordbytes.specs.Layout.{size_for, record_byte, unpacked}
 
 -- what a call leaves: the number answered, and in the order of its parameters the buffers and the single numbers that it was lent
@@ -60,15 +59,12 @@ write_call n R openings words bytes written =
 
 -- ---- a recording's listing
 
--- a listing and the number of its bytes
-abbrev pub list_result : Left → ℕ → Result
-list_result a written =
-    let (number, values) = list_answer a.answer in
-    call_result number (a.buffer ∷ []) (get_or values 0 written ∷ [])
-
 -- 1 to 6, then 9
 unfoldable pub list_call : List ℕ → List ℕ → ℕ → Result
-list_call bytes text written = list_result (listed bytes text) written
+list_call bytes text written =
+    let a = listed bytes text in
+    let (number, values) = list_answer a.answer in
+    call_result number (a.buffer ∷ []) (get_or values 0 written ∷ [])
 
 -- ---- a recording's grading
 
@@ -122,16 +118,6 @@ step_call = step_call_in two_round
 unfoldable pub bytes_after_in : Protocol → List ℕ → List (List ℕ) → List ℕ
 bytes_after_in p d [] = d
 bytes_after_in p d (w ∷ ws) = bytes_after_in p (buffer_of (step_call_in p d w)) ws
-
--- ---- the panel: 1, 2, 17, 3, 18, 4, 5 and 6, then 9
-
--- running a recording
-unfoldable pub panel_run_call : List ℕ → List ℕ → Result
-panel_run_call bytes d = store_call (panel_ran bytes) d
-
--- its listing
-unfoldable pub panel_list_call : List ℕ → List ℕ → ℕ → Result
-panel_list_call bytes text written = list_result (panel_listed bytes text) written
 
 -- ---- where an own loss bit is: the round and the truck that refusal 6 names, as one number; 0 where none is named
 

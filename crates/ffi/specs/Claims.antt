@@ -14,7 +14,7 @@ use Rattle.protocol.specs.Steps.{taken, round_in, recording_of}
 use Rattle.protocol.specs.Claims.{Agreed, Marks, Claim, agrees_with, decides_in, MajorityMarks, MixedMarks, ZeroMarks, counts_sent}
 use Rattle.protocol.specs.Claims.{Class, Complete, MajorityComplete, ZeroComplete, Accurate}
 use Rattle.recordbytes.specs.Layout.{size_for, unpacked}
-use Rattle.ffi.specs.Calls.{call_result, buffer_of, list_call, grade_call_in, start_call, step_call_in, run_call_in, run_call, bytes_after_in, panel_run_call, panel_list_call}
+use Rattle.ffi.specs.Calls.{call_result, buffer_of, grade_call_in, start_call, step_call_in, run_call_in, bytes_after_in}
 
 -- the bytes are a record, of which this is claimed
 pub record RecordWith (claimed : Fleet → Type 0) (bytes : List ℕ) : Type 0 where
@@ -65,19 +65,6 @@ MixedBytesAgreement = HoldsOnBytes two_round (agrees_with MixedMarks)
 
 abbrev pub BytesSentCounts : Type 0
 BytesSentCounts = HoldsOnBytes two_round counts_sent
-
--- a claim holds of every run of the panel that answers 0 (document 02, F-10)
-abbrev pub HoldsOfPanelBytes : Claim → Type 0
-HoldsOfPanelBytes claim =
-    (s d : List ℕ) → (panel_run_call s d).number ≡ 0
-    → RecordWith (claim (trucks_of s) (openings_of s) (round_at s) (rounds_of s)) (buffer_of (panel_run_call s d))
-
--- what is shown of the panel, on bytes: where a call of it answers 0, so does the desk's, and both leave the same; with the facts on agreement and deciding
-pub record PanelBytesDemand : Type 0 where
-  pub same_record : (s d : List ℕ) → (panel_run_call s d).number ≡ 0 → panel_run_call s d ≡ run_call s d
-  pub same_listing : (s d : List ℕ) (written : ℕ) → (panel_list_call s d written).number ≡ 0 → panel_list_call s d written ≡ list_call s d written
-  pub agreement : HoldsOfPanelBytes (agrees_with MixedMarks)
-  pub deciding : HoldsOfPanelBytes (decides_in two_round)
 
 -- where the grade of a class stands among the four numbers of a grading
 abbrev pub grade_place : Class → ℕ

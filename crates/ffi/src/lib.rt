@@ -1,16 +1,14 @@
 // The library for callers in other languages: functions on numbers and slices. A slice is passed as a pointer and then a length.
-// Each answers the papers' number of the refusal, or 0; a refusal changes nothing that was lent. What refusal 6 names besides is asked for by the last three.
+// Each answers document 01's number of the refusal, or 0; a refusal changes nothing that was lent. What refusal 6 names besides is asked for by the last three.
 #![tactic(auto)]
 
-ghost use Rattle.std.specs.Prelude.{◌≡◌, [], ◌∷◌, false, min, get_or};
+ghost use Rattle.std.specs.Prelude.{◌≡◌, [], ◌∷◌, false, min};
 ghost use Rattle.refusals.specs.Numbers.{number_of, outcome_number};
 ghost use Rattle.refusals.specs.Locations.{outcome_location, location_number};
 ghost use Rattle.refusals.specs.declared.Outcome.TheVariants.{Accepted};
 ghost use Rattle.recording.specs.Checks.{bad_trucks};
 ghost use Rattle.ffi.specs.Calls.{call_result, opening_call, read_call, write_call};
 ghost use Rattle.ffi.specs.Calls.{store_call, run_call_in, run_call, start_call, step_call_in, step_call, list_call};
-ghost use Rattle.ffi.specs.Calls.{panel_run_call, panel_list_call};
-ghost use Rattle.listing.specs.Listed.{list_answer};
 ghost use Rattle.ffi.specs.Calls.{grade_result, grade_call_in, grade_call};
 ghost use Rattle.protocol.specs.Fleets.{six_round, chosen, grade_answer};
 ghost use Rattle.ffi.specs.Calls.{recording_own_loss, write_own_loss, round_own_loss};
@@ -143,10 +141,11 @@ pub fn rajvokshul_run_six(bytes: &[u8], fleet: &mut [u8]) -> u32
     outcome_number(fleet::run_bytes(Cycle::SixRound, bytes, fleet))
 }
 
-// Answers the number of a listing, and puts that of its bytes where the caller said.
-fn put_length(l: Listed, written: &mut usize) -> u32
-    ensures { (result ≡ (list_answer l).0) × (written.new ≡ get_or (list_answer l).1 0 written.old) }
+// Runs a recording to its listing.
+pub fn rajvokshul_list(bytes: &[u8], text: &mut [u8], written: &mut usize) -> u32
+    ensures { call_result result (text.new ∷ []) (written.new ∷ []) ≡ list_call bytes.now text.old written.old }
 {
+    let l = listing::list(bytes, text);
     match l {
         Listed::Text(k) => {
             *written = k;
@@ -154,14 +153,6 @@ fn put_length(l: Listed, written: &mut usize) -> u32
         }
         Listed::Refused(r) => number(r),
     }
-}
-
-// Runs a recording to its listing.
-pub fn rajvokshul_list(bytes: &[u8], text: &mut [u8], written: &mut usize) -> u32
-    ensures { call_result result (text.new ∷ []) (written.new ∷ []) ≡ list_call bytes.now text.old written.old }
-{
-    let l = listing::list(bytes, text);
-    put_length(l, written)
 }
 
 // Puts the grades of an answer into a lent buffer.
@@ -226,21 +217,6 @@ pub fn rajvokshul_step_six(fleet: &mut [u8], words: &[u32]) -> u32
     ensures { call_result result (fleet.new ∷ []) [] ≡ step_call_in six_round fleet.old words.now }
 {
     step_bytes(Cycle::SixRound, fleet, words)
-}
-
-// Runs a recording to its states for the panel.
-pub fn rajvokshul_panel_run(bytes: &[u8], fleet: &mut [u8]) -> u32
-    ensures { call_result result (fleet.new ∷ []) [] ≡ panel_run_call bytes.now fleet.old }
-{
-    outcome_number(panel::run_bytes(bytes, fleet))
-}
-
-// Runs a recording to its listing for the panel.
-pub fn rajvokshul_panel_list(bytes: &[u8], text: &mut [u8], written: &mut usize) -> u32
-    ensures { call_result result (text.new ∷ []) (written.new ∷ []) ≡ panel_list_call bytes.now text.old written.old }
-{
-    let l = panel::list(bytes, text);
-    put_length(l, written)
 }
 
 // Where the own loss bit is for which a recording is refused.

@@ -4,7 +4,7 @@
 
 ghost use Rattle.std.specs.Prelude.{◌≡◌, [], ◌∷◌};
 ghost use Rattle.protocol.specs.Fleets.{six_round};
-ghost use Rattle.ffi.specs.Calls.{call_result, grade_call, grade_call_in, list_call, opening_call, panel_list_call, panel_run_call, read_call, recording_own_loss, round_own_loss, run_call, run_call_in, start_call, step_call, step_call_in, write_call, write_own_loss};
+ghost use Rattle.ffi.specs.Calls.{call_result, grade_call, grade_call_in, list_call, opening_call, read_call, recording_own_loss, round_own_loss, run_call, run_call_in, start_call, step_call, step_call_in, write_call, write_own_loss};
 
 // The crusher that a truck opens with.
 #[unsafe(no_mangle)]
@@ -113,22 +113,6 @@ pub extern "C" fn rajvokshul_step_six(fleet: &mut [u8], words: &[u32]) -> u32
     ensures { call_result result (fleet.new ∷ []) [] ≡ step_call_in six_round fleet.old words.now }
 {
     ffi::rajvokshul_step_six(fleet, words)
-}
-
-// Runs a recording to its states for the panel.
-#[unsafe(no_mangle)]
-pub extern "C" fn rajvokshul_panel_run(bytes: &[u8], fleet: &mut [u8]) -> u32
-    ensures { call_result result (fleet.new ∷ []) [] ≡ panel_run_call bytes.now fleet.old }
-{
-    ffi::rajvokshul_panel_run(bytes, fleet)
-}
-
-// Runs a recording to its listing for the panel.
-#[unsafe(no_mangle)]
-pub extern "C" fn rajvokshul_panel_list(bytes: &[u8], text: &mut [u8], written: &mut usize) -> u32
-    ensures { call_result result (text.new ∷ []) (written.new ∷ []) ≡ panel_list_call bytes.now text.old written.old }
-{
-    ffi::rajvokshul_panel_list(bytes, text, written)
 }
 
 // Where the own loss bit is for which a recording is refused.

@@ -1,5 +1,5 @@
 -- What the two calls leave in their buffers is what document 01 has printed; the sizes named for callers suffice; and input past the limit changes nothing.
-use mathlib.Core.Path.{◌≡◌, refl, ap, sym, ◌∙◌}
+use mathlib.Core.Path.{◌≡◌, refl, ap, sym, subst, ◌∙◌}
 use mathlib.Core.Bool.{Bool, true, false, cond, false≢true, true≢false}
 use mathlib.Core.List.{List, [], ◌∷◌, ◌++◌}
 use Prim.Native.Nat.{ℕ, ◌≤◌, ◌<◌}
@@ -19,9 +19,8 @@ use Rattle.recording.specs.Packed.{trucks_of, rounds_of, openings_of, round_at}
 use Rattle.recording.specs.Checks.{check_of}
 use Rattle.protocol.specs.declared.Fleet.{Fleet}
 use Rattle.protocol.specs.declared.Answer.{Answer}
-use Rattle.protocol.specs.Fleets.{two_round, blank, fleet_at, ran, ran_in}
-use Rattle.protocol.proofs.Ran.{ran_cut}
-use Rattle.protocol.proofs.Steps.{answer-outcome}
+use Rattle.protocol.specs.Fleets.{two_round, answer, blank, fleet_at, ran, ran_in}
+use Rattle.protocol.proofs.Ran.{ran-fleet, ran_cut}
 use Rattle.listing.specs.declared.Listed.{Listed}
 use Rattle.listing.specs.declared.Listed.TheVariants.{Text, Refused}
 use Rattle.listing.specs.Text.{listing_of, refusal_text, printed_for, printed}
@@ -49,15 +48,14 @@ text-left t d k = go (leb (length t) (length d))
     go true e = ap (λ (j : ℕ). take j (t ++ drop (length t) d)) (sym (ap size_of e)) ∙ take-append_seam t (drop (length t) d)
     go false e = absurd (false≢true (ap is_text e))
 
--- a listing by any outcome and record: what is left up to the answer is what is printed of them
-pub left-printed : (o : Outcome) (f : Fleet) (d : List ℕ) (k : ℕ) → (listed_for o f d).answer ≡ Text k → take k (listed_for o f d).buffer ≡ printed_for o f
-left-printed outcome.Accepted f d k e = text-left (listing_of f) d k e
-left-printed (outcome.Refused r) f d k e = absurd (false≢true (ap is_text e))
-
 -- what `list` leaves in the buffer up to its answer is what is printed for the recording
 pub listed-printed : (s d : List ℕ) (k : ℕ) → (listed s d).answer ≡ Text k → take k (listed s d).buffer ≡ printed s
 unfolding listed printed
-listed-printed s d k = left-printed (ran s).outcome (ran s).fleet d k
+listed-printed s d k = go (ran s).outcome
+  where
+    go : (o : Outcome) → (listed_for o (ran s).fleet d).answer ≡ Text k → take k (listed_for o (ran s).fleet d).buffer ≡ printed_for o (ran s).fleet
+    go outcome.Accepted e = text-left (listing_of (ran s).fleet) d k e
+    go (outcome.Refused r) e = absurd (false≢true (ap is_text e))
 
 -- what `refusal_line` leaves up to its answer is the line of the refusal
 pub refusal_printed : (r : Refusal) (d : List ℕ) (k : ℕ) → (refusal_listed r d).answer ≡ Text k → take k (refusal_listed r d).buffer ≡ refusal_text r
@@ -69,20 +67,18 @@ abbrev outcome_for : Listed → Outcome
 outcome_for (Text k) = outcome.Accepted
 outcome_for (Refused r) = outcome.Refused r
 
-pub left_suffices : (o : Outcome) (f : Fleet) (d : List ℕ) (r : Refusal) → (o ≡ outcome.Accepted → length (listing_of f) ≤ length d)
-    → (listed_for o f d).answer ≡ Refused r → o ≡ outcome.Refused r
-left_suffices outcome.Accepted f d r fits a =
-    absurd (true≢false (sym (ap (λ (l : Left). is_text l.answer) (text_suffices (listing_of f) d (fits refl))) ∙ ap is_text a))
-left_suffices (outcome.Refused q) f d r fits a = ap outcome_for a
-
-ran_checked : (s : List ℕ) → (ran s).outcome ≡ check_of s
-unfolding ran_in
-ran_checked s = answer-outcome (check_of s) (fleet_at (trucks_of s) (openings_of s) (round_at s) (rounds_of s)) blank
-
 pub list_suffices : (s d : List ℕ) (r : Refusal) → longest_listing ≤ length d → (listed s d).answer ≡ Refused r → check_of s ≡ outcome.Refused r
-unfolding listed
-list_suffices s d r h a =
-    sym (ran_checked s) ∙ left_suffices (ran s).outcome (ran s).fleet d r (λ e. omega (arith, listing_size s (sym (ran_checked s) ∙ e))) a
+unfolding listed ran_in
+list_suffices s d r h = go (check_of s) refl
+  where
+    f : Fleet
+    f = fleet_at (trucks_of s) (openings_of s) (round_at s) (rounds_of s)
+
+    go : (o : Outcome) → check_of s ≡ o → (listed_for (answer o f blank).outcome (answer o f blank).fleet d).answer ≡ Refused r → o ≡ outcome.Refused r
+    go outcome.Accepted e a =
+        let fits : length (listing_of f) ≤ longest_listing = subst (λ (g : Fleet). length (listing_of g) ≤ longest_listing) (ran-fleet two_round s e) (listing_size s e) in
+        absurd (true≢false (sym (ap (λ (l : Left). is_text l.answer) (text_suffices (listing_of f) d (omega arith))) ∙ ap is_text a))
+    go (outcome.Refused q) e a = ap outcome_for a
 
 -- nor is one of the size named for the line of a refused recording
 line_suffices : (r : Refusal) (d : List ℕ) → length (refusal_text r) ≤ length d → (refusal_listed r d).answer ≡ Text (length (refusal_text r))
@@ -137,18 +133,19 @@ text-answer t d = go (dec_le (length t) (length d))
         let l : length d < length t = omega arith in
         rw (lt-leb (length t) (length d) l, lt-ltb (length d) (length t) l)
 
--- of a listing by any outcome and record
-pub left-answer : (o : Outcome) (f : Fleet) (d : List ℕ)
-    → list_answer (listed_for o f d).answer ≡ numbered (and_then o (refuse (ltb (length d) (length (listing_of f))) ShortBuffer outcome.Accepted)) (length (listing_of f) ∷ [])
-left-answer outcome.Accepted f d = text-answer (listing_of f) d
-left-answer (outcome.Refused r) f d = refl
-
 pub list_answer_lem : (s d : List ℕ) → list_answer (listed s d).answer ≡ numbered (list_check s (length d)) (length (listing_of (ran s).fleet) ∷ [])
-unfolding listed list_check
-list_answer_lem s d =
-    let t = listing_of (ran s).fleet in
-    left-answer (ran s).outcome (ran s).fleet d
-    ∙ ap (λ (o : Outcome). numbered (and_then o (refuse (ltb (length d) (length t)) ShortBuffer outcome.Accepted)) (length t ∷ [])) (ran_checked s)
+unfolding listed list_check ran_in
+list_answer_lem s d = go (check_of s)
+  where
+    f : Fleet
+    f = fleet_at (trucks_of s) (openings_of s) (round_at s) (rounds_of s)
+
+    go : (o : Outcome)
+        → list_answer (listed_for (answer o f blank).outcome (answer o f blank).fleet d).answer
+        ≡ numbered (and_then o (refuse (ltb (length d) (length (listing_of (answer o f blank).fleet))) ShortBuffer outcome.Accepted))
+        (length (listing_of (answer o f blank).fleet) ∷ [])
+    go outcome.Accepted = text-answer (listing_of f) d
+    go (outcome.Refused r) = refl
 
 pub refusal_answer : (r : Refusal) (d : List ℕ)
     → list_answer (refusal_listed r d).answer ≡ numbered (refuse (ltb (length d) (length (refusal_text r))) ShortBuffer outcome.Accepted) (length (refusal_text r) ∷ [])

@@ -4,7 +4,7 @@ use mathlib.Core.Bool.{Bool, true, false, cond}
 use mathlib.Core.List.{List, [], ◌∷◌, ◌++◌}
 use Prim.Native.Nat.{ℕ, zero, suc, ◌+◌, ◌*◌, ◌-◌, ◌/◌, ◌%◌, ◌^◌, ◌≤◌, ◌<◌}
 use native.Mathlib.Decide.{dec_lt}
-use native.Mathlib.Nat.{pow-suc, div-lt_iff_lt-mul, suc-mul, mul-le-mul, mul_comm}
+use native.Mathlib.Nat.{pow-suc, div-lt_iff_lt-mul}
 use native.Mathlib.Omega.{arith}
 use borrow.Author.Tests.{ltb-false, leb-true}
 use lib.Dec.{ltb}
@@ -20,7 +20,6 @@ use Rattle.refusals.specs.Numbers.{number_of}
 use Rattle.refusals.specs.Locations.{location_of}
 use Rattle.refusals.proofs.Numbers.{number_range}
 use Rattle.refusals.proofs.Locations.{named_6}
-use Rattle.recording.specs.Packed.{trucks_of, rounds_of, openings_of, round_at}
 use Rattle.recording.specs.Checks.{bad_trucks, check_of}
 use Rattle.recording.proofs.Accepted.{bytes_good}
 use Rattle.recording.proofs.Named.{check_in}
@@ -30,10 +29,10 @@ use Rattle.protocol.specs.declared.State.TheVariants.{Running, Stopped, Decided}
 use Rattle.protocol.specs.declared.Truck.{Truck}
 use Rattle.protocol.specs.declared.Fleet.{Fleet}
 use Rattle.protocol.specs.Rules.{truck}
-use Rattle.protocol.specs.Fleets.{two_round, good_state, good_truck_in, good_fleet_in, good_fleet, fleet_in, fleet_at, ran}
+use Rattle.protocol.specs.Fleets.{two_round, good_state, good_truck_in, good_fleet_in, good_fleet, fleet_in, ran}
 use Rattle.protocol.proofs.Good.{Good, state_ended}
 use Rattle.protocol.proofs.OneRound.{sound_two}
-use Rattle.protocol.proofs.Rules.{counts_parts}
+use Rattle.protocol.proofs.Rules.{counts-few}
 use Rattle.protocol.proofs.Ran.{ran-fleet, ran-good}
 use Rattle.listing.specs.Text.{text, decimal_in, decimal, state_text, sent_text, truck_line, truck_lines, totals_line, listing_of, location_text, refusal_text}
 use Rattle.listing.specs.Program.{longest_listing, longest_refusal}
@@ -71,9 +70,37 @@ six_parts a b c d e f =
       length-append (a ++ b ++ c ++ d ++ e) f,
     )
 
--- two digits for a crusher
+-- two digits for a crusher, three for a round
 crusher_size : (v : ℕ) → v ≤ 15 → length (decimal v) ≤ 2
 crusher_size v h = digits 1 v (let o : v < 10 ^ 2 = omega arith in o)
+
+round_size : (k : ℕ) → k ≤ 400 → length (decimal k) ≤ 3
+round_size k h = digits 2 k (let o : k < 10 ^ 3 = omega arith in o)
+
+ended_size : (word : List ℕ) (v k : ℕ) → length word ≡ 8 → v ≤ 15 → k ≤ 400 → length (word ++ decimal v ++ text " round " ++ decimal k) ≤ 20
+ended_size word v k w h l =
+    let e : length (text " round ") ≡ 7 = refl in
+    omega (
+      arith,
+      length-append word (decimal v),
+      length-append (word ++ decimal v) (text " round "),
+      length-append (word ++ decimal v ++ text " round ") (decimal k),
+      crusher_size v h,
+      round_size k l,
+    )
+
+-- the state of a truck that refusal 7 lets pass
+state_size : (R : ℕ) → R ≤ 400 → (s : State) (v : ℕ) → v ≤ 15 → good_state R s ≡ true → length (state_text s v) ≤ 20
+unfolding state_text
+state_size R l Running v h g =
+    let e : length (text "running ") ≡ 8 = refl in
+    omega (arith, length-append (text "running ") (decimal v), crusher_size v h)
+state_size R l (Stopped k) v h g =
+    let b : k ≤ R = state_ended two_round R (Stopped k) refl g in
+    ended_size (text "stopped ") v k refl h (omega arith)
+state_size R l (Decided k) v h g =
+    let b : k ≤ R = state_ended two_round R (Decided k) refl g in
+    ended_size (text "decided ") v k refl h (omega arith)
 
 -- what two numbers of m + 1 digits take
 sent_size : (m p v : ℕ) → p < 10 ^ suc m → v < 10 ^ suc m → length (sent_text p v) ≤ 15 + 2 * m
@@ -90,6 +117,26 @@ sent_size m p v hp hv =
       digits m v hv,
     )
 
+-- the line of such a truck: 52 bytes besides its number
+line_size : (R : ℕ) → R ≤ 400 → (i : ℕ) (t : Truck) → Good two_round R t → length (truck_line i t) ≤ length (decimal i) + 52
+unfolding truck_line
+line_size R l i t g =
+    let lb : length (text " opened ") ≡ 8 = refl in
+    let ld : length (text " ") ≡ 1 = refl in
+    let lf : length (text "\n") ≡ 1 = refl in
+    let a = decimal i ++ text " opened " ++ decimal t.opening ++ text " " ++ state_text t.state t.estimate ++ text " " in
+    let b = sent_text t.sent.proposals t.sent.vetoes in
+    let c = counts-few R t.sent l g.counts in
+    omega (
+      arith,
+      six_parts (decimal i) (text " opened ") (decimal t.opening) (text " ") (state_text t.state t.estimate) (text " "),
+      length-append a b,
+      length-append (a ++ b) (text "\n"),
+      crusher_size t.opening (leb-true t.opening 15 g.opening),
+      state_size R l t.state t.estimate (leb-true t.estimate 15 g.estimate) g.state,
+      sent_size 2 t.sent.proposals t.sent.vetoes (omega arith) (omega arith),
+    )
+
 -- a truck's number has one digit below 10, and two below 100
 number_size : (i : ℕ) → i < 100 → length (decimal i) ≤ 1 + (suc i - 10) - (i - 10)
 number_size i h = go (dec_lt i 10)
@@ -98,81 +145,34 @@ number_size i h = go (dec_lt i 10)
     go (yes l) = omega (arith, digits 0 i (let o : i < 10 ^ 1 = omega arith in o))
     go (no l) = omega (arith, digits 1 i (let o : i < 10 ^ 2 = omega arith in o))
 
--- with R rounds done, a number of m + 1 digits
-module _ (m R : ℕ) (few : R < 10 ^ suc m) where
-  ended_size : (word : List ℕ) (v k : ℕ) → length word ≡ 8 → v ≤ 15 → k ≤ R → length (word ++ decimal v ++ text " round " ++ decimal k) ≤ 18 + m
-  ended_size word v k w h l =
-      let e : length (text " round ") ≡ 7 = refl in
-      omega (
-        arith,
-        length-append word (decimal v),
-        length-append (word ++ decimal v) (text " round "),
-        length-append (word ++ decimal v ++ text " round ") (decimal k),
-        crusher_size v h,
-        digits m k (omega arith),
-      )
+lines_size : (R : ℕ) → R ≤ 400 → (ts : List Truck) (n : ℕ) → n ≤ 32 → ((i : ℕ) → i < n → Good two_round R (truck ts i))
+    → length (truck_lines ts n) ≤ 53 * n + (n - 10)
+unfolding truck_lines
+lines_size R l ts zero h g = omega arith
+lines_size R l ts (suc i) h g =
+    omega (
+      arith,
+      length-append (truck_lines ts i) (truck_line i (truck ts i)),
+      lines_size R l ts i (omega arith) (λ j lj. g j (omega arith)),
+      line_size R l i (truck ts i) (g i (omega arith)),
+      number_size i (omega arith),
+    )
 
-  -- the state of a truck that refusal 7 lets pass
-  state_size : (s : State) (v : ℕ) → v ≤ 15 → good_state R s ≡ true → length (state_text s v) ≤ 18 + m
-  unfolding state_text
-  state_size Running v h g =
-      let e : length (text "running ") ≡ 8 = refl in
-      omega (arith, length-append (text "running ") (decimal v), crusher_size v h)
-  state_size (Stopped k) v h g = ended_size (text "stopped ") v k refl h (state_ended two_round R (Stopped k) refl g)
-  state_size (Decided k) v h g = ended_size (text "decided ") v k refl h (state_ended two_round R (Decided k) refl g)
+-- the last line of at most 32 such trucks
+totals_size : (R : ℕ) → R ≤ 400 → (ts : List Truck) (n : ℕ) → n ≤ 32 → ((i : ℕ) → i < n → Good two_round R (truck ts i)) → length (totals_line ts n) ≤ 22
+unfolding totals_line
+totals_size R l ts n h g =
+    let p = sum_below (λ i. (truck ts i).sent.proposals) n in
+    let v = sum_below (λ i. (truck ts i).sent.vetoes) n in
+    let lf : length (text "\n") ≡ 1 = refl in
+    let mp : p ≤ 200 * n = sum_most (λ i. (truck ts i).sent.proposals) 200 n (λ i li. (counts-few R (truck ts i).sent l (g i li).counts).0) in
+    let mv : v ≤ 200 * n = sum_most (λ i. (truck ts i).sent.vetoes) 200 n (λ i li. (counts-few R (truck ts i).sent l (g i li).counts).1) in
+    omega (arith, length-append (sent_text p v) (text "\n"), sent_size 3 p v (omega arith) (omega arith))
 
-  -- the line of such a truck, besides its number
-  line_size : (i : ℕ) (t : Truck) → Good two_round R t → length (truck_line i t) ≤ length (decimal i) + (46 + 3 * m)
-  unfolding truck_line
-  line_size i t g =
-      let lb : length (text " opened ") ≡ 8 = refl in
-      let ld : length (text " ") ≡ 1 = refl in
-      let lf : length (text "\n") ≡ 1 = refl in
-      let a = decimal i ++ text " opened " ++ decimal t.opening ++ text " " ++ state_text t.state t.estimate ++ text " " in
-      let b = sent_text t.sent.proposals t.sent.vetoes in
-      let c = counts_parts R t.sent g.counts in
-      omega (
-        arith,
-        six_parts (decimal i) (text " opened ") (decimal t.opening) (text " ") (state_text t.state t.estimate) (text " "),
-        length-append a b,
-        length-append (a ++ b) (text "\n"),
-        crusher_size t.opening (leb-true t.opening 15 g.opening),
-        state_size t.state t.estimate (leb-true t.estimate 15 g.estimate) g.state,
-        sent_size m t.sent.proposals t.sent.vetoes (omega (arith, c.0)) (omega (arith, c.1)),
-      )
-
-  module _ (ts : List Truck) where
-    lines_size : (n : ℕ) → n ≤ 100 → ((i : ℕ) → i < n → Good two_round R (truck ts i)) → length (truck_lines ts n) ≤ n * (47 + 3 * m) + (n - 10)
-    unfolding truck_lines
-    lines_size zero h g = omega arith
-    lines_size (suc i) h g =
-        omega (
-          arith,
-          length-append (truck_lines ts i) (truck_line i (truck ts i)),
-          lines_size i (omega arith) (λ j lj. g j (omega arith)),
-          line_size i (truck ts i) (g i (omega arith)),
-          number_size i (omega arith),
-          suc-mul i (47 + 3 * m),
-        )
-
-    -- the last line of such trucks, whose sums have w + 1 digits
-    totals_size : (w n : ℕ) → n * ((R + 1) / 2) < 10 ^ suc w → ((i : ℕ) → i < n → Good two_round R (truck ts i)) → length (totals_line ts n) ≤ 16 + 2 * w
-    unfolding totals_line
-    totals_size w n h g =
-        let p = sum_below (λ i. (truck ts i).sent.proposals) n in
-        let v = sum_below (λ i. (truck ts i).sent.vetoes) n in
-        let lf : length (text "\n") ≡ 1 = refl in
-        let c : (i : ℕ) → i < n → ((truck ts i).sent.proposals ≤ (R + 1) / 2) × ((truck ts i).sent.vetoes ≤ R / 2) = λ i li. counts_parts R (truck ts i).sent (g i li).counts in
-        let mp : p ≤ (R + 1) / 2 * n = sum_most (λ i. (truck ts i).sent.proposals) ((R + 1) / 2) n (λ i li. (c i li).0) in
-        let mv : v ≤ (R + 1) / 2 * n = sum_most (λ i. (truck ts i).sent.vetoes) ((R + 1) / 2) n (λ i li. omega (arith, (c i li).1)) in
-        omega (arith, length-append (sent_text p v) (text "\n"), sent_size w p v (omega (arith, mul_comm n ((R + 1) / 2))) (omega (arith, mul_comm n ((R + 1) / 2))))
-
--- a listing, by the digits of n, of the rounds done and of the sums
-pub fleet_size : (d m w : ℕ) (f : Fleet) → f.n < 10 ^ suc d → f.done < 10 ^ suc m → f.n * ((f.done + 1) / 2) < 10 ^ suc w → f.n ≤ 100
-    → ((i : ℕ) → i < f.n → Good two_round f.done (truck f.trucks i))
-    → length (listing_of f) ≤ 34 + d + m + 2 * w + f.n * (47 + 3 * m) + (f.n - 10)
+fleet_size : (f : Fleet) → f.n ≤ 32 → f.done ≤ 400 → ((i : ℕ) → i < f.n → Good two_round f.done (truck f.trucks i))
+    → length (listing_of f) ≤ longest_listing
 unfolding listing_of
-fleet_size d m w f ln ld ls h g =
+fleet_size f h l g =
     let la : length (text "trucks ") ≡ 7 = refl in
     let lc : length (text " rounds ") ≡ 8 = refl in
     let le : length (text "\n") ≡ 1 = refl in
@@ -181,30 +181,19 @@ fleet_size d m w f ln ld ls h g =
       arith,
       six_parts (text "trucks ") (decimal f.n) (text " rounds ") (decimal f.done) (text "\n") (truck_lines f.trucks f.n),
       length-append a (totals_line f.trucks f.n),
-      digits d f.n ln,
-      digits m f.done ld,
-      lines_size m f.done ld f.trucks f.n h g,
-      totals_size m f.done ld f.trucks w f.n ls g,
+      digits 1 f.n (let o : f.n < 10 ^ 2 = omega arith in o),
+      round_size f.done l,
+      lines_size f.done l f.trucks f.n h g,
+      totals_size f.done l f.trucks f.n h g,
     )
 
--- of an accepted run
-module _ (s : List ℕ) (h : check_of s ≡ Accepted) where
-  pub run_size : (d m w : ℕ) → trucks_of s < 10 ^ suc d → rounds_of s < 10 ^ suc m → trucks_of s * ((rounds_of s + 1) / 2) < 10 ^ suc w
-      → length (listing_of (ran s).fleet) ≤ 34 + d + m + 2 * w + trucks_of s * (47 + 3 * m) + (trucks_of s - 10)
-  unfolding fleet_in
-  run_size d m w ln ld ls =
-      rw (ran-fleet two_round s h) (fleet_size d m w (fleet_at (trucks_of s) (openings_of s) (round_at s) (rounds_of s)) ln ld ls (omega (arith, (bytes_good s h).frame.most)) (λ i l. good i l))
-    where
-      good : (i : ℕ) → i < trucks_of s → Good two_round (rounds_of s) (truck (fleet_at (trucks_of s) (openings_of s) (round_at s) (rounds_of s)).trucks i)
-      good i l = subst (λ (f : Fleet). Good two_round (rounds_of s) (truck f.trucks i)) (ran-fleet two_round s h) (ran-good two_round s sound_two h i l)
-
-  pub listing_size : length (listing_of (ran s).fleet) ≤ longest_listing
-  listing_size =
-      let b = (bytes_good s h).frame in
-      let n : trucks_of s ≤ 32 = b.most in
-      let R : rounds_of s ≤ 400 = b.rounds in
-      let sums : trucks_of s * ((rounds_of s + 1) / 2) ≤ 32 * 200 = mul-le-mul n (let half : (rounds_of s + 1) / 2 ≤ 200 = omega arith in half) in
-      omega (arith, run_size 1 2 3 (omega arith) (omega arith) (omega arith))
+-- the listing of an accepted run
+pub listing_size : (s : List ℕ) → check_of s ≡ Accepted → length (listing_of (ran s).fleet) ≤ longest_listing
+unfolding fleet_in
+listing_size s h =
+    let b = (bytes_good s h).frame in
+    fleet_size (ran s).fleet (rw (ran-fleet two_round s h) b.most) (rw (ran-fleet two_round s h) b.rounds)
+    (λ i l. rw (ap (λ (f : Fleet). f.done) (ran-fleet two_round s h)) (ran-good two_round s sound_two h i (subst (λ (f : Fleet). i < f.n) (ran-fleet two_round s h) l)))
 
 -- a round within the limits and a truck below 32
 location_size : (round truck : ℕ) → round ≤ 400 → truck < 32 → length (location_text (At round truck)) ≤ 19
@@ -218,7 +207,7 @@ location_size round truck h l =
       length-append (text " round ") (decimal round),
       length-append a (text " truck "),
       length-append (a ++ text " truck ") (decimal truck),
-      digits 2 round (let o : round < 10 ^ 3 = omega arith in o),
+      round_size round h,
       digits 1 truck (let o : truck < 10 ^ 2 = omega arith in o),
     )
 

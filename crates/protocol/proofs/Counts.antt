@@ -12,7 +12,7 @@ use Rattle.basics.specs.Lists.{who}
 use Rattle.basics.proofs.Laws.{and_right}
 use Rattle.radio.specs.Round.{stop_bit, active_bit}
 use Rattle.radio.specs.Radio.{Radio, times_sent}
-use Rattle.radio.proofs.Laws.{count-suc, times_none, times-suc}
+use Rattle.radio.proofs.Laws.{count-suc, times_none, times_suc}
 use Rattle.protocol.specs.declared.Sent.{Sent}
 use Rattle.protocol.specs.declared.Truck.{Truck}
 use Rattle.protocol.specs.declared.Fleet.{Fleet}
@@ -92,7 +92,7 @@ module _ (n : ℕ) (openings : List ℕ) (rounds : ℕ → List ℕ) (R : ℕ) (
           ap (λ (r : Radio). counted (kind (suc k) && r.sends i) c) (sym (radio-suc two_rules n openings rounds k))
           ∙ more (kind (suc k) && (radio_at n openings rounds (suc k)).sends i) c
           ∙ ap (λ (x : ℕ). x + cond (kind (suc k) && (radio_at n openings rounds (suc k)).sends i) 1 0) e
-          ∙ sym (times-suc kind (radio_at n openings rounds) i k)
+          ∙ sym (times_suc kind (radio_at n openings rounds) i k)
 
 -- after any list of steps and any run each count is the number of rounds of its kind in which the truck sends
 pub sent-counts : SentCounts

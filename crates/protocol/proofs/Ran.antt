@@ -2,7 +2,7 @@
 -- largest recording change nothing; and grading by number and values.
 use mathlib.Core.Path.{◌≡◌, refl, ap, ◌∙◌}
 use mathlib.Core.List.{List, [], ◌∷◌}
-use mathlib.Core.Logic.{◌⊎◌, ⊎_elim}
+use mathlib.Core.Logic.{⊎_elim}
 use Prim.Native.Nat.{ℕ, ◌≤◌, ◌<◌}
 use native.Mathlib.Omega.{arith}
 use lib.ListN.{take}
@@ -48,18 +48,17 @@ refused-same : (o : Outcome) (f g : Fleet) → (o ≡ Accepted → ⊥) → answ
 refused-same Accepted f g h = absurd (h refl)
 refused-same (Refused r) f g h = refl
 
--- so by any check that refuses the first m bytes of an input for what it refuses the whole of it for, both run to the same
-pub answer_cut : (check : List ℕ → Outcome) (at : List ℕ → Fleet) (s : List ℕ) (m : ℕ)
-    → (take m s ≡ s) ⊎ ((check (take m s) ≡ check s) × (check s ≡ Accepted → ⊥)) → answer (check (take m s)) (at (take m s)) blank ≡ answer (check s) (at s) blank
-answer_cut check at s m =
-    ⊎_elim (λ (e : take m s ≡ s). ap (λ (l : List ℕ). answer (check l) (at l) blank) e)
-    (λ (c : (check (take m s) ≡ check s) × (check s ≡ Accepted → ⊥)).
-    ap (λ (o : Outcome). answer o (at (take m s)) blank) c.0 ∙ refused-same (check s) (at (take m s)) (at s) c.1)
-
 -- the first m bytes of an input run to what the whole of it runs to, where m is above the largest recording
 pub ran_cut : (p : Protocol) (s : List ℕ) (m : ℕ) → largest_recording < m → ran_in p (take m s) ≡ ran_in p s
 unfolding ran_in
-ran_cut p s m h = answer_cut check_of (λ s. fleet_in p (trucks_of s) (openings_of s) (round_at s) (rounds_of s)) s m (check_cut s m h)
+ran_cut p s m h =
+    ⊎_elim (λ (e : take m s ≡ s). ap (ran_in p) e)
+    (λ (c : (check_of (take m s) ≡ check_of s) × (check_of s ≡ Accepted → ⊥)).
+    ap (λ (o : Outcome). answer o (at (take m s)) blank) c.0 ∙ refused-same (check_of s) (at (take m s)) (at s) c.1)
+    (check_cut s m h)
+  where
+    at : List ℕ → Fleet
+    at s = fleet_in p (trucks_of s) (openings_of s) (round_at s) (rounds_of s)
 
 -- the answer of grading, by document 01's number and values
 pub grade_answer_lem : (p : Protocol) (s : List ℕ)

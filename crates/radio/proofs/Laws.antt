@@ -30,10 +30,10 @@ pub times_none : (kind : ℕ → Bool) (radios : ℕ → Radio) (i : ℕ) → ti
 unfolding times_sent who
 times_none kind radios i = refl
 
-pub times-suc : (kind : ℕ → Bool) (radios : ℕ → Radio) (i R : ℕ)
+pub times_suc : (kind : ℕ → Bool) (radios : ℕ → Radio) (i R : ℕ)
     → times_sent kind radios i (suc R) ≡ times_sent kind radios i R + cond (kind (suc R) && (radios (suc R)).sends i) 1 0
 unfolding times_sent
-times-suc kind radios i R = count-suc (λ e. kind (suc e) && (radios (suc e)).sends i) R
+times_suc kind radios i R = count-suc (λ e. kind (suc e) && (radios (suc e)).sends i) R
 
 -- two sets within s with no common element have sizes that add up to at most that of s
 overlap : (p q s : ℕ → Bool) (m : ℕ)

@@ -63,11 +63,11 @@ module _ (s : List ℕ) (m : ℕ) (l : 1 < m) where
   unfolding bit_at
   bit_cut p h = ap (λ (b : ℕ). digit b (7 - p % 8)) (get_or-take m s (p / 8) 0 (let o : p / 8 < m = omega arith in o))
 
-  pub trucks_cut : trucks_of (take m s) ≡ trucks_of s
+  trucks_cut : trucks_of (take m s) ≡ trucks_of s
   unfolding trucks_of
   trucks_cut = num_at_ext (bit_at (take m s)) (bit_at s) 0 0 6 (λ i h. bit_cut (0 + i) (omega arith))
 
-  pub rounds_cut : rounds_of (take m s) ≡ rounds_of s
+  rounds_cut : rounds_of (take m s) ≡ rounds_of s
   unfolding rounds_of
   rounds_cut = num_at_ext (bit_at (take m s)) (bit_at s) 6 6 10 (λ i h. bit_cut (6 + i) (omega arith))
 

@@ -1,4 +1,4 @@
--- What holds of every refusal, one clause for each: its number is one of the papers', with what it names it tells which refusal it is, and 6 alone names a place.
+-- What holds of every refusal, one clause for each: its number is one of document 01's, with what it names it tells which refusal it is, and 6 alone names a place.
 use mathlib.Core.Path.{◌≡◌, refl}
 use mathlib.Core.Bool.{cond}
 use mathlib.Core.Logic.{◌⊎◌, inl, inr}
@@ -7,7 +7,7 @@ use native.Mathlib.Omega.{arith}
 use lib.Dec.{eqb}
 use Rattle.refusals.specs.declared.Refusal.{Refusal}
 use Rattle.refusals.specs.declared.Refusal.TheVariants.{ShortRecording, TruckCount, RoundCount, RecordingLength, EndBit, OwnLoss, Record}
-use Rattle.refusals.specs.declared.Refusal.TheVariants.{PlainRound, ShortBuffer, RoadLists, Seconds, NoTime, AllIdle, RoundsDone, PanelTruckCount, PanelRoundCount}
+use Rattle.refusals.specs.declared.Refusal.TheVariants.{PlainRound, ShortBuffer, RoadLists, Seconds, NoTime, AllIdle, RoundsDone}
 use Rattle.refusals.specs.declared.Location.{Location}
 use Rattle.refusals.specs.declared.Location.TheVariants.{Unnamed, At}
 use Rattle.refusals.specs.Numbers.{number_of}
@@ -33,12 +33,10 @@ refusal_of k p =
     (cond (eqb k 11) Seconds
     (cond (eqb k 12) NoTime
     (cond (eqb k 13) AllIdle
-    (cond (eqb k 14) RoundsDone
-    (cond (eqb k 17) PanelTruckCount
-    PanelRoundCount))))))))))))))
+    RoundsDone))))))))))))
 
 pub record Listed (r : Refusal) : Type 0 where
-  pub range : (1 ≤ number_of r) × (number_of r ≤ 18)
+  pub range : (1 ≤ number_of r) × (number_of r ≤ 14)
   pub back : refusal_of (number_of r) (location_of r) ≡ r
   pub place : (location_of r ≡ Unnamed) ⊎ ((round : ℕ) × (truck : ℕ) × (r ≡ OwnLoss round truck))
 
@@ -57,5 +55,3 @@ listed Seconds = record { range = (omega arith, omega arith); back = refl; place
 listed NoTime = record { range = (omega arith, omega arith); back = refl; place = inl refl }
 listed AllIdle = record { range = (omega arith, omega arith); back = refl; place = inl refl }
 listed RoundsDone = record { range = (omega arith, omega arith); back = refl; place = inl refl }
-listed PanelTruckCount = record { range = (omega arith, omega arith); back = refl; place = inl refl }
-listed PanelRoundCount = record { range = (omega arith, omega arith); back = refl; place = inl refl }

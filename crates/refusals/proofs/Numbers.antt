@@ -1,4 +1,4 @@
--- The papers number the refusals from 1 to 18, each differently.
+-- Document 01 numbers its refusals from 1 to 14, each differently.
 use mathlib.Core.Path.{◌≡◌, refl, ap₂, sym, ◌∙◌}
 use Prim.Native.Nat.{◌≤◌}
 use native.Mathlib.Omega.{arith}
@@ -9,7 +9,7 @@ use Rattle.refusals.specs.declared.Outcome.{Outcome}
 use Rattle.refusals.specs.declared.Outcome.TheVariants.{Accepted, Refused}
 use Rattle.refusals.proofs.Listed.{refusal_of, listed}
 
-pub number_range : (r : Refusal) → (1 ≤ number_of r) × (number_of r ≤ 18)
+pub number_range : (r : Refusal) → (1 ≤ number_of r) × (number_of r ≤ 14)
 number_range r = (listed r).range
 
 -- so 0 stands for no refusal

@@ -2,7 +2,7 @@
 use Rattle.std.specs.Prelude.{ℕ, ◌+◌, ◌*◌}
 use Rattle.refusals.specs.declared.Refusal.{Refusal}
 use Rattle.refusals.specs.declared.Refusal.TheVariants.{ShortRecording, TruckCount, RoundCount, RecordingLength, EndBit, OwnLoss, Record}
-use Rattle.refusals.specs.declared.Refusal.TheVariants.{PlainRound, ShortBuffer, RoadLists, Seconds, NoTime, AllIdle, RoundsDone, PanelTruckCount, PanelRoundCount}
+use Rattle.refusals.specs.declared.Refusal.TheVariants.{PlainRound, ShortBuffer, RoadLists, Seconds, NoTime, AllIdle, RoundsDone}
 use Rattle.refusals.specs.declared.Outcome.{Outcome}
 use Rattle.refusals.specs.declared.Outcome.TheVariants.{Accepted, Refused}
 use Rattle.refusals.specs.declared.Location.{Location}
@@ -23,8 +23,6 @@ location_of Seconds = Unnamed
 location_of NoTime = Unnamed
 location_of AllIdle = Unnamed
 location_of RoundsDone = Unnamed
-location_of PanelTruckCount = Unnamed
-location_of PanelRoundCount = Unnamed
 
 -- of an outcome: nothing where it is no refusal
 abbrev pub outcome_location : Outcome → Location

@@ -1,8 +1,8 @@
--- The refusals of document 01, 'Who can cause which refusal', and of document 02, and their numbers there.
+-- The refusals of document 01, 'Who can cause which refusal', and their numbers there.
 use Rattle.std.specs.Prelude.{ℕ, Bool, true, false, List, []}
 use Rattle.refusals.specs.declared.Refusal.{Refusal}
 use Rattle.refusals.specs.declared.Refusal.TheVariants.{ShortRecording, TruckCount, RoundCount, RecordingLength, EndBit, OwnLoss, Record}
-use Rattle.refusals.specs.declared.Refusal.TheVariants.{PlainRound, ShortBuffer, RoadLists, Seconds, NoTime, AllIdle, RoundsDone, PanelTruckCount, PanelRoundCount}
+use Rattle.refusals.specs.declared.Refusal.TheVariants.{PlainRound, ShortBuffer, RoadLists, Seconds, NoTime, AllIdle, RoundsDone}
 use Rattle.refusals.specs.declared.Outcome.{Outcome}
 use Rattle.refusals.specs.declared.Outcome.TheVariants.{Accepted, Refused}
 
@@ -35,10 +35,6 @@ number_of NoTime = 12
 number_of AllIdle = 13
 -- a step with 400 rounds already done
 number_of RoundsDone = 14
--- more than 8 trucks, which the panel does not take (document 02, F-10)
-number_of PanelTruckCount = 17
--- more than 60 rounds, which the panel does not take (F-10)
-number_of PanelRoundCount = 18
 
 -- the number that stands for an outcome: 0 is no refusal
 abbrev pub outcome_number : Outcome → ℕ

@@ -1,4 +1,4 @@
-// Why an input is refused. The papers number these conditions; `number_of` in specs/ holds their numbers.
+// Why an input is refused. Document 01 numbers these conditions; `number_of` in specs/ holds its numbers.
 #![tactic(auto)]
 
 ghost use Rattle.std.specs.Prelude.{◌≡◌};
@@ -26,9 +26,6 @@ pub enum Refusal {
     AllIdle,
     // The unit's own software again: document 01 numbers it last.
     RoundsDone,
-    // Whoever made the recording, where the panel is asked for its run.
-    PanelTruckCount,
-    PanelRoundCount,
 }
 
 // Where in a recording the cause of a refusal stands, of a refusal that names it.
@@ -45,7 +42,7 @@ pub enum Outcome {
     Refused(Refusal),
 }
 
-// The number under which the papers list the refusal.
+// The number under which document 01 lists the refusal.
 pub fn number(r: Refusal) -> u8
     ensures { result ≡ number_of r }
 {
@@ -67,8 +64,6 @@ pub fn number(r: Refusal) -> u8
         Refusal::NoTime => 12,
         Refusal::AllIdle => 13,
         Refusal::RoundsDone => 14,
-        Refusal::PanelTruckCount => 17,
-        Refusal::PanelRoundCount => 18,
     }
 }
 

@@ -6,9 +6,8 @@ ghost use Rattle.listing.specs.Text.{printed, refusal_text};
 ghost use Rattle.listing.specs.Program.{longest_listing, input_limit};
 ghost use Rattle.replay.specs.Input.{bytes_read};
 
-use std::io::{Print, Read};
-
 use listing::Listed;
+use std::io::{Print, Read};
 
 // Standard input as it was read: so many bytes of the buffer, or a read that failed.
 #[derive(Clone, Copy)]

@@ -239,12 +239,6 @@ pub fn six() -> Vec<Input> {
     all
 }
 
-/// A largest recording that the panel takes, in which nobody stops or decides.
-pub fn panel() -> Input {
-    let plain = busy(TwoRound, 10, 8, 60);
-    Input { what: size(&plain), bytes: gen::bytes_of(&plain) }
-}
-
 /// The first two rounds of a fleet in which all trucks send in both.
 fn two_steps(n: usize) -> [Step; 2] {
     let mut rng = Rng::new(6);

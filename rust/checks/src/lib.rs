@@ -34,28 +34,6 @@ pub fn list(bytes: &[u8], text: &mut [u8], written: &mut usize) -> u32 {
     }
 }
 
-pub fn panel_list(bytes: &[u8], text: &mut [u8], written: &mut usize) -> u32 {
-    // SAFETY: the recording is borrowed for reading, the text and the number each for writing, so that no two overlap; each is
-    // valid for its length.
-    unsafe {
-        sys::rajvokshul_panel_list(
-            bytes.as_ptr(),
-            bytes.len(),
-            text.as_mut_ptr(),
-            text.len(),
-            written,
-        )
-    }
-}
-
-pub fn panel_run(bytes: &[u8], record: &mut [u8]) -> u32 {
-    // SAFETY: the recording is borrowed for reading and the record for writing, so that they do not overlap; each is valid for
-    // its length.
-    unsafe {
-        sys::rajvokshul_panel_run(bytes.as_ptr(), bytes.len(), record.as_mut_ptr(), record.len())
-    }
-}
-
 /// By the call of the cycle.
 #[inline]
 pub fn run(cycle: Cycle, bytes: &[u8], record: &mut [u8]) -> u32 {

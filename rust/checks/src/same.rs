@@ -24,64 +24,6 @@ pub fn run(cycle: Cycle, bytes: &[u8]) -> u32 {
     number
 }
 
-/// Both calls of the panel on any bytes, accepted or not, in buffers that are longer than what is written, as long, and a byte
-/// too short; and beside them the desk's calls. The number answered.
-pub fn panel(bytes: &[u8]) -> u32 {
-    let number = panel_run(bytes);
-    panel_list(bytes, number);
-    // The panel answers as the desk does, but for what it refuses beyond that.
-    if number != 17 && number != 18 {
-        let mut record = [FILL; RECORD];
-        assert_eq!(crate::run(Cycle::TwoRound, bytes, &mut record), number);
-        let mut panel_record = [FILL; RECORD];
-        crate::panel_run(bytes, &mut panel_record);
-        assert_eq!(panel_record, record);
-        let (mut text, mut written) = ([FILL; 1_761], 77);
-        assert_eq!(crate::list(bytes, &mut text, &mut written), number);
-        let (mut panel_text, mut panel_written) = ([FILL; 1_761], 77);
-        crate::panel_list(bytes, &mut panel_text, &mut panel_written);
-        assert_eq!((panel_written, panel_text), (written, text));
-    }
-    // Where 6 is answered, the call that tells the place does so of the same bytes.
-    if number == 6 {
-        let own_bit = oracle::own_bit(bytes);
-        assert!(own_bit.is_some());
-        assert_eq!(crate::recording_own_loss(bytes), crate::own_loss_number(own_bit));
-    }
-    number
-}
-
-fn panel_run(bytes: &[u8]) -> u32 {
-    let (number, record) = oracle::panel::run(bytes);
-    let number = u32::from(number);
-    for room in [RECORD + 3, RECORD, RECORD - 1] {
-        let (mut expected, mut found) = (vec![FILL; room], vec![FILL; room]);
-        let answer = if number == 0 && room < RECORD { 9 } else { number };
-        if answer == 0 {
-            expected[..RECORD].copy_from_slice(&record_bytes(&record));
-        }
-        assert_eq!(crate::panel_run(bytes, &mut found), answer);
-        assert_eq!(found, expected);
-    }
-    number
-}
-
-fn panel_list(bytes: &[u8], number: u32) {
-    // Of a refused recording the text is the line for the refusal, which the call does not write.
-    let text = oracle::panel::listing(bytes);
-    for room in [text.len() + 3, text.len(), text.len() - 1] {
-        let (mut expected, mut found) = (vec![FILL; room], vec![FILL; room]);
-        let (mut length, mut written) = (77, 77);
-        let answer = if number == 0 && room < text.len() { 9 } else { number };
-        if answer == 0 {
-            expected[..text.len()].copy_from_slice(text.as_bytes());
-            length = text.len();
-        }
-        assert_eq!(crate::panel_list(bytes, &mut found, &mut written), answer);
-        assert_eq!((written, found), (length, expected));
-    }
-}
-
 /// Grading any bytes, accepted or not.
 pub fn grade(cycle: Cycle, bytes: &[u8]) {
     let mut grades = [999u16; 5];

@@ -78,22 +78,6 @@ fn measured_in_six_rounds() {
 }
 
 #[test]
-fn measured_on_the_panel() {
-    let input = inputs::panel();
-    assert_eq!(input.what, "8 trucks, 60 rounds");
-    let bytes = &input.bytes;
-    same(bytes);
-    assert_eq!((bytes.len(), same::panel(bytes)), (oracle::panel::LARGEST, 0));
-    assert_eq!(fast::panel_run(bytes), oracle::panel::run(bytes));
-    let expected = oracle::panel::listing(bytes);
-    for listing_into in [fast::listing_into, fast::panel_listing_into] {
-        let mut text = [0; oracle::panel::LONGEST];
-        let written = listing_into(bytes, &mut text).unwrap();
-        assert_eq!(&text[..written], expected.as_bytes());
-    }
-}
-
-#[test]
 fn measured_own_bit() {
     let bytes = inputs::own_bit_at_the_end().bytes;
     let named = oracle::own_bit(&bytes);

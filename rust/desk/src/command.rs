@@ -2,7 +2,7 @@
 
 use std::ffi::{OsStr, OsString};
 
-use rajvokshul::{grade_in, list, panel, Cycle, Grades, Refusal};
+use rajvokshul::{grade_in, list, Cycle, Grades};
 
 use crate::explain::explained;
 use crate::picture::picture;
@@ -25,8 +25,6 @@ pub const USAGE_TEXT: &str = "\
 usage: desk COMMAND [--cycle two|six] [FILE]
 
   desk list FILE       the trucks after the last round
-  desk list --panel FILE
-                       the same as the panel in the crusher hut shows it
   desk grade FILE      the first round that breaks each class of marks, or 0
   desk explain FILE    why a recording is refused, and where; or what it holds
   desk timeline FILE   every round in words, and a verdict
@@ -39,8 +37,7 @@ usage: desk COMMAND [--cycle two|six] [FILE]
 
 Without FILE, or with -, standard input is read. A recording does not say its
 cycle of rounds: with --cycle six grade, timeline, picture and record go by six
-(prepare, four bit rounds, accept), with --cycle two, as without, by two. The
-panel in the crusher hut takes up to 8 trucks and 60 rounds.
+(prepare, four bit rounds, accept), with --cycle two, as without, by two.
 Status: 0 done, 1 the recording, or a line to record, is refused, 2 usage,
 3 reading or writing failed, 4 the program contradicts itself.
 ";
@@ -86,18 +83,12 @@ impl View {
             View::List,
             "list",
             "\
-usage: desk list [--panel] [FILE]
+usage: desk list [FILE]
 
 Prints the numbers of trucks and rounds, then a line for each truck after the
 last round: its opening, its state, its crusher, the round of a decision or a
 stop, and how many proposals and vetoes it sent. The last line has how many all
 of them sent. This is the proved listing, which is for the two-round cycle.
-
-With --panel it prints what the panel in the crusher hut shows of the recording.
-The panel takes up to 8 trucks and 60 rounds, and lists them alike. Of any other
-recording it shows one line: refused 17 for more than 8 trucks, refused 18 for
-more than 60 rounds, or the number of what else is wrong, such as refused 4 or
-refused 6 round 1 truck 0. Then standard error has the reason in words.
 ",
         ),
         (
@@ -179,8 +170,6 @@ pub enum Request {
     Say(&'static str),
     /// A view of a recording in a cycle, from a file or from standard input.
     Show(View, Cycle, Option<OsString>),
-    /// What the panel shows of a recording, from a file or from standard input.
-    Panel(Option<OsString>),
     /// The recording of a text, stepped in a cycle, from a file or from standard input.
     Record(Cycle, Option<OsString>),
 }
@@ -191,7 +180,6 @@ pub fn parse(arguments: &[OsString]) -> Result<Request, String> {
     let mut help = false;
     let mut version = false;
     let mut cycle = None;
-    let mut panel = false;
     let mut options = true;
     let mut arguments = arguments.iter();
     while let Some(argument) = arguments.next() {
@@ -203,8 +191,6 @@ pub fn parse(arguments: &[OsString]) -> Result<Request, String> {
                 return Err("--cycle is there twice".to_string())
             }
             Some("--cycle") if options => cycle = Some(cycle_named(arguments.next())?),
-            Some("--panel") if options && panel => return Err("--panel is there twice".to_string()),
-            Some("--panel") if options => panel = true,
             _ if options && is_option(argument) => return Err(format!("no option {argument:?}")),
             _ => words.push(argument),
         }
@@ -217,25 +203,15 @@ pub fn parse(arguments: &[OsString]) -> Result<Request, String> {
         [name] if *name == "help" => Ok(Request::Say(USAGE_TEXT)),
         [name, about] if *name == "help" => help_on(about),
         [name, ..] if help => help_on(name),
-        [name, ..] if panel && *name == "record" => Err(no_panel(name)),
         [name, rest @ ..] if *name == "record" => Ok(Request::Record(cycle, one_file(rest)?)),
         [name, rest @ ..] => {
             let (view, _) = View::named(name).ok_or_else(|| format!("no command {name:?}"))?;
-            if panel && view != View::List {
-                return Err(no_panel(name));
-            }
             if let (Cycle::SixRound, Some(why)) = (cycle, view.only_two()) {
                 return Err(format!("no --cycle six with {name:?}: {why}"));
             }
-            let file = one_file(rest)?;
-            Ok(if panel { Request::Panel(file) } else { Request::Show(view, cycle, file) })
+            Ok(Request::Show(view, cycle, one_file(rest)?))
         }
     }
-}
-
-/// Why a command does not go with `--panel`.
-fn no_panel(name: &OsStr) -> String {
-    format!("no --panel with {name:?}: the panel lists runs and does nothing else")
 }
 
 /// The cycle that the word after `--cycle` names.
@@ -285,8 +261,6 @@ pub struct Answer {
 impl From<Failure> for Answer {
     fn from(failure: Failure) -> Answer {
         let (status, more) = match failure {
-            // To the desk nothing is wrong with these.
-            Failure::Refused(Refusal::PanelTruckCount | Refusal::PanelRoundCount) => (REFUSED, ""),
             Failure::Refused(_) => (REFUSED, " (desk explain says where)"),
             Failure::Contradiction(_) => (CONTRADICTED, ""),
         };
@@ -298,21 +272,6 @@ impl From<Failure> for Answer {
 pub fn answer(view: View, cycle: Cycle, recording: &[u8]) -> Answer {
     shown(view, cycle, recording).unwrap_or_else(Answer::from)
 }
-
-/// What the panel in the crusher hut shows of a recording: the listing, or the line of a refusal, of which the reason in words is
-/// for standard error.
-pub fn panel_answer(recording: &[u8]) -> Answer {
-    match panel::list(recording) {
-        Ok(out) => Answer { out, err: String::new(), status: DONE },
-        Err(refusal) => {
-            let out = format!("{}\n", refusal.line());
-            Answer { out, ..Answer::from(Failure::Refused(refusal)) }
-        }
-    }
-}
-
-/// More of an input than this the panel never reads: one byte more than its largest recording has settles that it is too long.
-pub const MOST_READ_BY_PANEL: usize = panel::MAX_RECORDING + 1;
 
 fn shown(view: View, cycle: Cycle, recording: &[u8]) -> Result<Answer, Failure> {
     let mut status = DONE;

@@ -1,6 +1,5 @@
 //! A dispatcher's view of a recording: what each truck sent, heard, missed and came to in each round, why a recording is
-//! refused, what the panel in the crusher hut shows of it, and a picture of the whole run; and a recording made from lines of
-//! text.
+//! refused, and a picture of the whole run; and a recording made from lines of text.
 //!
 //! Verdicts on a recording come from the proved library (`rajvokshul`). What it does not answer, such as who missed whom,
 //! is derived here from the plain form of the recording, and [`story::tell`] answers a contradiction wherever the

@@ -8,10 +8,7 @@ use std::fs::File;
 use std::io::{self, ErrorKind, Read, Write};
 use std::process::ExitCode;
 
-use desk::command::{
-    answer, panel_answer, parse, Answer, Request, DONE, FAILED, MOST_READ_BY_PANEL, REFUSED, USAGE,
-    USAGE_TEXT,
-};
+use desk::command::{answer, parse, Request, DONE, FAILED, REFUSED, USAGE, USAGE_TEXT};
 use desk::explain::MOST_READ;
 use desk::record::{recorded_in, MOST_TEXT};
 
@@ -25,11 +22,13 @@ fn main() -> ExitCode {
         Ok(Request::Say(text)) => print(text.as_bytes(), DONE),
         Ok(Request::Show(view, cycle, file)) => match input(file.as_deref(), MOST_READ) {
             None => FAILED,
-            Some(bytes) => show(&answer(view, cycle, &bytes)),
-        },
-        Ok(Request::Panel(file)) => match input(file.as_deref(), MOST_READ_BY_PANEL) {
-            None => FAILED,
-            Some(bytes) => show(&panel_answer(&bytes)),
+            Some(bytes) => {
+                let shown = answer(view, cycle, &bytes);
+                if !shown.err.is_empty() {
+                    complain(&shown.err);
+                }
+                print(shown.out.as_bytes(), shown.status)
+            }
         },
         Ok(Request::Record(cycle, file)) => match input(file.as_deref(), MOST_TEXT + 1) {
             None => FAILED,
@@ -60,15 +59,6 @@ fn input(file: Option<&OsStr>, most: usize) -> Option<Vec<u8>> {
         return None;
     }
     Some(bytes)
-}
-
-/// Prints an answer on both streams, and answers the status to end with.
-fn show(shown: &Answer) -> u8 {
-    let status = print(shown.out.as_bytes(), shown.status);
-    if !shown.err.is_empty() {
-        complain(&shown.err);
-    }
-    status
 }
 
 /// Prints bytes and answers the status to end with. A reader that has gone away needs no message.

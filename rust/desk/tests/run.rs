@@ -5,7 +5,7 @@ use std::io::Write;
 use std::path::PathBuf;
 use std::process::{Command, Output, Stdio};
 
-use desk::command::{answer, panel_answer, Answer, View};
+use desk::command::{answer, Answer, View};
 use desk::story::Failure;
 use oracle::gen::{self, Rng, FULL, TINY};
 use oracle::Cycle::TwoRound;
@@ -115,159 +115,6 @@ fn a_wrong_cycle_is_usage() {
     assert_eq!(run(&["grade", "--", "--cycle"]).2, 3);
 }
 
-/// A recording of n trucks and so many rounds in which all bits after these numbers are 0, of the length that they fix.
-fn zeros(n: usize, rounds: usize) -> Vec<u8> {
-    let mut bytes = vec![0; (16 + 4 * n + rounds * n * (3 + n)).div_ceil(8)];
-    bytes[0] = (n << 2 | rounds >> 8) as u8;
-    bytes[1] = rounds as u8;
-    bytes
-}
-
-#[test]
-fn the_panel_lists_as_the_desk_does() {
-    let listed = (LISTING.to_string(), String::new(), 0);
-    let path = file("c1-panel", &C1);
-    let path = path.to_str().unwrap();
-    for arguments in [
-        &["list", "--panel"][..],
-        &["--panel", "list", "-"],
-        &["list", "--panel", path],
-        &["list", path, "--panel"],
-        &["list", "--panel", "--", path],
-        &["list", "--panel", "--cycle", "two"],
-    ] {
-        assert_eq!(said(fed(arguments, &C1)), listed, "{arguments:?}");
-    }
-    for (n, rounds) in [(1, 0), (8, 0), (1, 60), (8, 60)] {
-        let recording = zeros(n, rounds);
-        let listed = said(fed(&["list", "--panel"], &recording));
-        assert_eq!(listed, said(fed(&["list"], &recording)));
-        assert!(listed.0.starts_with(&format!("trucks {n} rounds {rounds}\n")) && listed.2 == 0);
-    }
-}
-
-#[test]
-fn the_panel_refuses_with_its_own_numbers() {
-    for (recording, number, words) in [
-        (zeros(9, 0), 17, "the number of trucks is above 8, the most that the panel takes"),
-        (zeros(32, 400), 17, "the number of trucks is above 8, the most that the panel takes"),
-        (zeros(8, 61), 18, "the number of rounds is above 60, the most that the panel takes"),
-        (zeros(1, 400), 18, "the number of rounds is above 60, the most that the panel takes"),
-    ] {
-        let out = format!("refused {number}\n");
-        let err = format!("desk: refused {number}: {words}\n");
-        assert_eq!(said(fed(&["list", "--panel"], &recording)), (out, err, 1));
-        assert_eq!(said(fed(&["list"], &recording)).2, 0);
-    }
-    // 9 trucks come before 401 rounds, and 401 rounds, which nobody takes, before 61
-    for (recording, line) in [(zeros(9, 401), "refused 17\n"), (zeros(8, 401), "refused 3\n")] {
-        let (out, err, status) = said(fed(&["list", "--panel"], &recording));
-        assert_eq!((out.as_str(), status), (line, 1));
-        assert!(err.starts_with(&format!("desk: {}: ", line.trim_end())), "{err}");
-    }
-}
-
-#[test]
-fn the_panel_refuses_as_the_desk_does() {
-    let mut own = zeros(8, 60);
-    // the own loss bit of truck 7 in round 60 is the last of all
-    own[665] |= 1;
-    for (recording, line) in [
-        (vec![], "refused 1"),
-        (zeros(33, 0), "refused 2"),
-        (zeros(1, 401), "refused 3"),
-        (C1[..7].to_vec(), "refused 4"),
-        (vec![0x08, 0x02, 0x35, 0x31, 0x80, 0x01], "refused 5"),
-        (vec![0x08, 0x02, 0x35, 0x33, 0x80, 0x00], "refused 6 round 1 truck 0"),
-        (own, "refused 6 round 60 truck 7"),
-    ] {
-        let (out, err, status) = said(fed(&["list", "--panel"], &recording));
-        assert_eq!((out, status), (format!("{line}\n"), 1));
-        assert!(err.starts_with(&format!("desk: {line}: ")), "{err}");
-        assert!(err.ends_with(" (desk explain says where)\n"), "{err}");
-        // The desk says the same on standard error, and nothing on standard output.
-        assert_eq!(said(fed(&["list"], &recording)), (String::new(), err, 1));
-        assert!(said(fed(&["explain"], &recording)).0.starts_with(&format!("{line}: ")));
-    }
-}
-
-#[test]
-fn the_panel_does_nothing_else() {
-    let why = "the panel lists runs and does nothing else";
-    for command in ["grade", "explain", "timeline", "picture", "record"] {
-        let complaint = format!("desk: no --panel with {command:?}: {why}\nusage: desk ");
-        for arguments in [
-            &[command, "--panel"][..],
-            &["--panel", command, "-"],
-            &[command, "--panel", "--cycle", "six"],
-        ] {
-            let (out, err, status) = said(fed(arguments, &C1));
-            assert_eq!((out.as_str(), status), ("", 2), "{arguments:?}");
-            assert!(err.starts_with(&complaint), "{err}");
-        }
-    }
-    for (arguments, complaint) in [
-        (
-            &["list", "--panel", "--cycle", "six"][..],
-            "no --cycle six with \"list\": the proved listing is that of two rounds",
-        ),
-        (&["list", "--panel", "--panel"], "--panel is there twice"),
-        (&["--panel", "grade", "--panel"], "--panel is there twice"),
-        (&["--panel"], "no command"),
-        (&["draw", "--panel"], "no command \"draw\""),
-        (&["list", "--panel", "a", "b"], "one file at a time, but there is \"b\" too"),
-        (&["list", "--panels"], "no option \"--panels\""),
-    ] {
-        let (out, err, status) = run(arguments);
-        assert_eq!((out.as_str(), status), ("", 2), "{arguments:?}");
-        assert!(err.starts_with(&format!("desk: {complaint}\nusage: desk ")), "{err}");
-    }
-    // After -- it is a file's name.
-    let (out, err, status) = run(&["list", "--", "--panel"]);
-    assert_eq!((out.as_str(), status), ("", 3));
-    assert!(err.starts_with("desk: --panel: "), "{err}");
-}
-
-#[test]
-fn the_panel_does_not_take_a_longer_recording_for_its_first_part() {
-    for more in [1, 1_000, 2_000_000] {
-        let mut recording = zeros(8, 60);
-        assert_eq!(recording.len(), 666);
-        recording.resize(666 + more, 0);
-        let long = file(&format!("panel-and-{more}"), &recording);
-        for output in [
-            said(fed(&["list", "--panel"], &recording)),
-            run(&["list", "--panel", long.to_str().unwrap()]),
-        ] {
-            assert_eq!((output.0.as_str(), output.2), ("refused 4\n", 1));
-        }
-    }
-    // An input without end: the first two bytes are 0, so that there are no trucks.
-    assert_eq!(run(&["list", "--panel", "/dev/zero"]).0, "refused 2\n");
-}
-
-#[test]
-fn any_bytes_have_an_answer_on_the_panel() {
-    let mut rng = Rng::new(0xA176);
-    let mut met = std::collections::BTreeSet::new();
-    for faults in gen::panel_faults() {
-        for _ in 0..40 {
-            let bytes = gen::panel_recording(&mut rng, &faults);
-            let shown = panel_answer(&bytes);
-            assert_eq!(shown.out, oracle::panel::listing(&bytes));
-            let refusal = oracle::panel::check(&bytes).err().unwrap_or(0);
-            assert_eq!(shown.status, u8::from(refusal != 0));
-            assert_eq!(shown.err.is_empty(), refusal == 0);
-            assert_eq!(
-                shown.err.ends_with(" (desk explain says where)\n"),
-                ![0, 17, 18].contains(&refusal)
-            );
-            met.insert(refusal);
-        }
-    }
-    assert_eq!(met.len(), 9);
-}
-
 #[test]
 fn a_refused_recording_has_status_1() {
     for command in ["list", "grade", "timeline", "picture"] {
@@ -320,15 +167,7 @@ fn help_and_version() {
         let first = out.lines().next().unwrap();
         let two_alone = command == "list" || command == "explain";
         assert_eq!(first.contains(" [--cycle two|six] "), !two_alone, "{first}");
-        assert_eq!(first.contains(" [--panel] "), command == "list", "{first}");
-        assert_eq!(run(&["help", command, "--cycle", "six"]), (out.clone(), String::new(), 0));
-        assert_eq!(run(&["help", command, "--panel"]), (out, String::new(), 0));
-    }
-    // What the panel is, for whoever has not read of it.
-    for arguments in [&["--help"][..], &["help", "list"]] {
-        let words = run(arguments).0.split_whitespace().collect::<Vec<_>>().join(" ");
-        assert!(words.contains("the panel in the crusher hut"), "{words}");
-        assert!(words.contains("up to 8 trucks and 60 rounds"), "{words}");
+        assert_eq!(run(&["help", command, "--cycle", "six"]), (out, String::new(), 0));
     }
     let version = format!("desk {}\n", env!("CARGO_PKG_VERSION"));
     assert_eq!(run(&["--version"]), (version, String::new(), 0));
@@ -341,11 +180,7 @@ fn failed_reading_and_writing_have_status_3() {
     assert!(err.starts_with("desk: no-such-file: "), "{err}");
     assert_eq!(run(&["list", env!("CARGO_TARGET_TMPDIR")]).2, 3);
     let path = file("c1-full", &C1);
-    for arguments in [
-        &["list", path.to_str().unwrap()][..],
-        &["list", "--panel", path.to_str().unwrap()],
-        &["--help"],
-    ] {
+    for arguments in [&["list", path.to_str().unwrap()][..], &["--help"]] {
         let full = File::options().write(true).open("/dev/full").unwrap();
         let (_, err, status) = said(program().args(arguments).stdout(full).output().unwrap());
         assert!(err.starts_with("desk: standard output: "), "{err}");

@@ -4,8 +4,6 @@
 //! bits come off a recording in the order they are packed. Plain words have
 //! truck j at the bit worth 2 to the j; one is the other reversed.
 
-use std::io::{self, Write};
-
 use crate::bytes;
 use crate::cycle::{Cycle, RoundKind};
 use crate::fleet::{record_refused, Fleet, Heard, Sent, State, Truck, PLACES};
@@ -576,65 +574,6 @@ fn run_by<C: Course>(bytes: &[u8]) -> (u8, Fleet) {
         Ok(fleet) => (0, fleet),
         Err(refusal) => (refusal, Fleet::blank()),
     }
-}
-
-/// The listing of a recording in a lent buffer, and its length.
-pub fn listing_into(bytes: &[u8], buffer: &mut [u8]) -> Result<usize, u8> {
-    let fleet = play::<Play>(bytes, &mut NoJudge)?;
-    let mut text = [0; 1_761];
-    let mut rest = &mut text[..];
-    print(&fleet, &mut rest).expect("no listing is longer");
-    let length = 1_761 - rest.len();
-    if buffer.len() < length {
-        return Err(9);
-    }
-    buffer[..length].copy_from_slice(&text[..length]);
-    Ok(length)
-}
-
-fn print(fleet: &Fleet, text: &mut impl Write) -> io::Result<()> {
-    writeln!(text, "trucks {} rounds {}", fleet.n, fleet.done)?;
-    for (i, truck) in fleet.trucks_below_n().iter().enumerate() {
-        let Truck { opening, estimate, state, sent: Sent { proposals, vetoes }, .. } = truck;
-        write!(text, "{i} opened {opening} ")?;
-        match state {
-            State::Running => write!(text, "running {estimate}")?,
-            State::Stopped(round) => write!(text, "stopped {estimate} round {round}")?,
-            State::Decided(round) => write!(text, "decided {estimate} round {round}")?,
-        }
-        writeln!(text, " sent {proposals} vetoes {vetoes}")?;
-    }
-    let (proposals, vetoes) = fleet.totals();
-    writeln!(text, "sent {proposals} vetoes {vetoes}")
-}
-
-/// Refusals 1, 2, 17, 3 and 18 of the panel. What is left is the desk's.
-fn check_panel(bytes: &[u8]) -> Result<(), u8> {
-    let [first, second, ..] = *bytes else {
-        return Err(1);
-    };
-    let rounds = (first as usize & 3) << 8 | second as usize;
-    match first >> 2 {
-        0 | 33.. => Err(2),
-        9.. => Err(17),
-        _ if rounds > 400 => Err(3),
-        _ if rounds > 60 => Err(18),
-        _ => Ok(()),
-    }
-}
-
-/// Runs a recording for the panel.
-pub fn panel_run(bytes: &[u8]) -> (u8, Fleet) {
-    match check_panel(bytes) {
-        Ok(()) => run(bytes),
-        Err(refusal) => (refusal, Fleet::blank()),
-    }
-}
-
-/// The panel's listing in a lent buffer, and its length.
-pub fn panel_listing_into(bytes: &[u8], buffer: &mut [u8]) -> Result<usize, u8> {
-    check_panel(bytes)?;
-    listing_into(bytes, buffer)
 }
 
 /// Grades a recording.

@@ -6,9 +6,9 @@
 //! trucks one at a time, no masks. [`fast`] follows the same rules with masks
 //! and is a yardstick for speed. [`gen`] makes inputs from a fixed seed.
 //!
-//! A refusal is its number in the papers; where 6 finds an own loss bit is
-//! answered by functions of its own. Where an answer is a number beside a record,
-//! 0 stands for accepted.
+//! A refusal is its number in the paper, 1 to 14; where 6 finds an own loss bit
+//! is answered by functions of its own. Where an answer is a number beside a
+//! record, 0 stands for accepted.
 
 #![forbid(unsafe_code)]
 // Rules read best with plain indices and remainders.
@@ -22,7 +22,6 @@ pub mod gen;
 pub mod listing;
 pub mod lists;
 pub mod marks;
-pub mod panel;
 pub mod recording;
 pub mod roads;
 pub mod steps;

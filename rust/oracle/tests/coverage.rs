@@ -23,11 +23,10 @@ fn every_refusal_number_is_produced() {
         met.extend(write_into(w.n, w.rounds, &w.openings, &w.words, &mut buffer).err());
         let lists = gen::refused_roads(&mut rng, 10 + k % 4);
         met.extend(opening(&lists.lengths, &lists.metres, &lists.seconds).err());
-        met.insert(panel::run(&gen::panel_recording(&mut rng, &[17 + k % 2])).0);
     }
     met.extend(play(&gen::long_list(TwoRound, &mut rng, 4), |_| TwoRound).unwrap().0);
     met.remove(&0);
-    assert_eq!(met, (1..=14).chain([17, 18]).collect());
+    assert_eq!(met, (1..=14).collect());
 }
 
 /// Names of what happens to a running truck in a round.

@@ -14,32 +14,7 @@ fn same(bytes: &[u8]) -> u8 {
     assert_eq!(fast::own_bit(bytes), own_bit(bytes));
     assert_eq!(fast::grade(bytes), grade(TwoRound, bytes), "{bytes:02x?}");
     assert_eq!(fast::read(bytes), read(bytes));
-    assert_eq!(fast::panel_run(bytes), panel::run(bytes));
-    for room in [1_761, panel::LONGEST, 60] {
-        let [mut expected, mut found] = [vec![b'#'; room], vec![b'#'; room]];
-        let answer = listing_into(bytes, &mut expected);
-        assert_eq!((fast::listing_into(bytes, &mut found), &found), (answer, &expected));
-        let [mut expected, mut found] = [vec![b'#'; room], vec![b'#'; room]];
-        let answer = panel::listing_into(bytes, &mut expected);
-        assert_eq!((fast::panel_listing_into(bytes, &mut found), &found), (answer, &expected));
-    }
     simple.0
-}
-
-#[test]
-fn recordings_near_the_limits_of_the_panel() {
-    let mut rng = Rng::new(58);
-    for faults in gen::panel_faults() {
-        for _ in 0..20 {
-            // The largest ones are for the two counts, and take long to play.
-            let bytes = gen::panel_recording(&mut rng, &faults);
-            if bytes.len() < 2_000 {
-                same(&bytes);
-            } else {
-                assert_eq!(fast::panel_run(&bytes), panel::run(&bytes));
-            }
-        }
-    }
 }
 
 #[test]

@@ -1,7 +1,7 @@
 //! The exported functions of the proved library as they are, and the archive that has them; the crate `rajvokshul` is the safe
 //! form. `rajvokshul.h` declares the same functions for C and says more of each.
 //!
-//! Every function answers 0 or the number of the refusal, but for the three whose names end in `_own_loss`. On a
+//! Every function answers 0 or the number of the refusal, 1 to 14, but for the three whose names end in `_own_loss`. On a
 //! refusal nothing that was lent is changed.
 //!
 //! # Safety
@@ -82,22 +82,6 @@ extern "C" {
         words_len: usize,
         bytes: *mut u8,
         bytes_len: usize,
-        written: *mut usize,
-    ) -> u32;
-    /// Runs a recording of up to 8 trucks and 60 rounds, which is what the panel in the crusher hut takes, as `rajvokshul_run`
-    /// does. Refusals, in this order: 1, 2, 17, 3, 18, 4, 5, 6, 9.
-    pub fn rajvokshul_panel_run(
-        bytes: *const u8,
-        bytes_len: usize,
-        record: *mut u8,
-        record_len: usize,
-    ) -> u32;
-    /// Lists such a recording as `rajvokshul_list` does, with the same refusals.
-    pub fn rajvokshul_panel_list(
-        bytes: *const u8,
-        bytes_len: usize,
-        text: *mut u8,
-        text_len: usize,
         written: *mut usize,
     ) -> u32;
     /// Starts a fleet with an opening for each of its trucks. Refusals: 2, 7, 9.

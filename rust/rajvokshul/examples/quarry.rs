@@ -1,8 +1,7 @@
 //! Two trucks pick their openings, follow a recorded morning as a live fleet, and agree, in two rounds and in six.
 
 use rajvokshul::{
-    grade, grade_in, list, opening, panel, read, write, Class, Cycle, Fleet, Recorder, Refusal,
-    Round, State,
+    grade, grade_in, list, opening, read, Class, Cycle, Fleet, Recorder, Refusal, Round, State,
 };
 
 fn main() -> Result<(), Refusal> {
@@ -52,9 +51,5 @@ fn main() -> Result<(), Refusal> {
     // where, too.
     println!("{}", list(&recording[..7]).unwrap_err());
     println!("{}", list(&[0x08, 0x02, 0x35, 0x33, 0x80, 0x00]).unwrap_err());
-
-    // The panel in the crusher hut takes up to 8 trucks and 60 rounds: it lists the two trucks alike, and nine not at all.
-    assert_eq!(panel::list(&recording)?, list(&recording)?);
-    println!("panel: {}", panel::list(&write(9, 0, &[3; 9], &[])?).unwrap_err());
     Ok(())
 }

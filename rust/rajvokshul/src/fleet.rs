@@ -14,9 +14,6 @@ const PLACE_SIZE: usize = 10;
 /// The bytes of a fleet record.
 pub const RECORD_SIZE: usize = 3 + PLACE_SIZE * MAX_TRUCKS;
 
-/// An exported call that runs a recording: `rajvokshul_run` and those with the same arguments.
-pub(crate) type RunCall = unsafe extern "C" fn(*const u8, usize, *mut u8, usize) -> u32;
-
 /// How many different values a truck heard in the proposal round before.
 #[derive(Clone, Copy, Debug, PartialEq, Eq, Hash)]
 pub enum Heard {
@@ -227,14 +224,8 @@ impl Fleet {
             Cycle::TwoRound => sys::rajvokshul_run,
             Cycle::SixRound => sys::rajvokshul_run_six,
         };
-        Fleet::run_by(run, recording)
-    }
-
-    /// Runs a recording by one of the exported calls that do.
-    pub(crate) fn run_by(run: RunCall, recording: &[u8]) -> Result<Fleet, Refusal> {
         let mut bytes = [0; RECORD_SIZE];
-        // SAFETY: the call is an exported one, which asks no more than that: the recording is a slice, valid for reads of its
-        // length, and the record is a local, which it does not overlap.
+        // SAFETY: the recording is a slice, valid for reads of its length, and the record is a local, which it does not overlap.
         let answer =
             unsafe { run(recording.as_ptr(), recording.len(), bytes.as_mut_ptr(), bytes.len()) };
         Refusal::check(answer, || own_loss(recording))?;

@@ -2,9 +2,9 @@
 //!
 //! This crate calls the proved library through its exported functions and adds no rules of its own. [`Fleet`] starts,
 //! steps and runs a fleet, [`Recorder`] does so and keeps the rounds, which [`Round`] builds by naming trucks; [`list`],
-//! [`grade`], [`read`] and [`write`](fn@write) work on recordings; [`opening`] picks a truck's first crusher. [`panel`] has what
-//! the panel in the crusher hut asks for, runs and listings of smaller recordings. Whatever is refused answers a [`Refusal`] and
-//! changes nothing. Functions whose names end in `_in` take the [`Cycle`] of rounds; the others are for the two-round one.
+//! [`grade`], [`read`] and [`write`](fn@write) work on recordings; [`opening`] picks a truck's first crusher. Whatever is
+//! refused answers a [`Refusal`] and changes nothing. Functions whose names end in `_in` take the [`Cycle`] of rounds; the
+//! others are for the two-round one.
 //!
 //! The crate `rajvokshul-sys`, which stands beside this one, declares those functions and links the archive of the library.
 //! The archive is looked for in the folder that the environment variable `RAJVOKSHUL_LIB_DIR` names when that crate is built,
@@ -14,8 +14,8 @@
 //! # Stack
 //!
 //! A call takes no memory but stack, and what this crate allocates for an answer. [`Fleet::run`], [`list`] and [`grade`]
-//! take less than 128 KiB of stack on recordings of the largest size, in either cycle (64 KiB were measured), those of [`panel`]
-//! less than 32 KiB (14 KiB), every other call less than 4 KiB. Threads with stacks of their own should have that much to spare.
+//! take less than 128 KiB of stack on recordings of the largest size, in either cycle (64 KiB were measured), every other
+//! call less than 4 KiB. Threads with stacks of their own should have that much to spare.
 //!
 //! # A first run
 //!
@@ -82,7 +82,6 @@
 
 mod cycle;
 mod fleet;
-pub mod panel;
 mod recorder;
 mod recording;
 mod refusal;

@@ -193,7 +193,10 @@ impl fmt::Debug for Plain {
 /// # Ok::<(), rajvokshul::Refusal>(())
 /// ```
 pub fn list(recording: &[u8]) -> Result<String, Refusal> {
-    list_by(sys::rajvokshul_list, MAX_TEXT, recording)
+    let mut text = vec![0; MAX_TEXT];
+    let written = list_into(recording, &mut text)?;
+    text.truncate(written);
+    Ok(String::from_utf8(text).expect("a listing is ASCII"))
 }
 
 /// [`list`] into a lent buffer; answers the number of bytes written. Refusals: 1 to 6, 9.
@@ -207,32 +210,17 @@ pub fn list(recording: &[u8]) -> Result<String, Refusal> {
 /// # Ok::<(), rajvokshul::Refusal>(())
 /// ```
 pub fn list_into(recording: &[u8], text: &mut [u8]) -> Result<usize, Refusal> {
-    list_into_by(sys::rajvokshul_list, recording, text)
-}
-
-/// An exported call that lists a recording: `rajvokshul_list` and those with the same arguments.
-pub(crate) type ListCall =
-    unsafe extern "C" fn(*const u8, usize, *mut u8, usize, *mut usize) -> u32;
-
-/// The listing by one of the exported calls, none of which has more than `most` bytes.
-pub(crate) fn list_by(list: ListCall, most: usize, recording: &[u8]) -> Result<String, Refusal> {
-    let mut text = vec![0; most];
-    let written = list_into_by(list, recording, &mut text)?;
-    text.truncate(written);
-    Ok(String::from_utf8(text).expect("a listing is ASCII"))
-}
-
-/// The same into a lent buffer.
-pub(crate) fn list_into_by(
-    list: ListCall,
-    recording: &[u8],
-    text: &mut [u8],
-) -> Result<usize, Refusal> {
     let mut written = 0;
-    // SAFETY: the call is an exported one, which asks no more than that: the recording is borrowed for reading and the text for
-    // writing, so that they do not overlap, and each is valid for its length. What is written to besides is a local.
+    // SAFETY: the recording is borrowed for reading and the text for writing, so that they do not overlap, and each is valid for
+    // its length. What is written to besides is a local.
     let answer = unsafe {
-        list(recording.as_ptr(), recording.len(), text.as_mut_ptr(), text.len(), &mut written)
+        sys::rajvokshul_list(
+            recording.as_ptr(),
+            recording.len(),
+            text.as_mut_ptr(),
+            text.len(),
+            &mut written,
+        )
     };
     Refusal::check(answer, || own_loss(recording))?;
     Ok(written)

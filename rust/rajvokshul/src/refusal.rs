@@ -2,7 +2,7 @@
 
 use std::fmt;
 
-/// Why an input is refused. [`Refusal::number`] is the number of the papers.
+/// Why an input is refused. [`Refusal::number`] is the number of the scope paper.
 ///
 /// A later version may refuse for more reasons, so that a match on it has an arm for others. [`Refusal::reason`] and `to_string`
 /// have words for each.
@@ -44,15 +44,11 @@ pub enum Refusal {
     AllIdle,
     /// A step with 400 rounds already done.
     RoundsDone,
-    /// More than 8 trucks, which [the panel](crate::panel) does not take.
-    PanelTruckCount,
-    /// More than 60 rounds, which [the panel](crate::panel) does not take.
-    PanelRoundCount,
 }
 
 impl Refusal {
     /// All refusals but [`Refusal::OwnLoss`], which is not one value but one for each round and truck.
-    const BARE: [Refusal; 15] = [
+    const BARE: [Refusal; 13] = [
         Refusal::ShortRecording,
         Refusal::TruckCount,
         Refusal::RoundCount,
@@ -66,11 +62,9 @@ impl Refusal {
         Refusal::NoTime,
         Refusal::AllIdle,
         Refusal::RoundsDone,
-        Refusal::PanelTruckCount,
-        Refusal::PanelRoundCount,
     ];
 
-    /// The papers' number, 1 to 14, 17 or 18.
+    /// The scope paper's number, 1 to 14.
     ///
     /// ```
     /// use rajvokshul::Refusal;
@@ -94,8 +88,6 @@ impl Refusal {
             Refusal::NoTime => 12,
             Refusal::AllIdle => 13,
             Refusal::RoundsDone => 14,
-            Refusal::PanelTruckCount => 17,
-            Refusal::PanelRoundCount => 18,
         }
     }
 
@@ -133,28 +125,6 @@ impl Refusal {
             Refusal::NoTime => "a road's last run covered metres in 0 seconds",
             Refusal::AllIdle => "every road is idle and longer than 0",
             Refusal::RoundsDone => "400 rounds are done already",
-            Refusal::PanelTruckCount => {
-                "the number of trucks is above 8, the most that the panel takes"
-            }
-            Refusal::PanelRoundCount => {
-                "the number of rounds is above 60, the most that the panel takes"
-            }
-        }
-    }
-
-    /// The line that is shown for a refused recording where there is no room for words, by the program `replay` and by
-    /// [the panel](crate::panel): the number, and the round and the truck where the refusal names them. No newline ends it.
-    ///
-    /// ```
-    /// use rajvokshul::Refusal;
-    ///
-    /// assert_eq!(Refusal::PanelTruckCount.line(), "refused 17");
-    /// assert_eq!(Refusal::OwnLoss { round: 1, truck: 0 }.line(), "refused 6 round 1 truck 0");
-    /// ```
-    pub fn line(self) -> String {
-        match self {
-            Refusal::OwnLoss { round, truck } => format!("refused 6 round {round} truck {truck}"),
-            other => format!("refused {}", other.number()),
         }
     }
 
@@ -171,8 +141,8 @@ impl Refusal {
         Refusal::BARE.into_iter().find(|r| r.number() == number)
     }
 
-    /// What a call of the library answered: 0 is no refusal, and any other number is that of one. Of a 6 the function beside the
-    /// call says where: 256 times the round, and the truck.
+    /// What a call of the library answered: 0 is no refusal, and no other number than 1 to 14 is answered. Of a 6 the
+    /// function beside the call says where: 256 times the round, and the truck.
     pub(crate) fn check(answer: u32, own_loss: impl FnOnce() -> u32) -> Result<(), Refusal> {
         match answer {
             0 => Ok(()),
@@ -183,7 +153,7 @@ impl Refusal {
             }
             _ => {
                 let refusal = u8::try_from(answer).ok().and_then(Refusal::from_number);
-                Err(refusal.expect("0 or the number of a refusal"))
+                Err(refusal.expect("an answer from 0 to 14"))
             }
         }
     }
@@ -195,7 +165,7 @@ impl Refusal {
 }
 
 impl fmt::Display for Refusal {
-    /// The [line](Refusal::line) that is shown for it, and what was wrong.
+    /// The number, the round and the truck where the refusal names them, and what was wrong.
     ///
     /// ```
     /// use rajvokshul::Fleet;
@@ -208,7 +178,11 @@ impl fmt::Display for Refusal {
     /// );
     /// ```
     fn fmt(&self, f: &mut fmt::Formatter<'_>) -> fmt::Result {
-        write!(f, "{}: {}", self.line(), self.reason())
+        write!(f, "refused {}", self.number())?;
+        if let Refusal::OwnLoss { round, truck } = self {
+            write!(f, " round {round} truck {truck}")?;
+        }
+        write!(f, ": {}", self.reason())
     }
 }
 

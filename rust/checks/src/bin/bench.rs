@@ -204,45 +204,6 @@ fn recording_of_six(table: &mut Table, input: &Input) {
     grade(table, Cycle::SixRound, input, rounds);
 }
 
-/// Running and listing one that the panel takes, by the desk's calls and by the panel's.
-fn recording_of_the_panel(table: &mut Table, input: &Input) {
-    let bytes = &input.bytes;
-    let rounds = fast::check(bytes).expect("an accepted recording").rounds;
-    run(table, Cycle::TwoRound, input, rounds);
-    let mut record = [0u8; RECORD];
-    let ours = || {
-        black_box(checks::panel_run(black_box(bytes), &mut record));
-    };
-    let plain = || {
-        black_box(fast::panel_run(black_box(bytes)));
-    };
-    table.row(&format!("panel run, {}", input.what), rounds, times(ours, plain));
-
-    list(table, "list", input, rounds, checks::list, fast::listing_into);
-    list(table, "panel list", input, rounds, checks::panel_list, fast::panel_listing_into);
-}
-
-/// Listing one by a call of the library and by that of plain Rust.
-fn list(
-    table: &mut Table,
-    name: &str,
-    input: &Input,
-    rounds: usize,
-    call: fn(&[u8], &mut [u8], &mut usize) -> u32,
-    plain: fn(&[u8], &mut [u8]) -> Result<usize, u8>,
-) {
-    let mut text = [0u8; 1_761];
-    let mut plain_text = text;
-    let mut written = 0;
-    let ours = || {
-        black_box(call(black_box(&input.bytes), &mut text, &mut written));
-    };
-    let plain = || {
-        black_box(plain(black_box(&input.bytes), &mut plain_text).ok());
-    };
-    table.row(&format!("{name}, {}", input.what), rounds, times(ours, plain));
-}
-
 /// One step, bytes to bytes on both sides; and beside plain Rust's step of a record that needs no bytes. The record is copied for each call.
 fn step(table: &mut Table, input: &Step) {
     let cycle = input.cycle;
@@ -336,7 +297,6 @@ fn main() {
     let six = inputs::six();
     let steps_of_six = inputs::steps_of_six();
     let own_bit = inputs::own_bit_at_the_end();
-    let panel = inputs::panel();
     let mut table = Table::default();
     for _ in 0..5 {
         table.next = 0;
@@ -346,7 +306,6 @@ fn main() {
         own_loss(&mut table, &own_bit);
         six.iter().for_each(|input| recording_of_six(&mut table, input));
         steps_of_six.iter().for_each(|input| step(&mut table, input));
-        recording_of_the_panel(&mut table, &panel);
     }
     table.print();
 }

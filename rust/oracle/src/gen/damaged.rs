@@ -40,7 +40,7 @@ fn random_bytes(rng: &mut Rng, count: usize) -> Vec<u8> {
 }
 
 /// The first two bytes for any n below 64 and R below 1,024.
-pub(super) fn header_bytes(n: usize, rounds: usize) -> [u8; 2] {
+fn header_bytes(n: usize, rounds: usize) -> [u8; 2] {
     [(n << 2 | rounds >> 8) as u8, rounds as u8]
 }
 
@@ -138,20 +138,14 @@ fn bad_end_bit(rng: &mut Rng, limits: Limits) -> (Vec<u8>, &'static str) {
     if plain.rounds > 0 && rng.chance(64) {
         set_own_bit(rng, &mut bytes, header);
     }
-    let how = set_end_bit(rng, &mut bytes, header);
-    (bytes, how)
-}
-
-/// Sets one bit after the last round: the first, the last or any. There are such bits.
-pub(super) fn set_end_bit(rng: &mut Rng, bytes: &mut [u8], header: Header) -> &'static str {
-    let places = header.total_bits()..8 * header.total_bytes();
+    let places = header.total_bits()..8 * bytes.len();
     let (place, how) = match rng.below(3) {
         0 => (places.start, "the first leftover bit"),
         1 => (places.end - 1, "the last leftover bit"),
         _ => (rng.within(places.start, places.end - 1), "some leftover bit"),
     };
-    set_bit(bytes, place);
-    how
+    set_bit(&mut bytes, place);
+    (bytes, how)
 }
 
 fn own_bit(rng: &mut Rng, limits: Limits) -> (Vec<u8>, &'static str) {
@@ -160,23 +154,17 @@ fn own_bit(rng: &mut Rng, limits: Limits) -> (Vec<u8>, &'static str) {
         if plain.rounds > 0 {
             let header = Header { n: plain.n, rounds: plain.rounds };
             let mut bytes = bytes_of(&plain);
-            let how = set_own_bits(rng, &mut bytes, header);
+            let mut how = set_own_bit(rng, &mut bytes, header);
+            if rng.chance(128) {
+                how = "several own bits";
+                for _ in 0..rng.within(1, 6) {
+                    let (index, truck) = (rng.below(header.rounds), rng.below(header.n));
+                    set_bit(&mut bytes, header.loss_place(index, truck, truck));
+                }
+            }
             return (bytes, how);
         }
     }
-}
-
-/// Sets one own loss bit or several. There are rounds.
-pub(super) fn set_own_bits(rng: &mut Rng, bytes: &mut [u8], header: Header) -> &'static str {
-    let how = set_own_bit(rng, bytes, header);
-    if !rng.chance(128) {
-        return how;
-    }
-    for _ in 0..rng.within(1, 6) {
-        let (index, truck) = (rng.below(header.rounds), rng.below(header.n));
-        set_bit(bytes, header.loss_place(index, truck, truck));
-    }
-    "several own bits"
 }
 
 /// Sets one own loss bit: first, last or any round and truck.

@@ -1,5 +1,0 @@
-pub mod Checks
-pub mod Desk
-pub mod Calls
-pub mod Sizes
-pub mod Shown

@@ -1,2 +1,0 @@
-pub mod Panel
-pub mod Claims

@@ -16,8 +16,8 @@ is a definition of specs/. A check goes on after a refusal, so one check of the 
 in the log with the function's own answers, or on its own line where it has none, whether or not a function that it calls is refused too: its goals rest on the
 contract of what it calls. So a version of a function is looked up by that, and where an edit has two versions of a function by the goal that each breaks
 (DECLARATION). A definition is no function's, so its version says at which declaration of which file of proofs/ it is refused; a function's answers are the file
-F/Answers, also where the function has no such file. A goal's name may have a number of the code in it, as in `returns-then-k-lt64`: where a version changes that
-number, it changes the name in the function's answers too, so that it is refused for the fact."""
+F/Answers, also where the function has no such file. A goal's name has the tested names and numbers in it, as `returns-then-k-lt64`, so that a version of a test is
+written with those that the code has."""
 import concurrent.futures
 import os
 import pathlib
@@ -51,7 +51,7 @@ class Version:
             return re.compile(re.escape(self.file))
         *modules, name = self.what.split("::")
         # functions that call each other have one proof, with the names of them all
-        return re.compile("".join(re.escape(m) + "/" for m in modules) + rf"(?:{name}|\+[a-z0-9_]*{name}[a-z0-9_]*)/(?:Answers|Invariants|Proof)")
+        return re.compile("".join(re.escape(m) + "/" for m in modules) + rf"(?:{name}|\+(?:[a-z0-9_]*_)?{name}(?:_[a-z0-9_]*)?)/(?:Answers|Invariants|Proof)")
 
     def place(self):
         return (self.file or self.what, self.decl)
@@ -134,10 +134,7 @@ def layout_of(edit):
                 path = edit.parent.parent / file
                 texts[file] = path.read_text() if path.is_file() else ""
             at = texts[file].find(old)
-            if file.startswith("proofs/"):
-                # the answers of that function name what the version changes
-                right = at >= 0 and v.is_function() and v.proof_files().fullmatch(file[len("proofs/") : -len(".antt")])
-            elif file.startswith("src/"):
+            if file.startswith("src/"):
                 name, body = function_at(file, texts[file], at) if at >= 0 else (None, False)
                 right = name == v.what and body != v.contract and v.is_function()
             else:
@@ -236,8 +233,10 @@ def check(root, crate, changes):
     """What `rt check` says of a crate with these changes, in a copy of it and of what it rests on; what is proved already is taken over."""
     with tempfile.TemporaryDirectory() as place:
         copy = pathlib.Path(place)
-        shutil.copy(root / "crates.txt", copy)
-        for name in [*below(root)[crate], crate]:
+        names = [*below(root)[crate], crate]
+        listed = (root / "crates.txt").read_text().splitlines()
+        (copy / "crates.txt").write_text("".join(f"{line}\n" for line in listed if re.split("[ :]", line)[0] in names))
+        for name in names:
             # links to the same files: the check replaces those that it writes
             shutil.copytree(root / "crates" / name, copy / "crates" / name, copy_function=os.link)
         for file, old, new in changes:
@@ -254,15 +253,19 @@ def check(root, crate, changes):
 def write_log(root, edit):
     path = root / "target/must-fail" / edit.parent.parent.name / edit.stem / ".log"
     path.parent.mkdir(parents=True, exist_ok=True)
-    path.write_text(check(root, edit.parent.parent.name, [c for v in versions_of(edit)[0] for c in v.changes]))
+    said = check(root, edit.parent.parent.name, [c for v in versions_of(edit)[0] for c in v.changes])
+    path.write_text(said)
+    return re.search("(?m)^logic=not-proved", said) is not None
 
 
 def try_all(root):
-    every = edits(root)
+    """Whether each edit was read, and refused."""
+    every, well = edits(root), True
     with concurrent.futures.ThreadPoolExecutor(max(1, int(os.environ.get("JOBS") or (os.cpu_count() or 2) - 1))) as pool:
-        for k, edit in enumerate(pool.map(lambda e: (write_log(root, e), e)[1], every), 1):
-            print(f"[{k} of {len(every)}] {edit.parent.parent.name}/{edit.stem}", flush=True)
-    return 0 if every else 1
+        for k, (refused, edit) in enumerate(pool.map(lambda e: (write_log(root, e), e), every), 1):
+            print(f"[{k} of {len(every)}] {edit.parent.parent.name}/{edit.stem}: {'refused' if refused else 'NOT REFUSED'}", flush=True)
+            well = well and refused
+    return 0 if every and well else 1
 
 
 def refusals(root):

@@ -57,7 +57,7 @@ echo "error: none of note" >&2
 END
 chmod +x "$box/bin/rt"
 echo : > "$box/then"
-asks() { # TIMES STATUS OUTPUT ERROR: how often a call of the tree's script asks rt to build, and how it ends
+asks() { # TIMES STATUS OUTPUT ERROR: how often a call of the tree's script asks rt to build the program, and how it ends; what is not proved is not built
     local times=$1
     shift
     rm -f "$box/asked"
@@ -89,7 +89,7 @@ echo "sleep 0.02; touch '$tree/crates.txt'" > "$box/then"
 expect "replay builds while a file changes" asks 1 0 "$listing" "replay: proving and building"
 expect "replay builds again after that" asks 1 0 "$listing" "replay: proving and building"
 echo 'exit 1' > "$box/then"
-expect "replay ends where the build fails" asks 1 3 "" "replay: the program could not be built"
+expect "replay ends where the build fails" asks 0 3 "" "replay: the program could not be built"
 expect "replay says all of it then" grep -qx 'error: none of note' "$box/err"
 echo 'rm -f out/replay; exit 0' > "$box/then"
 expect "replay ends where no program is built" asks 1 3 "" "replay: the program could not be built"

@@ -5,7 +5,7 @@ use mathlib.Core.List.{List}
 use mathlib.Core.Logic.{◌⊎◌, inl, inr, ⊎_elim}
 use Prim.Native.Nat.{ℕ, ◌<◌}
 use Rattle.basics.specs.Bits.{odd}
-use Rattle.radio.specs.Radio.{Radio, sent, hears, majority_complete, zero_complete}
+use Rattle.radio.specs.Radio.{Radio, sent, heard, hears, majority_complete, zero_complete}
 use Rattle.radio.proofs.Laws.{hears-sends, sent-some, sent-none, common, majority_hears}
 use Rattle.protocol.specs.declared.Truck.{Truck}
 use Rattle.protocol.specs.Cycles.{radio_in}

@@ -4,7 +4,7 @@ use mathlib.Core.Bool.{Bool, true, false}
 use mathlib.Core.List.{List, Memᴰ}
 use Prim.Native.Nat.{ℕ, ◌<◌}
 use Rattle.basics.specs.Bits.{odd}
-use Rattle.radio.specs.Radio.{Radio, calm_round}
+use Rattle.radio.specs.Radio.{Radio, heard, calm_round}
 use Rattle.protocol.specs.declared.Heard.TheVariants.{One}
 use Rattle.protocol.specs.declared.Truck.{Truck}
 use Rattle.protocol.specs.Rules.{recorded, two_rules, truck, is_several, is_one, runs, vetoes, different, least_or, proposed}

@@ -16,6 +16,14 @@ use Rattle.refusals.proofs.Listed.{own_loss_at, refusal_of, listed}
 unnamed_not : {A : Type 0} (round truck : ℕ) → Unnamed ≡ At round truck → A
 unnamed_not round truck h = let z : ◌≡◌ {A = ℕ} 0 1 = cc in absurd (omega arith)
 
+-- whatever is not it names nothing
+pub unnamed_by : (r : Refusal) → ((round truck : ℕ) → r ≡ OwnLoss round truck → ⊥) → Unnamed ≡ location_of r
+unnamed_by r other = go (listed r).place
+  where
+    go : (location_of r ≡ Unnamed) ⊎ ((round : ℕ) × (truck : ℕ) × (r ≡ OwnLoss round truck)) → Unnamed ≡ location_of r
+    go (inl e) = sym e
+    go (inr p) = absurd (other p.0 p.1 p.2)
+
 pub named_6 : (r : Refusal) (round truck : ℕ) → location_of r ≡ At round truck → r ≡ OwnLoss round truck
 named_6 r round truck h = go (listed r).place
   where

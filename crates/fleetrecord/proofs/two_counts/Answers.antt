@@ -6,7 +6,6 @@ use native.Mathlib.Omega.{arith}
 use lib.Dec.{leb}
 use Rattle.fleetrecord.proofs.two_counts.Goals as goal
 
--- `two_counts` meets its contract.
 -- the odd rounds among those done
 halves : (done : ℕ) → done / 2 + done % 2 ≡ (done + 1) / 2
 halves done = omega arith

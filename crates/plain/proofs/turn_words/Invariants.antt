@@ -7,7 +7,6 @@ use Rattle.basics.specs.Lists.{filled}
 use Rattle.plain.specs.Steps.{turned_word}
 use Rattle.plain.proofs.turn_words.Given as goal
 
--- `turn_words` meets its contract: what is still to be turned is as it was.
 -- word w of a buffer, turned
 abbrev pub turned : List ℕ → ℕ → ℕ → ℕ
 turned d n w = turned_word n (get_or d w 0)

@@ -1,7 +1,6 @@
 -- `main` meets its contract.
-use mathlib.Core.Path.{ap, sym}
+use mathlib.Core.Path.{ap}
 use native.Mathlib.Omega.{arith}
-use lib.Seq.{length-take-le}
 use Rattle.replay.specs.Input.{bytes_read}
 use Rattle.replay.proofs.main.Goals as goal
 

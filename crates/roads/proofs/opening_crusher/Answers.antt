@@ -1,5 +1,7 @@
 -- `opening_crusher` meets its contract: each return cites the law of its answer, with what the tests before it left.
 use mathlib.Core.Path.{sym, ◌∙◌}
+use mathlib.Core.Bool.{false}
+use Rattle.roads.specs.Opening.{bad_lists}
 use Rattle.roads.proofs.Answers.{right, opening_10, opening_11, opening_12, opening_13, opening-road}
 use Rattle.roads.proofs.opening_crusher.Goals as goal
 

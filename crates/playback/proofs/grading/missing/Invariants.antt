@@ -6,7 +6,6 @@ use Rattle.playback.specs.Grading.{heard_at, misses_some, misses_all, misses_hal
 use Rattle.playback.proofs.Asking.{Asking}
 use Rattle.playback.proofs.grading.missing.Given as goal
 
--- `missing` meets its contract.
 -- the truck at place p has what f asks of the senders that it heard
 abbrev pub asked : (ℕ → Bool) → List ℕ → ℕ → ℕ → ℕ → ℕ → Bool
 asked f s at n senders p = f (heard_at s at n senders p)

@@ -8,13 +8,12 @@ use Rattle.playback.specs.Listens.{row_from}
 use Rattle.playback.proofs.Asking.{Asking}
 use Rattle.playback.proofs.listening.hearing_some.Given as goal
 
--- `hearing_some` meets its contract.
 -- the truck at place p hears a sender
-abbrev pub hearsSome : List ℕ → ℕ → ℕ → ℕ → ℕ → Bool
-hearsSome s at n senders p = not (eqb (without senders (row_from s at n p)) 0)
+abbrev pub hears_some : List ℕ → ℕ → ℕ → ℕ → ℕ → Bool
+hears_some s at n senders p = not (eqb (without senders (row_from s at n p)) 0)
 
 abbrev pub invariant-loop-left : goal.invariant-loop-left
-invariant-loop-left l = Asking l.wanted (hearsSome l.s l.at l.n l.senders) l.left l.out
+invariant-loop-left l = Asking l.wanted (hears_some l.s l.at l.n l.senders) l.left l.out
 
 abbrev pub decreases-loop-left : goal.decreases-loop-left
 decreases-loop-left l = l.left

@@ -4,6 +4,7 @@
     tests/versions.py layout [ROOT]       each version changes what it names, and no two of an edit are looked up in the same place
     tests/versions.py try [ROOT]          checks each edit over what `rt check` kept, and writes what the check says to target/must-fail; a line as each is done
     tests/versions.py refusals [ROOT]     a line for each version, from those logs: 'ok ..' where it is refused for a fact, else 'FAILED ..'
+    tests/versions.py names [ROOT]        no answer in these logs is refused for a name that an edit took away
     tests/versions.py bystanders [ROOT]   functions that no version of an edit names, but that call one that is refused, have no fact of their own
     tests/versions.py alone CRATE LABEL   checks one version by itself, and says what it is refused for
 
@@ -229,6 +230,14 @@ def below(root):
     return {crate: all_of(crate, []) for crate in rests}
 
 
+def put(old, new):
+    """The same file under another name, or a copy where links don't reach; the check replaces files and writes into none."""
+    try:
+        os.link(old, new)
+    except OSError:
+        shutil.copy2(old, new)
+
+
 def check(root, crate, changes):
     """What `rt check` says of a crate with these changes, in a copy of it and of what it rests on; what is proved already is taken over."""
     with tempfile.TemporaryDirectory() as place:
@@ -237,8 +246,7 @@ def check(root, crate, changes):
         listed = (root / "crates.txt").read_text().splitlines()
         (copy / "crates.txt").write_text("".join(f"{line}\n" for line in listed if re.split("[ :]", line)[0] in names))
         for name in names:
-            # links to the same files: the check replaces those that it writes
-            shutil.copytree(root / "crates" / name, copy / "crates" / name, copy_function=os.link)
+            shutil.copytree(root / "crates" / name, copy / "crates" / name, copy_function=put)
         for file, old, new in changes:
             path = copy / "crates" / crate / file
             text = path.read_text()
@@ -279,6 +287,17 @@ def refusals(root):
     return 1 if bad else 0
 
 
+def names(root):
+    """Of each edit: answers that cite what is no longer there, which show nothing of a contract."""
+    bad = 0
+    for edit in edits(root):
+        for file, decl, line in log_of(root, edit).errors:
+            if FORM.search(line):
+                bad += 1
+                print(f"{edit.parent.parent.name}/{edit.stem}: {file} {decl}: {line[:300]}")
+    return 1 if bad else 0
+
+
 def bystanders(root):
     """Of each edit that changes bodies alone: functions that only rest on a refused one."""
     looked, taken = 0, []
@@ -315,9 +334,9 @@ def alone(root, crate, label):
 
 def main():
     here = pathlib.Path(__file__).resolve().parent.parent
-    commands = {"layout": layout, "try": try_all, "refusals": refusals, "bystanders": bystanders}
+    commands = {"layout": layout, "try": try_all, "refusals": refusals, "names": names, "bystanders": bystanders}
     match sys.argv[1:]:
-        case [("layout" | "try" | "refusals" | "bystanders") as command, *root] if len(root) < 2:
+        case [command, *root] if command in commands and len(root) < 2:
             sys.exit(commands[command](pathlib.Path(root[0]) if root else here))
         case ["alone", crate, label]:
             sys.exit(alone(here, crate, label))

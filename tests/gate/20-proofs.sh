@@ -1,4 +1,5 @@
-# Proofs: rt ci proves every listed crate from nothing, tries each must-fail edit and runs each program. Its own counts are added. A line is printed as each crate and each edit is done.
+# Proofs: rt ci proves every listed crate from nothing, tries each must-fail edit and runs each program; what it passed on this machine of the same files it takes from there. Its own counts are
+# added. A line is printed as each crate and each edit is done.
 
 # The tests of the independent reading need nothing of the library, so they run beside the proofs, on what these leave of the machine; 40-rust asks what came of them.
 reading=$(mktemp)
@@ -53,6 +54,7 @@ expect "each edit is checked" python3 tests/versions.py try
 while read -r verdict version; do
     if [ "$verdict" = ok ]; then pass; else fail "must-fail $version"; fi
 done < <(python3 tests/versions.py refusals)
+expect "no answer is refused for a name that is gone" python3 tests/versions.py names
 expect "a function that only rests on a refused one is not taken for refused" python3 tests/versions.py bystanders
 
 # the look at a log itself
@@ -93,5 +95,7 @@ done
 look '1 of leaf' > /dev/null
 said=$(python3 tests/versions.py bystanders "$sample") && fail "a refused function that no version names is passed over: $said" || pass
 expect "it is named: $said" grep -q 'one::caller one::deep::even one::made$' <<< "$said"
+said=$(python3 tests/versions.py names "$sample") && fail "an answer that cites what is gone is passed over: $said" || pass
+expect "both are named, and no others: $said" test "$(grep -c '^one/bodies: misfit/Answers ' <<< "$said")/$(wc -l <<< "$said")" = 2/2
 rm -rf "$sample"
 finished=yes

@@ -67,6 +67,8 @@ for path, text in files.items():
 
 # a name is cited where it stands outside its own declaration
 cited = collections.Counter(word for text in files.values() for word in WORD.findall(text))
+# an attribute of a function cites a lemma or a definition by its path
+cited.update(name for path, text in files.items() if path.suffix == ".rt" for attribute in re.findall(r"#\[tactic\([^\]]*\]", text) for name in re.findall(r"::(\w+)(?=[,)])", attribute))
 own = collections.Counter(name for text in files.values() for name, block in declared(text) for word in WORD.findall(block) if word in {name, *parts(name)})
 promises = root / "docs/PROMISES.md"
 named = set(re.findall(r"`([^`]+)`", promises.read_text())) if promises.is_file() else set()

@@ -12,7 +12,7 @@ An edit holds versions, each after a line
 
     version: LABEL of NAME [at DECLARATION | at FILE DECLARATION]
 
-NAME is a function, with its module as in `replay::veto`, whose body the version changes; `contract NAME` says that it changes the function's contract; or NAME
+NAME is a function, with its module as in `replay::veto` and its type as in `Reader::take`, whose body the version changes; `contract NAME` says that it changes the function's contract; or NAME
 is a definition of specs/. A check goes on after a refusal, so one check of the crate serves all versions of an edit. What the check says of a function stands
 in the log with the function's own answers, or on its own line where it has none, whether or not a function that it calls is refused too: its goals rest on the
 contract of what it calls. So a version of a function is looked up by that, and where an edit has two versions of a function by the goal that each breaks
@@ -94,16 +94,24 @@ def edits(root):
 
 
 def function_at(file, text, place):
-    """The function in which a place stands, with its module, and whether in its body."""
-    heads = [m for m in re.finditer(r"(?m)^(?:pub(?:\([a-z]+\))? )?(?:extern \"C\" )?fn ([a-z0-9_]+)[(<]", text) if m.start() <= place]
+    """The function in which a place stands, with its module and the type and trait whose method it is, and whether in its body."""
+    heads = [m for m in re.finditer(r"(?m)^(    )?(?:pub(?:\([a-z]+\))? )?(?:const )?(?:extern \"C\" )?fn ([a-z0-9_]+)[(<]", text) if m.start() <= place]
     if not heads:
         return None, False
+    indent, name = heads[-1].groups("")
     body = re.compile(r"(?m)^\{$|\{$").search(text, heads[-1].start())
-    end = re.compile(r"(?m)^\}$").search(text, heads[-1].start())
+    end = re.compile(rf"(?m)^{indent}\}}$").search(text, heads[-1].start())
     if not body or not end or place > end.start():
         return None, False
+    if indent:
+        owner = [m for m in re.finditer(r"(?m)^impl(?:<[^\n]*?>)? (?:([A-Za-z0-9_]+)(?:<([^\n]*)>)? for )?([A-Za-z0-9_]+)", text) if m.start() < heads[-1].start()]
+        if not owner:
+            return None, False
+        trait, of, owned = owner[-1].groups("")
+        # as the check names it: `impl From<Refusal> for u8` is U8FromRefusal
+        name = "".join(word[0].upper() + word[1:] for word in [owned, trait, *re.findall(r"[A-Za-z0-9_]+", of)] if word) + "::" + name
     module = pathlib.Path(file).stem
-    return ("" if module in ("lib", "main") else module + "::") + heads[-1].group(1), body.start() < place
+    return ("" if module in ("lib", "main") else module + "::") + name, body.start() < place
 
 
 def definition_at(text, place):

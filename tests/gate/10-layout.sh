@@ -40,14 +40,14 @@ expect "tests/versions.py layout" python3 tests/versions.py layout
 sample=$(mktemp -d)
 mkdir -p "$sample/crates/sets/must-fail"
 cp -r crates/sets/src crates/sets/specs "$sample/crates/sets"
-first='version: a of without\nfile: src/lib.rt\nold: set ^ (set & other)\nnew: set ^ other\n'
+first='version: a of without\nfile: src/lib.rt\nold: set & !other\nnew: set & other\n'
 layout() { # EDIT
     printf "$first$1" > "$sample/crates/sets/must-fail/bodies.edit"
     python3 tests/versions.py layout "$sample"
 }
-for second in 'version: b of without\nfile: src/lib.rt\nold: set ^ other\nnew: set\n' \
-    'version: b of without at returns\nfile: src/lib.rt\nold: set ^ other\nnew: set\n' \
-    'version: b of holds\nfile: src/lib.rt\nold: set ^ other\nnew: set\n' \
+for second in 'version: b of without\nfile: src/lib.rt\nold: set & other\nnew: set\n' \
+    'version: b of without at returns\nfile: src/lib.rt\nold: set & other\nnew: set\n' \
+    'version: b of holds\nfile: src/lib.rt\nold: set & other\nnew: set\n' \
     'version: b of holds\nfile: src/lib.rt\nold: result ≡ bit set i\nnew: result ≡ bit set 0\n' \
     'version: b of contract holds\nfile: src/lib.rt\nold: (set >> i) %% 2 == 1\nnew: (set >> i) %% 2 == 0\n' \
     'version: b of holds\nfile: src/lib.rt\n' \
@@ -58,7 +58,7 @@ for second in 'version: b of without\nfile: src/lib.rt\nold: set ^ other\nnew: s
     expect "tests/versions.py says of '$second': $said" grep -q 'bodies.edit' <<< "$said"
 done
 for second in 'version: b of holds\nfile: src/lib.rt\nold: (set >> i) %% 2 == 1\nnew: (set >> i) %% 2 == 0\n' \
-    'version: b of holds at returns\nfile: src/lib.rt\nold: (set >> i) %% 2 == 1\nnew: (set >> i) %% 2 == 0\nversion: c of holds at returns-2\nfile: src/lib.rt\nold: false\nnew: true\n' \
+    'version: b of holds at returns\nfile: src/lib.rt\nold: (set >> i) %% 2 == 1\nnew: (set >> i) %% 2 == 0\nversion: c of holds at returns-2\nfile: src/lib.rt\nold: i < 32 &&\nnew: i < 31 &&\n' \
     'version: b of contract holds\nfile: src/lib.rt\nold: result ≡ bit set i\nnew: result ≡ bit set 0\n' \
     'version: b of Members at Members member\nfile: specs/Sets.antt\nold: bit set j ≡ p j\nnew: bit set j ≡ p 0\n'; do
     said=$(layout "$second") && pass || fail "tests/versions.py does not take '$second': $said"

@@ -304,9 +304,6 @@ module _ (p : ℕ → Bool) where
       go false true h e = sym (some_below_by (m + 1) m (omega arith) e)
       go false false h e = sym (none-some_below (m + 1) (λ k l. below_more (λ i. p i ≡ false) m (some_below-none m h) e k (omega arith)))
 
-  pub none_more : (m : ℕ) → some_below p m ≡ false → p m ≡ false → some_below p (m + 1) ≡ false
-  none_more m h e = sym (some_more m) ∙ or-none (some_below p m) (p m) h e
-
   -- numbers more of which none has p
   pub some_past : (m n : ℕ) → m ≤ n → ((k : ℕ) → m ≤ k → k < n → p k ≡ false) → some_below p m ≡ some_below p n
   some_past m n l h = go (some_below p m) refl
@@ -344,15 +341,6 @@ module _ (p q : ℕ → Bool) (m : ℕ) (same : (k : ℕ) → k < m → p k ≡ 
   pub some_ext : some_below p m ≡ some_below q m
   unfolding some_below
   some_ext = ap (λ (k : ℕ). ltb k m) first_ext
-
--- a sum over no number, and over one more
-pub sum_none : (g : ℕ → ℕ) → 0 ≡ sum_below g 0
-unfolding sum_below
-sum_none g = refl
-
-pub sum_more : (g : ℕ → ℕ) (m : ℕ) → sum_below g m + g m ≡ sum_below g (m + 1)
-unfolding sum_below
-sum_more g m = ap (sum_below g) (sym (add-one m))
 
 -- numbers that agree below m have one sum
 pub sum_ext : (f g : ℕ → ℕ) (m : ℕ) → ((k : ℕ) → k < m → f k ≡ g k) → sum_below f m ≡ sum_below g m

@@ -6,6 +6,7 @@ use native.Mathlib.Decide.{dec_lt}
 use native.Mathlib.Omega.{arith}
 use lib.Dec.{lit<}
 use lib.Pow.{mod-pow-add, mod-mod-pow, field, high, low, pow-add, shl_exact, shl-shr, shr-shr}
+use Rattle.std.specs.Int.{reverse_bits_onto}
 use Rattle.basics.specs.Bits.{digit}
 use mathlib.Core.List.{List}
 use lib.ListN.{get_or}
@@ -213,12 +214,21 @@ mirrored-add a b v =
     ap (digit v) (let e : a + b - suc (0 + a + i) ≡ b - suc (0 + i) = omega arith in e)
     ∙ sym (digit-mod v b (b - suc (0 + i)) (omega arith))))
 
-pub mirrored-joined : (k v lo hi : ℕ) → lo ≡ mirrored k (v % 2 ^ k) → hi ≡ mirrored k (v / 2 ^ k) → lo * 2 ^ k + hi ≡ mirrored (k + k) v
-mirrored-joined k v lo hi e g = ap₂ (λ (a b : ℕ). a * 2 ^ k + b) e g ∙ sym (mirrored-add k k v ∙ omega arith)
-
-pub mirrored_two : (v : ℕ) → v < 4 → mirrored 2 v ≡ v % 2 * 2 + v / 2
+pub mirrored_one : (v : ℕ) → mirrored 1 v ≡ v % 2
 unfolding mirrored row_at
-mirrored_two v h = omega arith
+mirrored_one v = omega arith
+
+onto_step : (k v a : ℕ) → (a * 2 + v % 2) * 2 ^ k + mirrored k (v / 2) ≡ a * 2 ^ suc k + mirrored (suc k) v
+onto_step k v a =
+    let e : mirrored (suc k) v ≡ mirrored k (v / 2) + v % 2 * 2 ^ k =
+    ap (λ (n : ℕ). mirrored n v) (let z : suc k ≡ k + 1 = omega arith in z) ∙ mirrored-add k 1 v ∙ ap (λ (x : ℕ). mirrored k (v / 2) + x * 2 ^ k) (mirrored_one (v % 2) ∙ omega arith) in
+    rw (e, pow-suc 2 k) (grind arith)
+
+-- the library's way, digit by digit behind those of a
+pub reversed_onto : (k v a : ℕ) → reverse_bits_onto k v a ≡ a * 2 ^ k + mirrored k v
+unfolding reverse_bits_onto
+reversed_onto zero v a = omega (arith, mirrored-lt 0 v)
+reversed_onto (suc k) v a = reversed_onto k (v / 2) (a * 2 + v % 2) ∙ onto_step k v a
 
 -- the digits below the k-th in reverse, out of more digits in reverse
 pub mirrored-below : (k d v : ℕ) → mirrored (d + k) v / 2 ^ d ≡ mirrored k v

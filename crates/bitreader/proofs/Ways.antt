@@ -2,7 +2,6 @@
 use mathlib.Core.Path.{◌≡◌, refl, ap, ap₂, sym, ◌∙◌}
 use mathlib.Core.List.{List}
 use Prim.Native.Nat.{ℕ, zero, suc, ◌+◌, ◌*◌, ◌-◌, ◌/◌, ◌%◌, ◌^◌, ◌≤◌, ◌<◌}
-use native.Mathlib.Nat.{add-zero}
 use native.Mathlib.Numerals.{add-one}
 use native.Mathlib.Omega.{arith}
 use lib.ListN.{get_or}
@@ -14,14 +13,6 @@ use Rattle.bitreader.proofs.Digits.{bit_at_lt, num_at-lt, num_at-add, num_at-par
 pub bytes_from_more : (s : List ℕ) (b m : ℕ) → bytes_from s b m * 256 + get_or s (b + m) 0 ≡ bytes_from s b (m + 1)
 unfolding bytes_from
 bytes_from_more s b m = sym (ap (bytes_from s b) (add-one m))
-
--- eight bytes in two halves
-pub bytes_from_eight : (s : List ℕ) (b x y : ℕ)
-    → x ≡ ((get_or s b 0 * 256 + get_or s (b + 1) 0) * 256 + get_or s (b + 2) 0) * 256 + get_or s (b + 3) 0
-    → y ≡ ((get_or s (b + 4) 0 * 256 + get_or s (b + 5) 0) * 256 + get_or s (b + 6) 0) * 256 + get_or s (b + 7) 0
-    → x * 4294967296 + y ≡ bytes_from s b 8
-unfolding bytes_from
-bytes_from_eight s b x y e g = omega (arith, e, g, ap (λ (i : ℕ). get_or s i 0) (add-zero b))
 
 module _ (s : List ℕ) (bytes : (i : ℕ) → get_or s i 0 < 256) where
   -- the number of bytes is that of their bits

@@ -2,14 +2,14 @@
 #![tactic(auto)]
 
 ghost use Rattle.std.specs.Prelude.{◌≡◌, ◌+◌, ◌*◌, ◌-◌, ◌<◌, ◌≤◌, ◌^◌, ◌/◌, ◌%◌, get_or, length};
-ghost use Rattle.bitreader.specs.Bits.{bit_at, num_at, row_at, bits_read, place_after, mirrored, moved_by};
+ghost use Rattle.bitreader.specs.Bits.{bit_at, num_at, row_at, bits_read, mirrored, moved_by};
 ghost use Rattle.bitreader.specs.Ways.{bytes_from, EightRemain, by_eight, by_bytes};
 
 // The byte at a place; past the end it is 0.
 fn byte_at(s: &[u8], i: usize) -> u64
     ensures { result ≡ get_or s.now i 0 }
 {
-    if i < s.len() { s[i] as u64 } else { 0 }
+    u64::from(s.get(i).copied().unwrap_or(0))
 }
 
 // The number that m bytes make.
@@ -18,56 +18,34 @@ fn bytes_at(s: &[u8], b: usize, m: usize) -> u64
     ensures { result ≡ bytes_from s.now b m }
 {
     let mut v: u64 = 0;
-    let mut i = 0;
-    while i < m {
+    for i in 0..m {
         v = v * 256 + byte_at(s, b + i);
-        i += 1;
     }
     v
-}
-
-fn bits_read(k: usize) -> usize
-    ensures { result ≡ bits_read k }
-{
-    if k < 32 { k } else { 32 }
-}
-
-fn place_after(at: usize, k: usize) -> usize
-    ensures { result ≡ place_after at k }
-{
-    let w = bits_read(k);
-    if at < 18446744073709551615 - w {
-        at + w
-    } else {
-        18446744073709551615
-    }
 }
 
 // The lowest k digits of v.
 pub fn low_bits(v: u64, k: usize) -> u64
     ensures { result ≡ v % 2 ^ k }
 {
-    if k < 64 {
-        return v % (1 << k);
-    }
-    v
+    if k < 64 { v % (1 << k) } else { v }
 }
 
-// Four bytes as a number.
-fn four(a: u8, b: u8, c: u8, d: u8) -> u32
-    ensures { result ≡ ((a * 256 + b) * 256 + c) * 256 + d }
-{
-    a as u32 * 16777216 + b as u32 * 65536 + c as u32 * 256 + d as u32
-}
-
-// The number of eight bytes that are there. Two sums of four become one load wherever this is inlined; a loop over them does not.
+// The number of eight bytes that are there: one load wherever this is inlined.
 fn eight_at(s: &[u8], b: usize) -> u64
     requires { b + 8 ≤ length s.now }
     ensures { result ≡ bytes_from s.now b 8 }
 {
-    let high = four(s[b], s[b + 1], s[b + 2], s[b + 3]);
-    let low = four(s[b + 4], s[b + 5], s[b + 6], s[b + 7]);
-    high as u64 * 4294967296 + low as u64
+    u64::from_be_bytes([
+        s[b],
+        s[b + 1],
+        s[b + 2],
+        s[b + 3],
+        s[b + 4],
+        s[b + 5],
+        s[b + 6],
+        s[b + 7],
+    ])
 }
 
 // 32 bits out of a word of eight bytes. Shifted to the right: to the left the compiler would load five bytes in two parts.
@@ -112,7 +90,7 @@ fn bit_at(s: &[u8], at: usize) -> u32
 pub fn bits_at(s: &[u8], at: usize, k: usize) -> u32
     ensures { result ≡ num_at (bit_at s.now) at (bits_read k) }
 {
-    let w = bits_read(k);
+    let w = k.min(32);
     // A search for single bits is twice as fast by single bytes.
     if w == 1 {
         return bit_at(s, at);
@@ -120,47 +98,12 @@ pub fn bits_at(s: &[u8], at: usize, k: usize) -> u32
     (bits_32(s, at) >> (32 - w)) as u32
 }
 
-// Digits in reverse, by halves.
-fn mirror_2(x: u32) -> u32
-    requires { x < 4 }
-    ensures { (result ≡ mirrored 2 x) × (result < 4) }
-{
-    x % 2 * 2 + x / 2
-}
-
-fn mirror_4(x: u32) -> u32
-    requires { x < 16 }
-    ensures { (result ≡ mirrored 4 x) × (result < 16) }
-{
-    mirror_2(x % 4) * 4 + mirror_2(x / 4)
-}
-
-fn mirror_8(x: u32) -> u32
-    requires { x < 256 }
-    ensures { (result ≡ mirrored 8 x) × (result < 256) }
-{
-    mirror_4(x % 16) * 16 + mirror_4(x / 16)
-}
-
-fn mirror_16(x: u32) -> u32
-    requires { x < 65536 }
-    ensures { (result ≡ mirrored 16 x) × (result < 65536) }
-{
-    mirror_8(x % 256) * 256 + mirror_8(x / 256)
-}
-
-fn mirror_32(x: u32) -> u32
-    ensures { result ≡ mirrored 32 x }
-{
-    mirror_16(x % 65536) * 65536 + mirror_16(x / 65536)
-}
-
 // The lowest k digits of x, at most 32, in reverse: the one turns into the other of the two numbers that k bits make.
 pub fn mirror(x: u32, k: usize) -> u32
     ensures { result ≡ mirrored (bits_read k) x }
 {
-    let w = bits_read(k);
-    let all = mirror_32(x) as u64;
+    let w = k.min(32);
+    let all = x.reverse_bits() as u64;
     (all >> (32 - w)) as u32
 }
 
@@ -170,21 +113,21 @@ pub struct Reader<'a> {
     pub at: usize,
 }
 
-pub fn new<'a>(bytes: &'a [u8], at: usize) -> Reader<'a>
-    ensures { (result.bytes ≡ bytes.entry) × (result.at ≡ at) }
-{
-    Reader { bytes, at }
-}
+impl<'a> Reader<'a> {
+    pub fn new(bytes: &'a [u8], at: usize) -> Reader<'a>
+        ensures { (result.bytes ≡ bytes.entry) × (result.at ≡ at) }
+    {
+        Reader { bytes, at }
+    }
 
-// Reads k bits, at most 32, and moves on past them.
-pub fn take<'s, 'a>(r: &'s mut Reader<'a>, k: usize) -> u32
-    ensures { (result ≡ num_at (bit_at r.old.bytes.now) r.old.at (bits_read k)) × (r.new ≡ moved_by r.old k) }
-{
-    let at = r.at;
-    let v = bits_at(r.bytes, at, k);
-    let next = place_after(at, k);
-    r.at = next;
-    v
+    // Reads k bits, at most 32, and moves on past them.
+    pub fn take(&mut self, k: usize) -> u32
+        ensures { (result ≡ num_at (bit_at self.old.bytes.now) self.old.at (bits_read k)) × (self.new ≡ moved_by self.old k) }
+    {
+        let v = bits_at(self.bytes, self.at, k);
+        self.at = self.at.saturating_add(k.min(32));
+        v
+    }
 }
 
 // A reader in a local: what is read at a place of its own, on plain parameters, is read by this one.
@@ -192,8 +135,7 @@ pub fn read_at(s: &[u8], at: usize, k: usize) -> u32
     ensures { result
         ≡ num_at (bit_at s.now) at (bits_read k) }
 {
-    let mut r = new(s, at);
-    take(&mut r, k)
+    Reader::new(s, at).take(k)
 }
 
 // The same bits as a word of plain form, out of the word of 32 bits: a fixed number of them is faster to gather and to turn.
@@ -201,5 +143,5 @@ pub fn row_at(s: &[u8], at: usize, k: usize) -> u32
     ensures { result ≡ row_at (bit_at s.now) at (bits_read k) }
 {
     let all = mirror(read_at(s, at, 32), 32) as u64;
-    low_bits(all, bits_read(k)) as u32
+    low_bits(all, k.min(32)) as u32
 }

@@ -1,13 +1,13 @@
 -- What a row of the table asks, and what the definitions answer.
-use Rattle.std.specs.Prelude.{List, [], ◌∷◌, ◌++◌, ℕ, ◌-◌, ◌/◌, ◌%◌, length, drop}
+use Rattle.std.specs.Prelude.{List, [], ◌∷◌, ◌++◌, ℕ, ◌-◌, ◌/◌, ◌%◌, length, drop, Result, Option, Ok, Err}
 use Prim.Native.String.{String}
 use Rattle.basics.specs.Lists.{tab, who}
 use Rattle.radio.specs.Radio.{Radio, sent, heard}
 use Rattle.refusals.specs.declared.Refusal.{Refusal}
-use Rattle.refusals.specs.declared.Outcome.{Outcome}
 use Rattle.refusals.specs.declared.Location.{Location}
 use Rattle.refusals.specs.Numbers.{outcome_number}
 use Rattle.refusals.specs.Locations.{outcome_location}
+use Rattle.refusals.specs.Outcomes.{Outcome}
 use Rattle.recording.specs.Packed.{trucks_of, openings_of, round_at}
 use Rattle.recording.specs.Checks.{plain_check}
 use Rattle.protocol.specs.declared.Cycle.{Cycle}
@@ -15,8 +15,6 @@ use Rattle.protocol.specs.declared.Cycle.TheVariants.{TwoRound}
 use Rattle.protocol.specs.declared.Truck.{Truck}
 use Rattle.protocol.specs.declared.Fleet.{Fleet}
 use Rattle.protocol.specs.declared.Answer.{Answer}
-use Rattle.protocol.specs.declared.Grading.{Grading}
-use Rattle.protocol.specs.declared.Grading.TheVariants.{Graded, Refused}
 use Rattle.protocol.specs.Rules.{truck, values_heard}
 use Rattle.protocol.specs.Runs.{opened_trucks, trucks_in, trucks_at, radios_in}
 use Rattle.protocol.specs.Fleets.{chosen, started, step_check_in, stepped_in, ran_in, graded_in}
@@ -26,6 +24,7 @@ use Rattle.fleet.specs.Bytes.{bytes_check_in, bytes_step_in}
 use Rattle.listing.specs.Text.{text, decimal, printed}
 use Rattle.listing.specs.Listed.{list_answer, listed}
 use Rattle.roads.specs.Opening.{Road, numerator, denominator, opening_of, opening_answer}
+use Rattle.protocol.specs.declared.Grades.{Grades}
 
 pub data Question : Type 0 where
   -- what is printed for a recording
@@ -91,13 +90,13 @@ steps n done = steps_of n done []
 
 pub data Reply : Type 0 where
   bytes : List ℕ → Reply
-  grading : Grading → Reply
+  grading : Result Grades Refusal → Reply
   numbers : List ℕ → Reply
   trucks : List Truck → Reply
   -- a refusal by its number and what it names
-  refused : ℕ × Location → Reply
+  refused : ℕ × Option Location → Reply
   -- the same, or 0, with the record that the answer holds
-  holds : ℕ × Location → Fleet → Reply
+  holds : ℕ × Option Location → Fleet → Reply
   -- an answer by its number and values, and the lent buffers as they are left
   left : ℕ × List ℕ → List (List ℕ) → Reply
   opening : ℕ × List ℕ → Reply
@@ -154,7 +153,7 @@ abbrev pub says : String → Reply
 says s = bytes (text s)
 
 abbrev pub grades_are : ℕ → ℕ → ℕ → ℕ → Reply
-grades_are c m z a = grading (Graded (record { complete = c; majority = m; zero = z; accurate = a }))
+grades_are c m z a = grading (Ok (record { complete = c; majority = m; zero = z; accurate = a }))
 
 abbrev pub not_graded : Refusal → Reply
-not_graded r = grading (Refused r)
+not_graded r = grading (Err r)

@@ -6,7 +6,8 @@ use mathlib.Core.List.{List}
 use Prim.Native.Nat.{ℕ, zero, suc, ◌+◌, ◌*◌, ◌/◌, ◌%◌, ◌^◌, ◌≤◌, ◌<◌}
 use native.Mathlib.Nat.{mod-lt, mul-le-mul_right, pow-suc}
 use native.Mathlib.Omega.{arith}
-use borrow.Author.Tests.{eqb-true}
+use native.Mathlib.Decide.{dec_lt}
+use borrow.Author.Tests.{eqb-true, eq-eqb, ne_eqb}
 use lib.Bits.{bit_and, bit_xor, and_zero_r, xor_zero_r, and_block, and_mask}
 use lib.Dec.{eqb, lit<}
 use lib.Pow.{pow_pos, split}
@@ -152,3 +153,21 @@ three = counted_up (counted_up (counted_up (replicate 8 0) 3) 1) 922337203685477
 pub count_cases : (tally three 8 0 ≡ 3) × (tally three 8 1 ≡ 1) × (tally three 8 2 ≡ 0) × (tally three 8 63 ≡ 1) × (in_use three 8 ≡ 2)
 unfolding tally carried raised in_use
 count_cases = (refl, refl, refl, refl, refl)
+
+-- ---- the last word that isn't 0
+pub in_use-none : (words : List ℕ) (m : ℕ) → ((k : ℕ) → k < m → get_or words k 0 ≡ 0) → in_use words m ≡ 0
+unfolding in_use
+in_use-none words zero h = refl
+in_use-none words (suc m) h =
+    ap (λ (b : Bool). cond b (in_use words m) (suc m)) (eq-eqb (get_or words m 0) 0 (h m (omega arith))) ∙ in_use-none words m (λ k l. h k (omega arith))
+
+pub in_use-last : (words : List ℕ) (i m : ℕ) → i < m → (get_or words i 0 ≡ 0 → ⊥) → ((k : ℕ) → i < k → k < m → get_or words k 0 ≡ 0) → in_use words m ≡ suc i
+unfolding in_use
+in_use-last words i zero l some none = absurd (omega arith)
+in_use-last words i (suc m) l some none = go (dec_lt i m) (λ b. in_use-last words i m b some (λ k a c. none k a (omega arith)))
+  where
+    go : Dec (i < m) → (i < m → in_use words m ≡ suc i) → in_use words (suc m) ≡ suc i
+    go (yes b) below = ap (λ (x : Bool). cond x (in_use words m) (suc m)) (eq-eqb (get_or words m 0) 0 (none m b (omega arith))) ∙ below b
+    go (no b) below =
+        let e : m ≡ i = omega arith in
+        ap (λ (x : Bool). cond x (in_use words m) (suc m)) (ne_eqb (get_or words m 0) 0 (λ z. some (ap (λ (k : ℕ). get_or words k 0) (sym e) ∙ z))) ∙ ap suc e

@@ -10,12 +10,13 @@ pub fn count_up(words: &mut [u64; 8], who: u64)
     ensures { words.new ≡ counted_up words.old who }
 {
     let mut carry = who;
-    let mut i = 0;
-    while (carry != 0) & (i < 8) {
-        let word = words[i];
-        words[i] = word ^ carry;
-        carry = word & carry;
-        i += 1;
+    for word in words.iter_mut() {
+        if carry == 0 {
+            break;
+        }
+        let digits = *word;
+        *word = digits ^ carry;
+        carry &= digits;
     }
 }
 
@@ -23,12 +24,8 @@ pub fn count_up(words: &mut [u64; 8], who: u64)
 pub fn in_use(words: &[u64; 8]) -> usize
     ensures { result ≡ in_use words.now 8 }
 {
-    let mut m = 8;
-    while 0 < m {
-        if words[m - 1] != 0 {
-            return m;
-        }
-        m -= 1;
-    }
-    0
+    words
+        .iter()
+        .rposition(|word| *word != 0)
+        .map_or(0, |i| i + 1)
 }

@@ -6,18 +6,17 @@ use Prim.Native.Nat.{ℕ, ◌≤◌}
 use native.Mathlib.Omega.{arith}
 use lib.Dec.{ltb}
 use lib.ListN.{length, get_or, drop}
+use Rattle.std.specs.Prelude.{Result, Ok, Err}
+use Rattle.refusals.specs.declared.Refusal.{Refusal}
 use Rattle.basics.specs.Lists.{filled}
 use Rattle.basics.proofs.Laws.{get_or-filled, filled_ext}
 use Rattle.refusals.specs.Numbers.{number_of, outcome_number}
 use Rattle.refusals.specs.declared.Refusal.TheVariants.{ShortBuffer}
-use Rattle.refusals.specs.declared.Outcome.TheVariants.{Accepted}
 use Rattle.refusals.proofs.Numbers.{number_range}
 use Rattle.recording.specs.Packed.{trucks_of, rounds_of, openings_of, round_at}
 use Rattle.protocol.specs.declared.Fleet.{Fleet}
 use Rattle.protocol.specs.declared.Answer.{Answer}
 use Rattle.protocol.specs.declared.Grades.{Grades}
-use Rattle.protocol.specs.declared.Grading.{Grading}
-use Rattle.protocol.specs.declared.Grading.TheVariants as grading
 use Rattle.protocol.specs.Fleets.{Protocol, two_round, six_round, started, ran_in, graded_in, grade_answer}
 use Rattle.protocol.specs.Steps.{last_record_in, taken, round_in, recording_of}
 use Rattle.protocol.specs.Claims.{Agreed, Marks, Claim, agrees_with, decides_in, HoldsIn, SameIn, DemandIn, MajorityMarks, MixedMarks, ZeroMarks, counts_sent}
@@ -27,7 +26,7 @@ use Rattle.protocol.proofs.SixDemand.{six-demand}
 use Rattle.protocol.proofs.Gradings.{two_grade, six_grade}
 use Rattle.protocol.proofs.Counts.{sent-counts}
 use Rattle.recordbytes.specs.Layout.{size_for, record_byte, unpacked}
-use Rattle.ffi.specs.Calls.{Result, call_result, buffer_of, grade_result, grade_call_in, store_call, start_call, run_call_in}
+use Rattle.ffi.specs.Calls.{CallResult, call_result, buffer_of, grade_result, grade_call_in, store_call, start_call, run_call_in}
 use Rattle.ffi.specs.Claims.{RecordWith, bytes_of, HoldsOnBytes, SameOnBytes, DemandOnBytes, BytesDemand, SixBytesDemand, MixedBytesAgreement, BytesSentCounts}
 use Rattle.ffi.specs.Claims.{grade_place, BytesAgreeByGrade}
 use Rattle.ffi.proofs.Answers.{grades-refused}
@@ -35,16 +34,16 @@ use Rattle.ffi.proofs.Records.{store_whole, store_accepted}
 use Rattle.ffi.proofs.Lists.{bytes_hold, bytes-laid, next-number, run_holds}
 
 -- a start and a run that answer 0 were accepted, and the buffer had room
-start-accepted : (n : ℕ) (openings d : List ℕ) → (start_call n openings d).number ≡ 0 → ((started n openings).outcome ≡ Accepted) × (size_for 32 ≤ length d)
+start-accepted : (n : ℕ) (openings d : List ℕ) → (start_call n openings d).number ≡ 0 → ((started n openings).outcome ≡ Ok tt) × (size_for 32 ≤ length d)
 unfolding start_call
 start-accepted n openings d z = store_accepted (started n openings) d z
 
-run-accepted : (p : Protocol) (s d : List ℕ) → (run_call_in p s d).number ≡ 0 → ((ran_in p s).outcome ≡ Accepted) × (size_for 32 ≤ length d)
+run-accepted : (p : Protocol) (s d : List ℕ) → (run_call_in p s d).number ≡ 0 → ((ran_in p s).outcome ≡ Ok tt) × (size_for 32 ≤ length d)
 unfolding run_call_in
 run-accepted p s d z = store_accepted (ran_in p s) d z
 
 -- what is claimed of a record is claimed of the bytes that are it
-record_with : (claimed : Fleet → Type 0) (bytes : List ℕ) (f : Fleet) → unpacked bytes ≡ record { outcome = Accepted; fleet = f } → claimed f → RecordWith claimed bytes
+record_with : (claimed : Fleet → Type 0) (bytes : List ℕ) (f : Fleet) → unpacked bytes ≡ record { outcome = Ok tt; fleet = f } → claimed f → RecordWith claimed bytes
 record_with claimed bytes f e c =
     record { whole = ap (λ (a : Answer). a.outcome) e; claim = subst (λ (a : Answer). claimed a.fleet) (sym e) c }
 
@@ -63,7 +62,7 @@ module _ (p : Protocol) where
             (h.run s a.0));
       }
 
-  module _ (n : ℕ) (openings d : List ℕ) (steps : List (List ℕ)) (accepted : (started n openings).outcome ≡ Accepted) (room : size_for 32 ≤ length d)
+  module _ (n : ℕ) (openings d : List ℕ) (steps : List (List ℕ)) (accepted : (started n openings).outcome ≡ Ok tt) (room : size_for 32 ≤ length d)
       (same : SameIn p n openings steps) where
     abbrev last : Fleet
     last = last_record_in p (started n openings).fleet steps
@@ -74,7 +73,7 @@ module _ (p : Protocol) where
     unfolding run_call_in
     as_run_lem e fits =
         ap (λ (a : Answer). store_call a e) same.as_run
-        ∙ store_whole (record { outcome = Accepted; fleet = last }) e refl fits
+        ∙ store_whole (record { outcome = Ok tt; fleet = last }) e refl fits
         ∙ ap (λ (l : List ℕ). call_result 0 (l ∷ []) []) (filled_ext (record_byte last) (λ k. get_or (bytes_of p n openings d steps) k 0) (size_for 32) e (λ k l.
         sym (ap (λ (b : List ℕ). get_or b k 0) (bytes-laid p n openings d accepted room steps) ∙ get_or-filled (record_byte last) (size_for 32) d k 0 l)))
 
@@ -85,7 +84,7 @@ module _ (p : Protocol) where
           as_run = as_run_lem;
           same_record = λ e fits.
               run_holds p (recording_of n openings steps) e (ap (λ (a : Answer). a.outcome) same.as_run) fits
-              ∙ ap (λ (a : Answer). record { outcome = Accepted; fleet = a.fleet }) same.as_run
+              ∙ ap (λ (a : Answer). record { outcome = Ok tt; fleet = a.fleet }) same.as_run
               ∙ sym (bytes_hold p n openings d accepted room steps);
         }
 
@@ -123,7 +122,7 @@ grade_placed Accurate g rest = refl
 
 -- a grading that answers 0 was given
 grade_accepted : (p : Protocol) (c : Class) (s d : List ℕ) → (grade_call_in p s d).number ≡ 0
-    → (g : Grades) × (graded_in p s ≡ grading.Graded g) × (get_or (buffer_of (grade_call_in p s d)) (grade_place c) 0 ≡ grade_of c g)
+    → (g : Grades) × (graded_in p s ≡ Ok g) × (get_or (buffer_of (grade_call_in p s d)) (grade_place c) 0 ≡ grade_of c g)
 unfolding grade_call_in
 grade_accepted p c s d z = go (graded_in p s) z
   where
@@ -133,11 +132,11 @@ grade_accepted p c s d z = go (graded_in p s) z
     fits true g z = absurd (omega arith)
     fits false g z = grade_placed c g (drop 4 d)
 
-    go : (x : Grading) → (grade_result (grade_answer x) d).number ≡ 0
-        → (g : Grades) × (x ≡ grading.Graded g) × (get_or (buffer_of (grade_result (grade_answer x) d)) (grade_place c) 0 ≡ grade_of c g)
-    go (grading.Graded g) z = (g, refl, fits (ltb (length d) 4) g z)
-    go (grading.Refused r) z =
-        let e : number_of r ≡ 0 = ap (λ (x : Result). x.number) (grades-refused d (grading.Refused r) r (number_of r) refl refl) ∙ z in
+    go : (x : Result Grades Refusal) → (grade_result (grade_answer x) d).number ≡ 0
+        → (g : Grades) × (x ≡ Ok g) × (get_or (buffer_of (grade_result (grade_answer x) d)) (grade_place c) 0 ≡ grade_of c g)
+    go (Ok g) z = (g, refl, fits (ltb (length d) 4) g z)
+    go (Err r) z =
+        let e : number_of r ≡ 0 = ap (λ (x : CallResult). x.number) (grades-refused d (Err r) r (number_of r) refl refl) ∙ z in
         absurd (omega (arith, (number_range r).0))
 
 pub grade_on-bytes : (p : Protocol) (c : Class) → AgreesByGrade p c → BytesAgreeByGrade p c

@@ -5,12 +5,12 @@ use mathlib.Core.List.{List, [], ◌∷◌}
 use Prim.Native.Nat.{ℕ, suc, ◌+◌, ◌≤◌}
 use native.Mathlib.Omega.{arith}
 use lib.ListN.{length}
+use Rattle.std.specs.Prelude.{Ok, Err}
 use Rattle.basics.specs.Lists.{filled}
 use Rattle.basics.proofs.Laws.{length-tab, length-filled, get_or-filled_past}
 use Rattle.refusals.specs.Numbers.{outcome_number, accepted}
 use Rattle.refusals.specs.declared.Refusal.{Refusal}
-use Rattle.refusals.specs.declared.Outcome.{Outcome}
-use Rattle.refusals.specs.declared.Outcome.TheVariants.{Accepted, Refused}
+use Rattle.refusals.specs.Outcomes.{Outcome}
 use Rattle.recording.specs.Packed.{trucks_of, rounds_of, opening_at, openings_of, round_at}
 use Rattle.recording.specs.Checks.{bad_trucks, check_of}
 use Rattle.recording.proofs.Accepted.{trucks_in_lem, openings_in, bytes_good}
@@ -47,7 +47,7 @@ record Holds (d b : List ℕ) (f : Fleet) : Type 0 where
   range : bad_trucks f.n ≡ false
   clean : Tidy f.n f.trucks
 
-held-read : (d : List ℕ) → size_for 32 ≤ length d → (b : List ℕ) (f : Fleet) → Holds d b f → unpacked b ≡ record { outcome = Accepted; fleet = f }
+held-read : (d : List ℕ) → size_for 32 ≤ length d → (b : List ℕ) (f : Fleet) → Holds d b f → unpacked b ≡ record { outcome = Ok tt; fleet = f }
 unfolding packed_whole
 held-read d room b f h =
     let fits = room_for f.n d h.range room in
@@ -56,11 +56,11 @@ held-read d room b f h =
 
 -- ---- a whole record in a buffer with room for it
 
-stored : (a : Answer) (d : List ℕ) → a.outcome ≡ Accepted → bad_trucks a.fleet.n ≡ false → size_for 32 ≤ length d → Tidy a.fleet.n a.fleet.trucks
+stored : (a : Answer) (d : List ℕ) → a.outcome ≡ Ok tt → bad_trucks a.fleet.n ≡ false → size_for 32 ≤ length d → Tidy a.fleet.n a.fleet.trucks
     → Holds d (buffer_of (store_call a d)) a.fleet
 stored a d h range room t = record { laid = ap buffer_of (store_whole a d h room); range = range; clean = t }
 
-start-tidy : (n : ℕ) (openings : List ℕ) → (started n openings).outcome ≡ Accepted → Tidy (started n openings).fleet.n (started n openings).fleet.trucks
+start-tidy : (n : ℕ) (openings : List ℕ) → (started n openings).outcome ≡ Ok tt → Tidy (started n openings).fleet.n (started n openings).fleet.trucks
 unfolding started
 start-tidy n openings h =
     let o = accepted_by (start_check n openings) (record { n = n; done = 0; trucks = opened_trucks openings }) blankFleet h in
@@ -74,18 +74,18 @@ unfolding stepped_in next_fleet_in
 step_tidy p f w t = go (step_check_in p f w) refl
   where
     go : (o : Outcome) → step_check_in p f w ≡ o → Tidy (answer o (next_fleet_in p f w) f).fleet.n (answer o (next_fleet_in p f w) f).fleet.trucks
-    go Accepted e =
+    go (Ok _) e =
         tidy-after p.rules f.n (active_bit w) (f.done + 1) w f.trucks (trucks_in_lem f.n (step_trucks p f w e)).1 t
-    go (Refused r) e = t
+    go (Err r) e = t
 
 -- a refused step returns the record it was given
-step_kept : (p : Protocol) (f : Fleet) (w : List ℕ) (r : Refusal) → (stepped_in p f w).outcome ≡ Refused r → (stepped_in p f w).fleet ≡ f
+step_kept : (p : Protocol) (f : Fleet) (w : List ℕ) (r : Refusal) → (stepped_in p f w).outcome ≡ Err r → (stepped_in p f w).fleet ≡ f
 unfolding stepped_in
 step_kept p f w r h = go (step_check_in p f w) h
   where
-    go : (o : Outcome) → (answer o (next_fleet_in p f w) f).outcome ≡ Refused r → (answer o (next_fleet_in p f w) f).fleet ≡ f
-    go Accepted e = absurd (true≢false (ap accepted e))
-    go (Refused q) e = refl
+    go : (o : Outcome) → (answer o (next_fleet_in p f w) f).outcome ≡ Err r → (answer o (next_fleet_in p f w) f).fleet ≡ f
+    go (Ok _) e = absurd (true≢false (ap accepted e))
+    go (Err q) e = refl
 
 -- a step keeps n
 step_n : (p : Protocol) (f : Fleet) (w : List ℕ) → (stepped_in p f w).fleet.n ≡ f.n
@@ -93,8 +93,8 @@ unfolding stepped_in next_fleet_in
 step_n p f w = go (step_check_in p f w)
   where
     go : (o : Outcome) → (answer o (next_fleet_in p f w) f).fleet.n ≡ f.n
-    go Accepted = refl
-    go (Refused r) = refl
+    go (Ok _) = refl
+    go (Err r) = refl
 
 module _ (p : Protocol) (d : List ℕ) (room : size_for 32 ≤ length d) where
   module _ (b w : List ℕ) (f : Fleet) (holds : Holds d b f) where
@@ -115,7 +115,7 @@ module _ (p : Protocol) (d : List ℕ) (room : size_for 32 ≤ length d) where
         before = rw (step_n p f w) holds.clean
 
         go : (o : Outcome) → (stepped_in p f w).outcome ≡ o → Holds d (buffer_of (record_as o g.n g b)) g
-        go Accepted e =
+        go (Ok _) e =
             let range = step_range p f w e in
             let clean = step_tidy p f w holds.clean in
             record {
@@ -123,7 +123,7 @@ module _ (p : Protocol) (d : List ℕ) (room : size_for 32 ≤ length d) where
               range = range;
               clean = clean;
             }
-        go (Refused r) e = rw (step_kept p f w r e) holds
+        go (Err r) e = rw (step_kept p f w r e) holds
 
   steps_hold : (ws : List (List ℕ)) (b : List ℕ) (f : Fleet) → Holds d b f → Holds d (bytes_after_in p b ws) (last_record_in p f ws)
   unfolding bytes_after_in last_record_in
@@ -132,7 +132,7 @@ module _ (p : Protocol) (d : List ℕ) (room : size_for 32 ≤ length d) where
 
 -- ---- lists of steps and runs on bytes
 
-module _ (p : Protocol) (n : ℕ) (openings d : List ℕ) (accepted : (started n openings).outcome ≡ Accepted) (room : size_for 32 ≤ length d) (ws : List (List ℕ)) where
+module _ (p : Protocol) (n : ℕ) (openings d : List ℕ) (accepted : (started n openings).outcome ≡ Ok tt) (room : size_for 32 ≤ length d) (ws : List (List ℕ)) where
   held : Holds d (bytes_after_in p (buffer_of (start_call n openings d)) ws) (last_record_in p (started n openings).fleet ws)
   unfolding start_call
   held =
@@ -140,7 +140,7 @@ module _ (p : Protocol) (n : ℕ) (openings d : List ℕ) (accepted : (started n
       (stored (started n openings) d accepted (start_range n openings (started n openings) refl accepted) room (start-tidy n openings accepted))
 
   -- after a start and steps on bytes, refused ones included, the bytes are the record that the start and the steps return
-  pub bytes_hold : unpacked (bytes_after_in p (buffer_of (start_call n openings d)) ws) ≡ record { outcome = Accepted; fleet = last_record_in p (started n openings).fleet ws }
+  pub bytes_hold : unpacked (bytes_after_in p (buffer_of (start_call n openings d)) ws) ≡ record { outcome = Ok tt; fleet = last_record_in p (started n openings).fleet ws }
   bytes_hold = held-read d room (bytes_after_in p (buffer_of (start_call n openings d)) ws) (last_record_in p (started n openings).fleet ws) held
 
   -- all of them: 323, and past these what the buffer held
@@ -165,15 +165,15 @@ run-tidy rules s most =
     (λ k l b. tidy-after rules (trucks_of s) (active_bit (round_at s k)) (suc k) (round_at s k) (trucks_in rules (trucks_of s) (openings_of s) (round_at s) k) most b)
     (rounds_of s) (omega arith)
 
-run_clean : (p : Protocol) (s : List ℕ) → (ran_in p s).outcome ≡ Accepted → Tidy (ran_in p s).fleet.n (ran_in p s).fleet.trucks
+run_clean : (p : Protocol) (s : List ℕ) → (ran_in p s).outcome ≡ Ok tt → Tidy (ran_in p s).fleet.n (ran_in p s).fleet.trucks
 unfolding ran_in fleet_in
 run_clean p s h =
     let o = accepted_by (check_of s) (fleet_in p (trucks_of s) (openings_of s) (round_at s) (rounds_of s)) blankFleet h in
     rw o.1 (run-tidy p.rules s (bytes_good s o.0).frame.most)
 
 -- the bytes that an accepted run leaves are the record that it returns
-pub run_holds : (p : Protocol) (s d : List ℕ) → (ran_in p s).outcome ≡ Accepted → size_for 32 ≤ length d
-    → unpacked (buffer_of (run_call_in p s d)) ≡ record { outcome = Accepted; fleet = (ran_in p s).fleet }
+pub run_holds : (p : Protocol) (s d : List ℕ) → (ran_in p s).outcome ≡ Ok tt → size_for 32 ≤ length d
+    → unpacked (buffer_of (run_call_in p s d)) ≡ record { outcome = Ok tt; fleet = (ran_in p s).fleet }
 unfolding run_call_in
 run_holds p s d h room =
     held-read d room (buffer_of (run_call_in p s d)) (ran_in p s).fleet (stored (ran_in p s) d h (run_range p s (ran_in p s) refl h) room (run_clean p s h))

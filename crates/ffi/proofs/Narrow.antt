@@ -7,10 +7,9 @@ use native.Mathlib.Nat.{min-eq_left, min-eq_right}
 use native.Mathlib.Decide.{dec_lt}
 use native.Mathlib.Omega.{arith}
 use borrow.Author.Tests.{lt-ltb, ne_eqb}
+use Rattle.std.specs.Prelude.{Err}
 use Rattle.refusals.specs.declared.Refusal.TheVariants.{TruckCount, RoundCount}
-use Rattle.refusals.specs.declared.Outcome.TheVariants.{Refused}
 use Rattle.recording.specs.Checks.{bad_trucks, bad_rounds, plain_check}
-use Rattle.plain.specs.declared.WriteOutcome.TheVariants as write
 use Rattle.plain.specs.Forms.{after_write, write_check, write_plain}
 
 pub many_trucks : (n : ℕ) → 32 < n → bad_trucks n ≡ true
@@ -45,11 +44,11 @@ module _ {ℓ} {A : Type ℓ} (f : ℕ → ℕ → A) (x y : A) (two : (n R : �
 pub narrow_check : (openings words : List ℕ) (n R m S : ℕ) → m ≡ min n 255 → S ≡ min R 65535 → plain_check m S openings words ≡ plain_check n R openings words
 unfolding plain_check
 narrow_check openings words =
-    narrow_counts (λ n R. plain_check n R openings words) (Refused TruckCount) (Refused RoundCount) (λ n R h. rw h) (λ n R g h. rw (g, h))
+    narrow_counts (λ n R. plain_check n R openings words) (Err TruckCount) (Err RoundCount) (λ n R h. rw h) (λ n R g h. rw (g, h))
 
 pub narrow_write : (openings words buffer : List ℕ) (n R m S : ℕ) → m ≡ min n 255 → S ≡ min R 65535
     → write_plain m S openings words buffer ≡ write_plain n R openings words buffer
 unfolding write_plain write_check plain_check
 narrow_write openings words buffer =
-    narrow_counts (λ n R. write_plain n R openings words buffer) (after_write (write.Refused TruckCount) buffer) (after_write (write.Refused RoundCount) buffer)
+    narrow_counts (λ n R. write_plain n R openings words buffer) (after_write (Err TruckCount) buffer) (after_write (Err RoundCount) buffer)
     (λ n R h. rw h) (λ n R g h. rw (g, h))

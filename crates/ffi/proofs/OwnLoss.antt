@@ -8,12 +8,11 @@ use native.Mathlib.Omega.{arith}
 use borrow.Author.Tests.{ltb-false, le-ltb, ne_eqb}
 use lib.Dec.{ltb, eqb}
 use lib.ListN.{length, get_or, drop}
+use Rattle.std.specs.Prelude.{Ok, Err}
 use Rattle.basics.proofs.Laws.{or_left, or_right, or-none}
 use Rattle.refusals.specs.declared.Refusal.TheVariants.{ShortBuffer}
-use Rattle.refusals.specs.declared.Outcome.{Outcome}
-use Rattle.refusals.specs.declared.Outcome.TheVariants.{Accepted, Refused}
 use Rattle.refusals.specs.Numbers.{number_of, outcome_number, numbered}
-use Rattle.refusals.specs.Outcomes.{refuse, and_then}
+use Rattle.refusals.specs.Outcomes.{Outcome, refuse, and_then}
 use Rattle.refusals.specs.Locations.{outcome_location, location_number}
 use Rattle.refusals.proofs.Locations.{outcome_6}
 use Rattle.recording.specs.Packed.{trucks_of, rounds_of, openings_of, round_at, word_at, bytes_for}
@@ -78,14 +77,14 @@ module _ (n m k : ℕ) (words : List ℕ) (few : m ≡ min n 255) where
 
 -- ---- what they answer where a call answers 6
 number_of_lem : (o : Outcome) (values : List ℕ) → (numbered o values).0 ≡ outcome_number o
-number_of_lem Accepted values = refl
-number_of_lem (Refused r) values = refl
+number_of_lem (Ok _) values = refl
+number_of_lem (Err r) values = refl
 
 -- a buffer that is too short is not what is answered 6 for
-before_9 : (o : Outcome) (b : Bool) → outcome_number (and_then o (refuse b ShortBuffer Accepted)) ≡ 6 → outcome_number o ≡ 6
-before_9 Accepted true h = absurd (omega arith)
-before_9 Accepted false h = absurd (omega arith)
-before_9 (Refused r) b h = h
+before_9 : (o : Outcome) (b : Bool) → outcome_number (and_then o (refuse b ShortBuffer (Ok tt))) ≡ 6 → outcome_number o ≡ 6
+before_9 (Ok _) true h = absurd (omega arith)
+before_9 (Ok _) false h = absurd (omega arith)
+before_9 (Err r) b h = h
 
 module _ (s : List ℕ) where
   -- the first own loss bit of a recording, as it is answered
@@ -116,7 +115,7 @@ module _ (s : List ℕ) where
   run_6 p d h =
       let short = ltb (length d) (size_for 32) in
       let f : Fleet = fleet_in p (trucks_of s) (openings_of s) (round_at s) (rounds_of s) in
-      let ran-6 = before_9 (ran_in p s).outcome short (sym (record_number (and_then (ran_in p s).outcome (refuse short ShortBuffer Accepted)) 32 (ran_in p s).fleet d) ∙ h) in
+      let ran-6 = before_9 (ran_in p s).outcome short (sym (record_number (and_then (ran_in p s).outcome (refuse short ShortBuffer (Ok tt))) 32 (ran_in p s).fleet d) ∙ h) in
       named (sym (ap outcome_number (answer-outcome (check_of s) f blank)) ∙ ran-6)
 
   pub grade_6 : (p : Protocol) (grades : List ℕ) → (grade_call_in p s grades).number ≡ 6 → RecordingNamed
@@ -128,8 +127,8 @@ module _ (s : List ℕ) where
       short false values e = e
 
       go : (o : Outcome) (values : List ℕ) → (grade_result (numbered o values) grades).number ≡ 6 → outcome_number o ≡ 6
-      go Accepted values e = short (ltb (length grades) (length values)) values e
-      go (Refused r) values e = rw (le-ltb (length grades) 0 (omega arith)) at e
+      go (Ok _) values e = short (ltb (length grades) (length values)) values e
+      go (Err r) values e = rw (le-ltb (length grades) 0 (omega arith)) at e
 
 -- writing
 pub write_6 : (n R : ℕ) (openings words bytes : List ℕ) (written : ℕ) → (write_call n R openings words bytes written).number ≡ 6
@@ -146,7 +145,7 @@ whole_6 : {A : Type 0} (d : List ℕ) → outcome_number (unpacked d).outcome �
 unfolding unpacked
 whole_6 {A} d = go (damaged d)
   where
-    go : (b : Bool) → outcome_number (cond b no_record (record { outcome = Accepted; fleet = record_of d })).outcome ≡ 6 → A
+    go : (b : Bool) → outcome_number (cond b no_record (record { outcome = Ok tt; fleet = record_of d })).outcome ≡ 6 → A
     go true h = absurd (omega arith)
     go false h = absurd (omega arith)
 
@@ -165,10 +164,10 @@ step_6 p d w h = go (unpacked d).outcome refl (sym (record_number (and_then (unp
 
     go : (o : Outcome) → (unpacked d).outcome ≡ o → outcome_number (and_then o (stepped_in p f w).outcome) ≡ 6
         → (truck : ℕ) × (cond (bad_trucks f.n || eqb k 0 || ltb 400 k) 0 (own_loss (round_check f.n k w)) ≡ k * 256 + truck) × FirstOwn (λ j. get_or w j 0) f.n 1 0 truck
-    go Accepted e g =
+    go (Ok _) e g =
         let (round, truck, r) = outcome_6 (step_check_in p f w) (sym (ap outcome_number (step_checked p f w)) ∙ g) in
         let n = step_names p f w round truck r in
         let within : (bad_trucks f.n || eqb k 0 || ltb 400 k) ≡ false =
         or-none (bad_trucks f.n || eqb k 0) (ltb 400 k) (or-none (bad_trucks f.n) (eqb k 0) n.trucks (ne_eqb k 0 (λ z. omega arith))) (le-ltb 400 k (omega (arith, n.room))) in
         (truck, ap (λ (t : Bool). cond t 0 (own_loss (round_check f.n k w))) within ∙ ap own_loss n.own ∙ ap (λ (j : ℕ). j * 256 + truck) n.round-next, n.first)
-    go (Refused r) e g = whole_6 d (ap outcome_number e ∙ g)
+    go (Err r) e g = whole_6 d (ap outcome_number e ∙ g)

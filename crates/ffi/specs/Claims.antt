@@ -1,10 +1,9 @@
 -- Demand 3 on bytes, for any protocol: callers in other languages hold a fleet record as 323 bytes, and know by the number 0 that a call was accepted and that their
 -- buffer had room.
-use Rattle.std.specs.Prelude.{◌≡◌, List, [], ◌∷◌, ℕ, ◌+◌, ◌≤◌, eqb, length, get_or}
+use Rattle.std.specs.Prelude.{◌≡◌, List, [], ◌∷◌, ℕ, ◌+◌, ◌≤◌, eqb, length, get_or, Ok}
 use Rattle.basics.specs.Lists.{filled}
 use Rattle.refusals.specs.Numbers.{outcome_number}
 use Rattle.refusals.specs.declared.Refusal.TheVariants.{RoundsDone}
-use Rattle.refusals.specs.declared.Outcome.TheVariants.{Accepted}
 use Rattle.refusals.specs.Outcomes.{refuse}
 use Rattle.recording.specs.Packed.{trucks_of, rounds_of, openings_of, round_at}
 use Rattle.recording.specs.Checks.{round_check}
@@ -18,7 +17,7 @@ use Rattle.ffi.specs.Calls.{call_result, buffer_of, grade_call_in, start_call, s
 
 -- the bytes are a record, of which this is claimed
 pub record RecordWith (claimed : Fleet → Type 0) (bytes : List ℕ) : Type 0 where
-  pub whole : (unpacked bytes).outcome ≡ Accepted
+  pub whole : (unpacked bytes).outcome ≡ Ok tt
   pub claim : claimed (unpacked bytes).fleet
 
 module _ (p : Protocol) where

@@ -1,5 +1,5 @@
 // The static library for C and its like: each function of crate ffi that other languages call, under its own name and by the C calling convention. What each
-// answers is said and proved there.
+// answers is said and proved there; it stands in a crate of its own, since other crates rest on `ffi`, and none can rest on a static library.
 #![tactic(auto)]
 
 ghost use Rattle.std.specs.Prelude.{◌≡◌, [], ◌∷◌};

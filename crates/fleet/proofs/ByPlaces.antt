@@ -5,11 +5,11 @@ use mathlib.Core.List.{List}
 use Prim.Native.Nat.{ℕ, ◌+◌, ◌≤◌, ◌<◌, min}
 use native.Mathlib.Omega.{arith}
 use lib.ListN.{length, get_or}
+use Rattle.std.specs.Prelude.{Ok, Err}
 use Rattle.basics.specs.Lists.{filled}
 use Rattle.basics.proofs.Laws.{get_or-filled}
 use Rattle.refusals.specs.declared.Refusal.{Refusal}
 use Rattle.refusals.specs.declared.Refusal.TheVariants.{Record}
-use Rattle.refusals.specs.declared.Outcome.TheVariants.{Accepted, Refused}
 use Rattle.refusals.proofs.Outcomes.{then-first}
 use Rattle.protocol.specs.declared.Truck.{Truck}
 use Rattle.protocol.specs.declared.Fleet.{Fleet}
@@ -32,15 +32,15 @@ pub places_end : (d : List ℕ) → damaged d ≡ false → {end : ℕ} → end 
 places_end d sound e = omega (arith, e, bytes-n d sound, bytes-few d sound)
 
 module _ (p : Protocol) (d w : List ℕ) where
-  pub check_damaged : damaged d ≡ true → Refused Record ≡ bytes_check_in p d w
+  pub check_damaged : damaged d ≡ true → Err Record ≡ bytes_check_in p d w
   unfolding bytes_check_in unpacked
   check_damaged h = rw h
 
-  pub check_undamaged : bytes_check_in p d w ≡ Accepted → damaged d ≡ false
+  pub check_undamaged : bytes_check_in p d w ≡ Ok tt → damaged d ≡ false
   unfolding bytes_check_in
   check_undamaged h = taken-whole d (then-first (unpacked d).outcome (stepped_in p (unpacked d).fleet w).outcome h)
 
-  pub bytes-refused : (r : Refusal) → bytes_check_in p d w ≡ Refused r → d ≡ bytes_step_in p d w
+  pub bytes-refused : (r : Refusal) → bytes_check_in p d w ≡ Err r → d ≡ bytes_step_in p d w
   unfolding bytes_step_in
   bytes-refused r h = rw h
 
@@ -49,7 +49,7 @@ module _ (p : Protocol) (d w : List ℕ) where
     unfolding bytes_check_in unpacked stepped_in
     check_is = rw sound (sym (answer-outcome (step_check_in p (record_of d) w) (next_fleet_in p (record_of d) w) (record_of d)))
 
-    pub bytes-accepted : bytes_check_in p d w ≡ Accepted → (l : List ℕ) → l ≡ filled (record_byte (next_fleet_in p (record_of d) w)) (size_for (record_of d).n) d → l ≡ bytes_step_in p d w
+    pub bytes-accepted : bytes_check_in p d w ≡ Ok tt → (l : List ℕ) → l ≡ filled (record_byte (next_fleet_in p (record_of d) w)) (size_for (record_of d).n) d → l ≡ bytes_step_in p d w
     unfolding bytes_step_in unpacked stepped_in next_fleet_in
     bytes-accepted h l e = e ∙ rw (h, sound, check_is ∙ h)
 

@@ -7,10 +7,9 @@ use native.Mathlib.Omega.{arith}
 use borrow.Author.Tests.{leb-true, eq-eqb, ne_eqb, eqb-false, not-false}
 use lib.Dec.{eqb}
 use lib.ListN.{length}
+use Rattle.std.specs.Prelude.{Ok, Err}
 use Rattle.refusals.specs.declared.Refusal.TheVariants.{Record, RoundsDone}
-use Rattle.refusals.specs.declared.Outcome.{Outcome}
-use Rattle.refusals.specs.declared.Outcome.TheVariants.{Accepted, Refused}
-use Rattle.refusals.specs.Outcomes.{refuse}
+use Rattle.refusals.specs.Outcomes.{Outcome, refuse}
 use Rattle.refusals.proofs.Outcomes.{refuse-false, refuse-rest}
 use Rattle.recording.specs.Checks.{round_check}
 use Rattle.recording.proofs.Accepted.{trucks_in_lem}
@@ -41,13 +40,13 @@ pub record StepGood (c : Cycle) (f : Fleet) (w : List ℕ) : Type 0 where
   pub counts : (j : ℕ) → j < f.n → Room c (truck f.trucks j).sent
   pub count : length w ≡ 3 + f.n
 
-pub step_good : (c : Cycle) (f : Fleet) (w : List ℕ) → step_check_in (chosen c) f w ≡ Accepted → StepGood c f w
+pub step_good : (c : Cycle) (f : Fleet) (w : List ℕ) → step_check_in (chosen c) f w ≡ Ok tt → StepGood c f w
 unfolding step_check_in
 step_good c f w h =
     let later : Outcome = refuse (eqb f.done 400) RoundsDone (round_check f.n (f.done + 1) w) in
     let passes : Bool = good_fleet_in (chosen c) f in
     let good = record_parts (chosen c) f (not-false passes (refuse-false (not passes) Record later h)) in
-    let rest : later ≡ Accepted = refuse-rest (not passes) Record later h in
+    let rest : later ≡ Ok tt = refuse-rest (not passes) Record later h in
     let full : f.done ≡ 400 → ⊥ = eqb-false f.done 400 (refuse-false (eqb f.done 400) RoundsDone (round_check f.n (f.done + 1) w) rest) in
     record {
       most = (trucks_in_lem f.n good.trucks).1;
@@ -59,12 +58,12 @@ step_good c f w h =
 
 -- what a step answers, test by test, in any protocol
 module _ (p : Protocol) (f : Fleet) (w : List ℕ) where
-  pub step_7 : good_fleet_in p f ≡ false → Refused Record ≡ step_check_in p f w
+  pub step_7 : good_fleet_in p f ≡ false → Err Record ≡ step_check_in p f w
   unfolding step_check_in
   step_7 h = rw h
 
   module _ (good : good_fleet_in p f ≡ true) where
-    pub step_14 : f.done ≡ 400 → Refused RoundsDone ≡ step_check_in p f w
+    pub step_14 : f.done ≡ 400 → Err RoundsDone ≡ step_check_in p f w
     unfolding step_check_in
     step_14 h = rw (good, eq-eqb f.done 400 h)
 

@@ -34,7 +34,7 @@ use Rattle.playback.specs.declared.hearing.Values.{Values}
 use Rattle.fleet.specs.declared.round.Phase.{Phase}
 use Rattle.fleet.specs.declared.round.Phase.TheVariants.{Proposals, Vetoes}
 use Rattle.playback.specs.Sets.{heard_set, values_of, Sorted}
-use Rattle.fleet.specs.Rounds.{phase_of, sends_in, stop_event, play_event, event_of, event_by, event_at, no_events, turned_fleet}
+use Rattle.fleet.specs.Rounds.{phase_of, sends_in, stop_event, play_event, event_of, event_by, no_events, turned_fleet}
 use Rattle.playback.specs.Sets.{estimates}
 use Rattle.fleet.proofs.Laws.{next-kind, six_phases, message_right}
 use Rattle.playback.proofs.ByCrusher.{values-right}
@@ -180,16 +180,14 @@ module _ (c : Cycle) (f : Fleet) (w : List ℕ) where
         ∙ sym next_is
 
     -- the same where the events stand in a list
-    pub step_next : f.n ≤ 32 → (held : List ℕ) → ((j : ℕ) → j < f.n → get_or held j 0 ≡ estimates f.trucks j)
-        → (events : List Event) → events ≡ filled (event_at phase w senders values held) f.n no_events
+    pub step_next : f.n ≤ 32 → (events : List Event) → events ≡ filled event f.n no_events
         → (g : Fleet) → g ≡ updated_first f (min f.n 32) (f.done + 1) events
         → record { n = g.n; done = f.done + 1; trucks = g.trucks } ≡ next_fleet_in (chosen c) f w
-    step_next few held holds events e g eg =
+    step_next few events e g eg =
         ap (λ (x : Fleet). record { n = x.n; done = f.done + 1; trucks = x.trucks })
         (eg ∙ ap (λ (m : ℕ). updated_first f m (f.done + 1) events) (let z : min f.n 32 ≡ f.n = omega arith in z)
         ∙ ap (λ (l : List Truck). record { n = f.n; done = f.done; trucks = l })
         (filled_ext (λ i. turned (f.done + 1) (get_or events i Stop) (truck trucks i)) (λ i. turned (f.done + 1) (event i) (truck trucks i)) f.n trucks
         (λ i l. ap (λ (x : Event). turned (f.done + 1) x (truck trucks i))
-        (ap (λ (es : List Event). get_or es i Stop) e ∙ get_or-filled (event_at phase w senders values held) f.n no_events i Stop l
-        ∙ ap (λ (x : ℕ). event_by phase w senders values x i) (holds i l)))))
+        (ap (λ (es : List Event). get_or es i Stop) e ∙ get_or-filled event f.n no_events i Stop l))))
         ∙ turned-next

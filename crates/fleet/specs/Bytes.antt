@@ -1,7 +1,6 @@
 -- A step of a record as bytes, by a round in plain form (recordbytes, Layout).
 use Rattle.std.specs.Prelude.{ℕ, List}
-use Rattle.refusals.specs.declared.Outcome.{Outcome}
-use Rattle.refusals.specs.Outcomes.{and_then}
+use Rattle.refusals.specs.Outcomes.{Outcome, and_then}
 use Rattle.protocol.specs.Fleets.{Protocol, stepped_in}
 use Rattle.recordbytes.specs.Layout.{pack_for, unpacked}
 

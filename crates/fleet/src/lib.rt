@@ -6,10 +6,11 @@ ghost use Rattle.protocol.specs.Fleets.{chosen, step_check_in, stepped_in, stepp
 ghost use Rattle.fleet.specs.Bytes.{bytes_check_in, bytes_step_in};
 
 use protocol::{Answer, Cycle, Fleet};
-use refusals::{Outcome, Refusal};
+use refusals::Refusal;
 
 mod bytes;
 mod round;
+mod trucks;
 
 // Starting a fleet.
 pub use fleetrecord::start;
@@ -17,14 +18,14 @@ pub use fleetrecord::start;
 // Running and grading a recording.
 pub use playback::{grade, grade_in, run, run_bytes, run_in};
 
-fn check_step(cycle: Cycle, f: Fleet, words: &[u32]) -> Outcome
+fn check_step(cycle: Cycle, f: Fleet, words: &[u32]) -> Result<(), Refusal>
     ensures { result ≡ step_check_in (chosen cycle) f words.now }
 {
     if !fleetrecord::good_fleet(cycle, f) {
-        return Outcome::Refused(Refusal::Record);
+        return Err(Refusal::Record);
     }
     if f.done == 400 {
-        return Outcome::Refused(Refusal::RoundsDone);
+        return Err(Refusal::RoundsDone);
     }
     plain::check_round(f.n, f.done + 1, words)
 }
@@ -33,20 +34,19 @@ fn check_step(cycle: Cycle, f: Fleet, words: &[u32]) -> Outcome
 pub fn step_in(cycle: Cycle, f: Fleet, words: &[u32]) -> Answer
     ensures { result ≡ stepped_in (chosen cycle) f words.now }
 {
-    let outcome = check_step(cycle, f, words);
-    match outcome {
-        Outcome::Accepted => Answer {
-            outcome: Outcome::Accepted,
+    match check_step(cycle, f, words) {
+        Ok(()) => Answer {
+            outcome: Ok(()),
             fleet: round::next_fleet(cycle, f, words),
         },
-        Outcome::Refused(refusal) => Answer {
-            outcome: Outcome::Refused(refusal),
+        Err(refusal) => Answer {
+            outcome: Err(refusal),
             fleet: f,
         },
     }
 }
 
-// A step of the two-round cycle.
+// A step of the two-round cycle, the name that the pages give to callers.
 pub fn step(f: Fleet, words: &[u32]) -> Answer
     ensures { result ≡ stepped f words.now }
 {
@@ -54,16 +54,11 @@ pub fn step(f: Fleet, words: &[u32]) -> Answer
 }
 
 // A step of a record as bytes, in a cycle, by a round in plain form.
-pub fn step_bytes(cycle: Cycle, d: &mut [u8], words: &[u32]) -> Outcome
+pub fn step_bytes(cycle: Cycle, d: &mut [u8], words: &[u32]) -> Result<(), Refusal>
     ensures answer { result ≡ bytes_check_in (chosen cycle) d.old words.now }
     ensures buffer { d.new ≡ bytes_step_in (chosen cycle) d.old words.now }
 {
-    let outcome = bytes::check(cycle, d, words);
-    match outcome {
-        Outcome::Accepted => {
-            bytes::next_bytes(cycle, d, words);
-            Outcome::Accepted
-        }
-        Outcome::Refused(refusal) => Outcome::Refused(refusal),
-    }
+    bytes::check(cycle, d, words)?;
+    bytes::next_bytes(cycle, d, words);
+    Ok(())
 }

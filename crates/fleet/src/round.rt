@@ -1,15 +1,14 @@
 // One round in plain form makes of a fleet record the next. Bit j of a word and of a set says something of truck j.
-ghost use Rattle.std.specs.Prelude.{◌≡◌, not, ◌&&◌, ℕ, ◌<◌, ◌≤◌, ◌+◌, min, length, replicate};
-ghost use Rattle.refusals.specs.declared.Outcome.TheVariants.{Accepted};
+ghost use Rattle.std.specs.Prelude.{◌≡◌, not, ◌&&◌, ℕ, ◌<◌, ◌≤◌, ◌+◌, length, replicate, Ok};
 ghost use Rattle.basics.specs.Lists.{filled};
 ghost use Rattle.protocol.specs.Rules.{runs};
 ghost use Rattle.protocol.specs.Fleets.{chosen, step_check_in, next_fleet_in};
 ghost use Rattle.sets.specs.Sets.{Members};
-ghost use Rattle.playback.specs.Sets.{Sorted};
-ghost use Rattle.fleet.specs.Rounds.{six_phase, phase_of, message_in, sends_in, stop_event, event_of, event_by, event_at, no_events};
-ghost use Rattle.playback.specs.Sets.{estimates};
+ghost use Rattle.fleet.specs.Rounds.{six_phase, phase_of, message_in, sends_in, stop_event, event_of, event_by, no_events};
+ghost use Rattle.playback.specs.Sets.{Sorted, estimates};
 
-use playback::hearing::{heard_by, values_of};
+use crate::trucks::Trucks;
+use playback::hearing::{Values, heard_by, values_of};
 use protocol::{Cycle, Fleet, Truck};
 use truck::Event;
 
@@ -28,13 +27,11 @@ fn six_phase(done: u16) -> Phase
     requires { done < 6 }
     ensures { result ≡ six_phase done }
 {
-    if done == 0 {
-        return Phase::Prepare;
+    match done {
+        0 => Phase::Prepare,
+        5 => Phase::Accept,
+        _ => Phase::Bit(1 << (4 - done)),
     }
-    if done == 5 {
-        return Phase::Accept;
-    }
-    Phase::Bit(1 << (4 - done))
 }
 
 // The next round, with so many done.
@@ -44,9 +41,10 @@ pub(crate) fn phase_of(cycle: Cycle, done: u16) -> Phase
     match cycle {
         Cycle::TwoRound => {
             if done % 2 == 0 {
-                return Phase::Proposals;
+                Phase::Proposals
+            } else {
+                Phase::Vetoes
             }
-            Phase::Vetoes
         }
         Cycle::SixRound => six_phase(done % 6),
     }
@@ -66,41 +64,35 @@ fn message(phase: Phase, t: Truck, active: bool) -> bool
 }
 
 // Whether a truck sends.
-pub(crate) fn sends(phase: Phase, t: Truck, stop: bool, active: bool) -> bool
+fn sends(phase: Phase, t: Truck, stop: bool, active: bool) -> bool
     ensures { result ≡ ((runs t && not stop) && message_in phase active t) }
 {
     let has = message(phase, t, active);
     truck::runs(t) & !stop & has
 }
 
-// The senders of the next round, in one pass with the senders of each crusher and the estimate that each truck holds, so that the record is copied once. Nobody
-// asks for the crushers' senders but in rounds in which estimates are sent.
-fn senders_of(
+// The senders of the next round, in one pass with the senders of each crusher. Nobody asks for the crushers' senders but in rounds in which estimates are sent.
+// The caller lends the array of them: a round that is made here with the array in it is copied whole.
+pub(crate) fn senders_of<R: Trucks>(
     phase: Phase,
-    f: Fleet,
     words: &[u32],
+    trucks: &R,
     values: &mut [u32; 16],
-    held: &mut [u8; 32],
 ) -> u32
-    requires { (f.n ≤ 32) × (length words.now ≡ 3 + f.n) × ((j : ℕ) → j < f.n → estimates f.trucks j < 16)
-        × (values.old ≡ replicate 16 0) × (length held.old ≡ 32) }
-    ensures senders { Members result f.n (sends_in phase words.now f.trucks) }
-    ensures sorted { Sorted values.new f.n result (estimates f.trucks) }
-    ensures kept { held.new ≡ filled (estimates f.trucks) f.n held.old }
+    requires { ((R.fleet trucks.now).n ≤ 32) × (length words.now ≡ 3 + (R.fleet trucks.now).n)
+        × ((j : ℕ) → j < (R.fleet trucks.now).n → estimates (R.fleet trucks.now).trucks j < 16) × (values.old ≡ replicate 16 0) }
+    ensures senders { Members result (R.fleet trucks.now).n (sends_in phase words.now (R.fleet trucks.now).trucks) }
+    ensures sorted { Sorted values.new (R.fleet trucks.now).n result (estimates (R.fleet trucks.now).trucks) }
 {
-    let n = f.n as usize;
     let stop = words[0];
     let active = words[1];
     let mut senders = 0;
-    let mut i = 0;
-    while i < n {
-        let t = f.trucks[i];
+    for i in 0..trucks.count() {
+        let t = trucks.truck(i);
         let joins = sends(phase, t, sets::holds(stop, i), sets::holds(active, i));
         let c = t.estimate as usize;
-        held[i] = t.estimate;
         senders = sets::union_where(senders, sets::only(i), joins);
         values[c] = sets::union_where(values[c], sets::only(i), joins);
-        i += 1;
     }
     senders
 }
@@ -110,124 +102,102 @@ fn stop_event(phase: Phase) -> Event
     ensures { result ≡ stop_event phase }
 {
     match phase {
-        Phase::Proposals => Event::Stop,
-        Phase::Vetoes => Event::Stop,
-        Phase::Prepare => Event::StopSix,
-        Phase::Bit(_) => Event::StopSix,
-        Phase::Accept => Event::StopSix,
+        Phase::Proposals | Phase::Vetoes => Event::Stop,
+        Phase::Prepare | Phase::Bit(_) | Phase::Accept => Event::StopSix,
     }
 }
 
-// What a round is to a truck, by its stop bit, whether it sends, its mark, the senders it hears and those of each crusher.
-fn event_of(
-    phase: Phase,
-    stop: bool,
-    sends: bool,
-    mark: bool,
-    heard: u32,
-    values: &[u32; 16],
-    estimate: u8,
-) -> Event
-    ensures { result ≡ event_of phase stop sends mark heard values.now estimate }
-{
-    if stop {
-        return stop_event(phase);
-    }
-    let veto = heard != 0;
-    let noticed = mark | veto;
-    match phase {
-        Phase::Proposals => {
-            let v = values_of(values, heard, estimate);
-            let count = v.heard;
-            Event::Proposals {
-                sends,
-                mark,
-                heard: count,
-                least: v.least,
-            }
+// A round of the trucks of a record.
+#[derive(Clone, Copy)]
+pub(crate) struct Round<'a> {
+    pub(crate) phase: Phase,
+    pub(crate) words: &'a [u32],
+    // Who sends in it, and the senders of each crusher.
+    pub(crate) senders: u32,
+    pub(crate) values: &'a [u32; 16],
+}
+
+impl<'a> Round<'a> {
+    // What the round is to a truck, by its stop bit, whether it sends, its mark, the senders it hears and its estimate.
+    #[tactic(auto, unfolding(crate::specs::Rounds::event_of))]
+    fn event_of(&self, stop: bool, sends: bool, mark: bool, heard: u32, estimate: u8) -> Event
+        ensures { result ≡ event_of self.now.phase stop sends mark heard self.now.values.now estimate }
+    {
+        if stop {
+            return stop_event(self.phase);
         }
-        Phase::Vetoes => Event::Vetoes { sends, mark, veto },
-        Phase::Prepare => {
-            let v = values_of(values, heard, estimate);
-            Event::Prepare {
-                mark,
-                least: v.least,
+        let veto = heard != 0;
+        let noticed = mark | veto;
+        match self.phase {
+            Phase::Proposals => {
+                let Values { heard, least } = values_of(self.values, heard, estimate);
+                Event::Proposals {
+                    sends,
+                    mark,
+                    heard,
+                    least,
+                }
             }
+            Phase::Vetoes => Event::Vetoes { sends, mark, veto },
+            Phase::Prepare => Event::Prepare {
+                mark,
+                least: values_of(self.values, heard, estimate).least,
+            },
+            Phase::Bit(_) => Event::Bit {
+                bit: sends,
+                noticed,
+            },
+            Phase::Accept => Event::Accept { noticed },
         }
-        Phase::Bit(_) => Event::Bit {
-            bit: sends,
-            noticed,
-        },
-        Phase::Accept => Event::Accept { noticed },
     }
-}
 
-// The places of n trucks, and at most 32: with that bound in sight the compiler leaves out the checks of a place in a loop.
-pub(crate) fn places(n: u8) -> usize
-    ensures { result ≡ min n 32 }
-{
-    if n < 32 { n as usize } else { 32 }
-}
-
-// What the round is to truck i, which has an estimate.
-pub(crate) fn event_by(
-    phase: Phase,
-    words: &[u32],
-    senders: u32,
-    values: &[u32; 16],
-    estimate: u8,
-    i: usize,
-) -> Event
-    requires { (i < 32) × (3 + i < length words.now) }
-    ensures { result ≡ event_by phase words.now senders values.now estimate i }
-{
-    let heard = heard_by(senders, words[3 + i], sets::only(i));
-    event_of(
-        phase,
-        sets::holds(words[0], i),
-        sets::holds(senders, i),
-        sets::holds(words[2], i),
-        heard,
-        values,
-        estimate,
-    )
-}
-
-// What the round is to each of n trucks.
-fn events_of(
-    phase: Phase,
-    n: u8,
-    words: &[u32],
-    senders: u32,
-    values: &[u32; 16],
-    held: &[u8; 32],
-) -> [Event; 32]
-    requires { (n ≤ 32) × (length words.now ≡ 3 + n) }
-    ensures { result ≡ filled (event_at phase words.now senders values.now held.now) n no_events }
-{
-    let end = places(n);
-    let mut events = [Event::Stop; 32];
-    let mut i = 0;
-    while i < end {
-        let event = event_by(phase, words, senders, values, held[i], i);
-        events[i] = event;
-        i += 1;
+    // What the round is to truck i, which has an estimate.
+    pub(crate) fn event_by(&self, estimate: u8, i: usize) -> Event
+        requires { (i < 32) × (3 + i < length self.now.words.now) }
+        ensures { result ≡ event_by self.now.phase self.now.words.now self.now.senders self.now.values.now estimate i }
+    {
+        let heard = heard_by(self.senders, self.words[3 + i], sets::only(i));
+        self.event_of(
+            sets::holds(self.words[0], i),
+            sets::holds(self.senders, i),
+            sets::holds(self.words[2], i),
+            heard,
+            estimate,
+        )
     }
-    events
+
+    // What the round is to each truck of a fleet.
+    fn events_of(&self, f: &Fleet) -> [Event; 32]
+        requires { (f.now.n ≤ 32) × (length self.now.words.now ≡ 3 + f.now.n) }
+        ensures { result
+            ≡ filled (λ i. event_by self.now.phase self.now.words.now self.now.senders self.now.values.now (estimates f.now.trucks i) i) f.now.n no_events }
+    {
+        let mut events = [Event::Stop; 32];
+        for i in 0..fleetrecord::places(f.n) {
+            events[i] = self.event_by(f.trucks[i].estimate, i);
+        }
+        events
+    }
 }
 
 // The record after an accepted step.
+#[tactic(auto, using(crate::proofs::Steps::step_good))]
 pub(crate) fn next_fleet(cycle: Cycle, f: Fleet, words: &[u32]) -> Fleet
-    requires { step_check_in (chosen cycle) f words.now ≡ Accepted }
+    requires { step_check_in (chosen cycle) f words.now ≡ Ok tt }
     ensures { result ≡ next_fleet_in (chosen cycle) f words.now }
 {
     let phase = phase_of(cycle, f.done);
     let mut values = [0u32; 16];
-    let mut held = [0u8; 32];
-    let senders = senders_of(phase, f, words, &mut values, &mut held);
-    let events = events_of(phase, f.n, words, senders, &values, &held);
-    let round = f.done + 1;
-    let mut fleet = truck::update_first(f, f.n as usize, round, events);
-    fleet.done = round;
+    let senders = senders_of(phase, words, &f, &mut values);
+    let round = Round {
+        phase,
+        words,
+        senders,
+        values: &values,
+    };
+    let events = round.events_of(&f);
+    let done = f.done + 1;
+    let mut fleet = truck::update_first(f, f.n as usize, done, events);
+    fleet.done = done;
     fleet
 }

@@ -1,9 +1,7 @@
 // Fleet records: the blank one, a fleet that starts, and what refusal 7 asks of a record.
 #![tactic(auto)]
 
-ghost use Rattle.std.specs.Prelude.{◌&&◌, ◌≡◌, ◌≤◌, length};
-ghost use Rattle.refusals.specs.declared.Outcome.TheVariants.{Refused};
-ghost use Rattle.protocol.specs.declared.State.TheVariants.{Running};
+ghost use Rattle.std.specs.Prelude.{◌&&◌, ◌≡◌, ◌≤◌, length, Err, min};
 ghost use Rattle.basics.specs.Bits.{odd};
 ghost use Rattle.basics.specs.Lists.{all_below};
 ghost use Rattle.protocol.specs.Rules.{opened, truck};
@@ -11,14 +9,7 @@ ghost use Rattle.protocol.specs.Fleets.{blank, started, is_empty, two_memory, si
 ghost use Rattle.fleetrecord.specs.Opens.{open_fleet};
 
 use protocol::{Answer, Cycle, Fleet, Heard, Sent, State, Truck};
-use refusals::{Outcome, Refusal};
-
-// Running, by a function: by it a truck's state is copied whole, its unused number with it, and the array of `blank` is one fill of zeros.
-fn running() -> State
-    ensures { result ≡ Running }
-{
-    State::Running
-}
+use refusals::Refusal;
 
 // A truck of a fleet that starts.
 pub fn opened(v: u8) -> Truck
@@ -30,7 +21,7 @@ pub fn opened(v: u8) -> Truck
         mark: false,
         heard: Heard::Nothing,
         unwilling: false,
-        state: running(),
+        state: State::Running,
         sent: Sent {
             proposals: 0,
             vetoes: 0,
@@ -42,12 +33,10 @@ pub fn opened(v: u8) -> Truck
 pub fn blank() -> Fleet
     ensures { result ≡ blank }
 {
-    let t = opened(0);
-    let trucks = [t; 32];
     Fleet {
         n: 0,
         done: 0,
-        trucks,
+        trucks: [opened(0); 32],
     }
 }
 
@@ -58,10 +47,8 @@ fn open_fleet(n: u8, openings: &[u8]) -> Fleet
 {
     let mut f = blank();
     f.n = n;
-    let mut i = 0;
-    while i < openings.len() {
-        f.trucks[i] = opened(openings[i]);
-        i += 1;
+    for (i, v) in openings.iter().enumerate() {
+        f.trucks[i] = opened(*v);
     }
     f
 }
@@ -75,11 +62,7 @@ fn is_odd(k: u16) -> bool
 fn is_empty(mark: bool, heard: Heard) -> bool
     ensures { result ≡ is_empty mark heard }
 {
-    match heard {
-        Heard::Nothing => !mark,
-        Heard::One => false,
-        Heard::Several => false,
-    }
+    !mark & (heard == Heard::Nothing)
 }
 
 // Trucks decide in round k.
@@ -106,8 +89,7 @@ fn good_state(cycle: Cycle, done: u16, state: State) -> bool
 fn two_memory(done: u16, t: Truck) -> bool
     ensures { result ≡ two_memory done t }
 {
-    let heard = t.heard;
-    !(!is_odd(done) | !truck::runs(t)) | is_empty(t.mark, heard)
+    (is_odd(done) & truck::runs(t)) | is_empty(t.mark, t.heard)
 }
 
 // A truck is unwilling only while it runs and 2 to 5 rounds of the cycle are done.
@@ -121,7 +103,7 @@ fn six_memory(done: u16, t: Truck) -> bool
 fn two_counts(done: u16, sent: Sent) -> bool
     ensures { result ≡ two_counts done sent }
 {
-    (sent.proposals as u16 <= done / 2 + done % 2) & (sent.vetoes as u16 <= done / 2)
+    (u16::from(sent.proposals) <= done.div_ceil(2)) & (u16::from(sent.vetoes) <= done / 2)
 }
 
 // What the cycle asks of a truck's memory and counts.
@@ -129,10 +111,7 @@ fn good_rest(cycle: Cycle, done: u16, t: Truck) -> bool
     ensures { result ≡ ((chosen cycle).good_memory done t && (chosen cycle).good_counts done t.sent) }
 {
     match cycle {
-        Cycle::TwoRound => {
-            let sent = t.sent;
-            two_memory(done, t) & two_counts(done, sent)
-        }
+        Cycle::TwoRound => two_memory(done, t) & two_counts(done, t.sent),
         Cycle::SixRound => six_memory(done, t),
     }
 }
@@ -141,25 +120,28 @@ fn good_rest(cycle: Cycle, done: u16, t: Truck) -> bool
 pub fn good_truck(cycle: Cycle, done: u16, t: Truck) -> bool
     ensures { result ≡ good_truck_in (chosen cycle) done t }
 {
-    let state = t.state;
     (t.opening <= 15)
         & (t.estimate <= 15)
-        & good_state(cycle, done, state)
+        & good_state(cycle, done, t.state)
         & good_rest(cycle, done, t)
 }
 
+// The places of n trucks, and at most 32: by that bound the compiler leaves out the checks of a place in a loop.
+pub fn places(n: u8) -> usize
+    ensures { result ≡ min n 32 }
+{
+    (n as usize).min(32)
+}
+
+// The loop has no way out at a bad truck: a good fleet, as almost every one is, would take a test more for each truck.
 fn good_trucks(cycle: Cycle, f: Fleet) -> bool
     requires { f.n ≤ 32 }
     ensures { result ≡ all_below (λ i. good_truck_in (chosen cycle) f.done (truck f.trucks i)) f.n }
 {
     let n = f.n as usize;
-    let done = f.done;
     let mut ok = true;
-    let mut i = 0;
-    while i < n {
-        let t = f.trucks[i];
-        ok = ok & good_truck(cycle, done, t);
-        i += 1;
+    for t in &f.trucks[..n] {
+        ok &= good_truck(cycle, f.done, *t);
     }
     ok
 }
@@ -168,8 +150,7 @@ fn good_trucks(cycle: Cycle, f: Fleet) -> bool
 pub fn good_fleet(cycle: Cycle, f: Fleet) -> bool
     ensures { result ≡ good_fleet_in (chosen cycle) f }
 {
-    let n = f.n;
-    if recording::bad_trucks(n) {
+    if recording::bad_trucks(f.n) {
         return false;
     }
     if 400 < f.done {
@@ -180,10 +161,10 @@ pub fn good_fleet(cycle: Cycle, f: Fleet) -> bool
 
 // A refusal of a call that has no record to hand back.
 pub fn refused(refusal: Refusal) -> Answer
-    ensures { result ≡ record { outcome = Refused refusal; fleet = blank } }
+    ensures { result ≡ record { outcome = Err refusal; fleet = blank } }
 {
     Answer {
-        outcome: Outcome::Refused(refusal),
+        outcome: Err(refusal),
         fleet: blank(),
     }
 }
@@ -199,7 +180,7 @@ pub fn start(n: u8, openings: &[u8]) -> Answer
         return refused(Refusal::Record);
     }
     Answer {
-        outcome: Outcome::Accepted,
+        outcome: Ok(()),
         fleet: open_fleet(n, openings),
     }
 }

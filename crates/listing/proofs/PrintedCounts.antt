@@ -4,12 +4,11 @@ use mathlib.Core.Path.{◌≡◌, refl, ap, ap₂, sym, ◌∙◌}
 use mathlib.Core.Bool.{not}
 use mathlib.Core.List.{List, ◌++◌}
 use Prim.Native.Nat.{ℕ, ◌<◌}
+use Rattle.std.specs.Prelude.{Ok}
 use Rattle.basics.specs.Bits.{odd}
 use Rattle.basics.specs.Lists.{sum_below}
 use Rattle.basics.proofs.Laws.{sum_ext}
 use Rattle.radio.specs.Radio.{times_sent}
-use Rattle.refusals.specs.declared.Outcome.{Outcome}
-use Rattle.refusals.specs.declared.Outcome.TheVariants.{Accepted}
 use Rattle.recording.specs.Packed.{trucks_of, rounds_of, openings_of, round_at}
 use Rattle.recording.specs.Checks.{check_of}
 use Rattle.protocol.specs.declared.Fleet.{Fleet}
@@ -21,6 +20,7 @@ use Rattle.protocol.proofs.Counts.{sent-counts}
 use Rattle.listing.specs.Text.{text, state_text, truck_line, truck_lines, totals_line, listing_of, printed_for, printed}
 use Rattle.listing.specs.Writing.{opening_text, spaced, sent_line, header_text}
 use Rattle.listing.proofs.Laws.{line_text}
+use Rattle.refusals.specs.Outcomes.{Outcome}
 
 -- a listing: its first line, the trucks' lines, and a last line with the sums over the records
 pub listing_totals : (f : Fleet)
@@ -31,7 +31,7 @@ unfolding listing_of totals_line
 listing_totals f = refl
 
 -- of an accepted recording
-module _ (s : List ℕ) (h : check_of s ≡ Accepted) where
+module _ (s : List ℕ) (h : check_of s ≡ Ok tt) where
   abbrev n : ℕ
   n = trucks_of s
 
@@ -48,7 +48,7 @@ module _ (s : List ℕ) (h : check_of s ≡ Accepted) where
   abbrev vetoed : ℕ → ℕ
   vetoed i = times_sent (λ k. not (odd k)) (radio_at n (openings_of s) (round_at s)) i R
 
-  accepted : (ran s).outcome ≡ Accepted
+  accepted : (ran s).outcome ≡ Ok tt
   unfolding ran_in
   accepted = rw h
 

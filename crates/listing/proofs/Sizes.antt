@@ -9,15 +9,14 @@ use native.Mathlib.Omega.{arith}
 use borrow.Author.Tests.{ltb-false, leb-true}
 use lib.Dec.{ltb}
 use lib.ListN.{length, length-append, replicate}
+use Rattle.std.specs.Prelude.{Option, Ok, Err, Some, None}
 use Rattle.basics.specs.Lists.{all_below, sum_below}
 use Rattle.basics.proofs.Laws.{sum_most}
 use Rattle.refusals.specs.declared.Refusal.{Refusal}
 use Rattle.refusals.specs.declared.Refusal.TheVariants.{OwnLoss}
 use Rattle.refusals.specs.declared.Location.{Location}
-use Rattle.refusals.specs.declared.Location.TheVariants.{Unnamed, At}
-use Rattle.refusals.specs.declared.Outcome.TheVariants.{Accepted, Refused}
 use Rattle.refusals.specs.Numbers.{number_of}
-use Rattle.refusals.specs.Locations.{location_of}
+use Rattle.refusals.specs.Locations.{location_at, location_of}
 use Rattle.refusals.proofs.Numbers.{number_range}
 use Rattle.refusals.proofs.Locations.{named_6}
 use Rattle.recording.specs.Checks.{bad_trucks, check_of}
@@ -188,7 +187,7 @@ fleet_size f h l g =
     )
 
 -- the listing of an accepted run
-pub listing_size : (s : List ℕ) → check_of s ≡ Accepted → length (listing_of (ran s).fleet) ≤ longest_listing
+pub listing_size : (s : List ℕ) → check_of s ≡ Ok tt → length (listing_of (ran s).fleet) ≤ longest_listing
 unfolding fleet_in
 listing_size s h =
     let b = (bytes_good s h).frame in
@@ -196,7 +195,7 @@ listing_size s h =
     (λ i l. rw (ap (λ (f : Fleet). f.done) (ran-fleet two_round s h)) (ran-good two_round s sound_two h i (subst (λ (f : Fleet). i < f.n) (ran-fleet two_round s h) l)))
 
 -- a round within the limits and a truck below 32
-location_size : (round truck : ℕ) → round ≤ 400 → truck < 32 → length (location_text (At round truck)) ≤ 19
+location_size : (round truck : ℕ) → round ≤ 400 → truck < 32 → length (location_text (location_at round truck)) ≤ 19
 unfolding location_text
 location_size round truck h l =
     let a = text " round " ++ decimal round in
@@ -226,28 +225,28 @@ pub refusal_size : (r : Refusal) → ((round truck : ℕ) → r ≡ OwnLoss roun
 unfolding location_text
 refusal_size r within = go (location_of r) refl
   where
-    go : (p : Location) → location_of r ≡ p → length (refusal_text r) ≤ longest_refusal
-    go Unnamed e =
+    go : (p : Option Location) → location_of r ≡ p → length (refusal_text r) ≤ longest_refusal
+    go None e =
         omega (
           arith,
           line_parts r,
-          ap (λ (p : Location). length (location_text p)) e,
+          ap (λ (p : Option Location). length (location_text p)) e,
           digits 1 (number_of r) (let o : number_of r < 10 ^ 2 = omega (arith, number_range r) in o),
         )
-    go (At round truck) e =
-        let six : r ≡ OwnLoss round truck = named_6 r round truck e in
-        let l = within round truck six in
+    go (Some p) e =
+        let six : r ≡ OwnLoss p.round p.truck = named_6 r p.round p.truck e in
+        let l = within p.round p.truck six in
         omega (
           arith,
           line_parts r,
-          ap (λ (p : Location). length (location_text p)) e,
-          location_size round truck l.0 l.1,
+          ap (λ (p : Option Location). length (location_text p)) e,
+          location_size p.round p.truck l.0 l.1,
           digits 0 (number_of r) (let o : number_of r < 10 ^ 1 = omega (arith, ap number_of six) in o),
         )
 
 -- and so of a refused recording
-pub refused_size : (s : List ℕ) (r : Refusal) → check_of s ≡ Refused r → length (refusal_text r) ≤ longest_refusal
-refused_size s r h = refusal_size r (λ round truck e. check_in s round truck (h ∙ ap Refused e))
+pub refused_size : (s : List ℕ) (r : Refusal) → check_of s ≡ Err r → length (refusal_text r) ≤ longest_refusal
+refused_size s r h = refusal_size r (λ round truck e. check_in s round truck (h ∙ ap Err e))
 
 -- no size is larger than it has to be: a record that refusal 7 lets pass has the longest listing, and the last truck of the last round the longest line
 pub fullest : Fleet

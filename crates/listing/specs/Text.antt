@@ -1,5 +1,5 @@
 -- The printed text (document 01, 'Runs worked through'; document 02, F-5), as bytes.
-use Rattle.std.specs.Prelude.{ℕ, zero, suc, ◌+◌, ◌/◌, ◌%◌, cond, List, [], ◌∷◌, ◌++◌, ltb}
+use Rattle.std.specs.Prelude.{ℕ, zero, suc, ◌+◌, ◌/◌, ◌%◌, cond, List, [], ◌∷◌, ◌++◌, ltb, Option, Ok, Err, Some, None}
 use Prim.Native.Char.{code}
 use Prim.Native.String as string
 use Prim.Native.String.{String}
@@ -8,9 +8,7 @@ use Rattle.refusals.specs.Numbers.{number_of}
 use Rattle.refusals.specs.Locations.{location_of}
 use Rattle.refusals.specs.declared.Refusal.{Refusal}
 use Rattle.refusals.specs.declared.Location.{Location}
-use Rattle.refusals.specs.declared.Location.TheVariants.{Unnamed, At}
-use Rattle.refusals.specs.declared.Outcome.{Outcome}
-use Rattle.refusals.specs.declared.Outcome.TheVariants.{Accepted, Refused}
+use Rattle.refusals.specs.Outcomes.{Outcome}
 use Rattle.protocol.specs.declared.State.{State}
 use Rattle.protocol.specs.declared.State.TheVariants.{Running, Stopped, Decided}
 use Rattle.protocol.specs.declared.Truck.{Truck}
@@ -67,9 +65,9 @@ listing_of f =
     ++ totals_line f.trucks f.n
 
 -- the round and the truck that a refusal names, where it names them
-unfoldable pub location_text : Location → List ℕ
-location_text Unnamed = []
-location_text (At round truck) = text " round " ++ decimal round ++ text " truck " ++ decimal truck
+unfoldable pub location_text : Option Location → List ℕ
+location_text None = []
+location_text (Some p) = text " round " ++ decimal p.round ++ text " truck " ++ decimal p.truck
 
 -- the one line of a refused recording
 unfoldable pub refusal_text : Refusal → List ℕ
@@ -77,8 +75,8 @@ refusal_text r = text "refused " ++ decimal (number_of r) ++ location_text (loca
 
 -- the listing of a run, or the line of a refusal
 abbrev pub printed_for : Outcome → Fleet → List ℕ
-printed_for Accepted f = listing_of f
-printed_for (Refused r) f = refusal_text r
+printed_for (Ok _) f = listing_of f
+printed_for (Err r) f = refusal_text r
 
 -- what is printed for a recording
 unfoldable pub printed : List ℕ → List ℕ

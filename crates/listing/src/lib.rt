@@ -1,22 +1,16 @@
 // The text that is printed for a recording, in a lent buffer.
 #![tactic(auto)]
 
-ghost use Rattle.std.specs.Prelude.{◌≡◌, ◌∷◌, [], ◌+◌, ◌<◌, ◌≤◌, length};
+ghost use Rattle.std.specs.Prelude.{◌≡◌, ℕ, List, [], ◌++◌, ◌+◌, ◌≤◌, length, take};
 ghost use Rattle.basics.specs.Lists.{sum_below};
 ghost use Rattle.protocol.specs.Rules.{truck};
 ghost use Rattle.listing.specs.Text.{decimal, state_text, truck_line, truck_lines, listing_of, location_text, refusal_text};
 ghost use Rattle.listing.specs.Listed.{left, text_in, listed, refusal_listed};
-ghost use Rattle.listing.specs.Writing.{Put, opening_text, ended_text, header_text, spaced, sent_line, two_text};
+ghost use Rattle.listing.specs.Writing.{spaced, sent_line, two_text};
 
 use protocol::{Fleet, State, Truck};
-use refusals::{Location, Outcome, Refusal};
-
-// A text of so many bytes in the lent buffer, or why there is none.
-#[derive(Clone, Copy)]
-pub enum Listed {
-    Text(usize),
-    Refused(Refusal),
-}
+use refusals::{Location, Refusal};
+use std::marker::Model;
 
 // How many proposals and vetoes several trucks sent together.
 #[derive(Clone, Copy)]
@@ -25,236 +19,215 @@ struct Totals {
     vetoes: u16,
 }
 
-// Puts the bytes of t into the buffer from place `at` on, and answers the next place.
-fn put(buf: &mut [u8], at: usize, t: &[u8]) -> usize
-    requires { at + length t.now ≤ length buf.old }
-    ensures { Put buf.old at t.now buf.new result }
-{
-    let mut i = 0;
-    while i < t.len() {
-        buf[at + i] = t[i];
-        i += 1;
-    }
-    at + i
+// A text of at most N bytes, put together part by part. It is no `fmt::Write`: `write!` promises a text only where it answers `Ok`, and no
+// contract says where it does, so that each listing would need an answer for a failure that there is not.
+#[derive(Drop)]
+struct Text<const N: usize> {
+    bytes: [u8; N],
+    len: usize,
 }
 
-// Puts one byte.
-fn put_byte(buf: &mut [u8], at: usize, b: u8) -> usize
-    requires { at < length buf.old }
-    ensures { Put buf.old at (b ∷ []) buf.new result }
-{
-    buf[at] = b;
-    at + 1
+impl<const N: usize> Model for Text<N> {
+    ghost Value = { List ℕ };
+
+    ghost view = { λ t. take t.len t.bytes };
+
+    ghost invariant = { λ t. t.len ≤ N };
 }
 
-// Puts a number in decimal.
-fn put_number(buf: &mut [u8], at: usize, k: u16) -> usize
-    requires { at + 5 ≤ length buf.old }
-    ensures placed { Put buf.old at (decimal k) buf.new result }
-    ensures within { result ≤ at + 5 }
-{
-    let digit = 48 + (k % 10) as u8;
-    if k < 10 {
-        put_byte(buf, at, digit)
-    } else {
-        let tens = put_number(buf, at, k / 10);
-        put_byte(buf, tens, digit)
-    }
-}
-
-// Puts a word, a number, another word, and another number.
-fn put_two(buf: &mut [u8], at: usize, first: &[u8], a: u16, second: &[u8], b: u16) -> usize
-    requires { at + length first.now + length second.now + 10 ≤ length buf.old }
-    ensures placed { Put buf.old at (two_text first.now a second.now b) buf.new result }
-    ensures within { result ≤ at + length first.now + length second.now + 10 }
-{
-    let p = put(buf, at, first);
-    let q = put_number(buf, p, a);
-    let r = put(buf, q, second);
-    put_number(buf, r, b)
-}
-
-// Puts a truck's number and opening.
-fn put_opening(buf: &mut [u8], at: usize, i: u16, opening: u8) -> usize
-    requires { at + 18 ≤ length buf.old }
-    ensures placed { Put buf.old at (opening_text i opening) buf.new result }
-    ensures within { result ≤ at + 18 }
-{
-    let a = put_number(buf, at, i);
-    let b = put(buf, a, b" opened ");
-    put_number(buf, b, opening as u16)
-}
-
-// Puts a word, the truck's crusher, and the round of its stop or decision.
-fn put_ended(buf: &mut [u8], at: usize, word: &[u8], crusher: u8, round: u16) -> usize
-    requires { (at + 26 ≤ length buf.old) × (length word.now ≡ 9) }
-    ensures placed { Put buf.old at (ended_text word.now crusher round) buf.new result }
-    ensures within { result ≤ at + 26 }
-{
-    put_two(buf, at, word, crusher as u16, b" round ", round)
-}
-
-// Puts a truck's state, crusher and, where it has one, round.
-fn put_state(buf: &mut [u8], at: usize, state: State, crusher: u8) -> usize
-    requires { at + 26 ≤ length buf.old }
-    ensures placed { Put buf.old at (spaced (state_text state crusher)) buf.new result }
-    ensures within { result ≤ at + 26 }
-{
-    match state {
-        State::Running => {
-            let a = put(buf, at, b" running ");
-            put_number(buf, a, crusher as u16)
+impl<const N: usize> Text<N> {
+    fn new() -> Self
+        ensures { result ≡ [] }
+    {
+        Text {
+            bytes: [0; N],
+            len: 0,
         }
-        State::Stopped(k) => put_ended(buf, at, b" stopped ", crusher, k),
-        State::Decided(k) => put_ended(buf, at, b" decided ", crusher, k),
+    }
+
+    fn as_bytes(&self) -> &[u8]
+        ensures { result.now ≡ self.now }
+    {
+        let bytes = &self.bytes[..];
+        &bytes[..self.len]
+    }
+
+    fn put(&mut self, word: &[u8])
+        requires { length self.old + length word.now ≤ N }
+        ensures { self.new ≡ self.old ++ word.now }
+    {
+        let end = self.len + word.len();
+        let bytes = &mut self.bytes[..];
+        bytes[self.len..end].copy_from_slice(word);
+        self.len = end;
+    }
+
+    // Puts a number in decimal. std prints one by `write!`, or into a `String`, which is on the heap.
+    fn put_number(&mut self, k: u16)
+        requires { length self.old + 5 ≤ N }
+        ensures placed { self.new ≡ self.old ++ decimal k }
+        ensures within { length self.new ≤ length self.old + 5 }
+    {
+        if 10 <= k {
+            self.put_number(k / 10);
+        }
+        self.put(&[b'0' + (k % 10) as u8]);
+    }
+
+    // Puts a word, a number, another word, and another number.
+    fn put_two(&mut self, first: &[u8], a: u16, second: &[u8], b: u16)
+        requires { length self.old + length first.now + length second.now + 10 ≤ N }
+        ensures placed { self.new ≡ self.old ++ two_text first.now a second.now b }
+        ensures within { length self.new ≤ length self.old + length first.now + length second.now + 10 }
+    {
+        self.put(first);
+        self.put_number(a);
+        self.put(second);
+        self.put_number(b);
+    }
+
+    // Puts a truck's state, crusher and, where it has one, round.
+    #[tactic(auto, unfolding(crate::specs::Text::state_text))]
+    fn put_state(&mut self, state: State, crusher: u8)
+        requires { length self.old + 26 ≤ N }
+        ensures placed { self.new ≡ self.old ++ spaced (state_text state crusher) }
+        ensures within { length self.new ≤ length self.old + 26 }
+    {
+        match state {
+            State::Running => {
+                self.put(b" running ");
+                self.put_number(crusher as u16);
+            }
+            State::Stopped(k) => self.put_two(b" stopped ", crusher as u16, b" round ", k),
+            State::Decided(k) => self.put_two(b" decided ", crusher as u16, b" round ", k),
+        }
+    }
+
+    // Puts how much was sent, and the end of the line.
+    #[tactic(auto, unfolding(crate::specs::Text::sent_text))]
+    fn put_sent(&mut self, proposals: u16, vetoes: u16)
+        requires { length self.old + 24 ≤ N }
+        ensures placed { self.new ≡ self.old ++ sent_line proposals vetoes }
+        ensures within { length self.new ≤ length self.old + 24 }
+    {
+        self.put_two(b"sent ", proposals, b" vetoes ", vetoes);
+        self.put(b"\n");
+    }
+
+    // Puts the line of truck i.
+    #[tactic(auto, unfolding(crate::specs::Text::truck_line, crate::specs::Text::sent_text))]
+    fn put_line(&mut self, i: u16, t: &Truck)
+        requires { length self.old + 69 ≤ N }
+        ensures placed { self.new ≡ self.old ++ truck_line i t.now }
+        ensures within { length self.new ≤ length self.old + 69 }
+    {
+        self.put_number(i);
+        self.put(b" opened ");
+        self.put_number(t.opening as u16);
+        self.put_state(t.state, t.estimate);
+        self.put(b" ");
+        self.put_sent(t.sent.proposals as u16, t.sent.vetoes as u16);
+    }
+
+    // Puts the lines of the fleet's trucks.
+    #[tactic(auto, unfolding(crate::specs::Text::truck_lines))]
+    fn put_lines(&mut self, f: &Fleet)
+        requires { (length self.old + 2208 ≤ N) × (f.now.n ≤ 32) }
+        ensures placed { self.new ≡ self.old ++ truck_lines f.now.trucks f.now.n }
+        ensures within { length self.new ≤ length self.old + 2208 }
+    {
+        for (i, t) in f.trucks[..f.n as usize].iter().enumerate() {
+            self.put_line(i as u16, t);
+        }
+    }
+
+    // Puts the whole listing.
+    #[tactic(auto, unfolding(crate::specs::Text::listing_of, crate::specs::Text::totals_line))]
+    fn put_listing(&mut self, f: &Fleet)
+        requires { (length self.old + 2258 ≤ N) × (f.now.n ≤ 32) }
+        ensures { self.new ≡ self.old ++ listing_of f.now }
+    {
+        self.put_two(b"trucks ", f.n as u16, b" rounds ", f.done);
+        self.put(b"\n");
+        self.put_lines(f);
+        let sum = sum_sent(f);
+        self.put_sent(sum.proposals, sum.vetoes);
+    }
+
+    // Puts the round and the truck that a refusal names.
+    #[tactic(auto, unfolding(crate::specs::Text::location_text))]
+    fn put_location(&mut self, p: Option<Location>)
+        requires { length self.old + 24 ≤ N }
+        ensures placed { self.new ≡ self.old ++ location_text p }
+        ensures within { length self.new ≤ length self.old + 24 }
+    {
+        if let Some(p) = p {
+            self.put_two(b" round ", p.round, b" truck ", p.truck as u16);
+        }
+    }
+
+    // Puts the line of a refused recording.
+    #[tactic(auto, unfolding(crate::specs::Text::refusal_text))]
+    fn put_refusal(&mut self, r: Refusal)
+        requires { length self.old + 38 ≤ N }
+        ensures { self.new ≡ self.old ++ refusal_text r }
+    {
+        self.put(b"refused ");
+        self.put_number(u8::from(r) as u16);
+        self.put_location(refusals::location_of(r));
+        self.put(b"\n");
     }
 }
 
-// Puts how much was sent, and the end of the line.
-fn put_sent(buf: &mut [u8], at: usize, proposals: u16, vetoes: u16) -> usize
-    requires { at + 24 ≤ length buf.old }
-    ensures placed { Put buf.old at (sent_line proposals vetoes) buf.new result }
-    ensures within { result ≤ at + 24 }
+// How much the fleet's trucks sent in total. (That there are at most 32 is asked here and by the two that put them; a type for it would be a second fleet.)
+#[tactic(auto, unfolding(basics::specs::Lists::sum_below))]
+fn sum_sent(f: &Fleet) -> Totals
+    requires { f.now.n ≤ 32 }
+    ensures proposals { result.proposals ≡ sum_below (λ i. (truck f.now.trucks i).sent.proposals) f.now.n }
+    ensures vetoes { result.vetoes ≡ sum_below (λ i. (truck f.now.trucks i).sent.vetoes) f.now.n }
 {
-    let end = put_two(buf, at, b"sent ", proposals, b" vetoes ", vetoes);
-    put(buf, end, b"\n")
-}
-
-// Puts the line of truck i.
-fn put_line(buf: &mut [u8], at: usize, i: u16, t: Truck) -> usize
-    requires { at + 69 ≤ length buf.old }
-    ensures placed { Put buf.old at (truck_line i t) buf.new result }
-    ensures within { result ≤ at + 69 }
-{
-    let a = put_opening(buf, at, i, t.opening);
-    let s = t.state;
-    let b = put_state(buf, a, s, t.estimate);
-    let c = put(buf, b, b" ");
-    let sent = t.sent;
-    put_sent(buf, c, sent.proposals as u16, sent.vetoes as u16)
-}
-
-// Puts the first line: the two header counts.
-fn put_header(buf: &mut [u8], at: usize, n: u8, done: u16) -> usize
-    requires { at + 26 ≤ length buf.old }
-    ensures placed { Put buf.old at (header_text n done) buf.new result }
-    ensures within { result ≤ at + 26 }
-{
-    let end = put_two(buf, at, b"trucks ", n as u16, b" rounds ", done);
-    put(buf, end, b"\n")
-}
-
-// Puts the lines of the trucks below n.
-fn put_lines(buf: &mut [u8], at: usize, f: Fleet) -> usize
-    requires { (at + 2208 ≤ length buf.old) × (f.n ≤ 32) }
-    ensures placed { Put buf.old at (truck_lines f.trucks f.n) buf.new result }
-    ensures within { result ≤ at + 2208 }
-{
-    let n = f.n as usize;
-    let mut r = at;
-    let mut i: usize = 0;
-    while i < n {
-        let t = f.trucks[i];
-        r = put_line(buf, r, i as u16, t);
-        i += 1;
-    }
-    r
-}
-
-// How much the trucks below n sent in total.
-fn sum_sent(f: Fleet) -> Totals
-    requires { f.n ≤ 32 }
-    ensures proposals { result.proposals ≡ sum_below (λ i. (truck f.trucks i).sent.proposals) f.n }
-    ensures vetoes { result.vetoes ≡ sum_below (λ i. (truck f.trucks i).sent.vetoes) f.n }
-{
-    let below = f.n as usize;
-    let mut proposals: u16 = 0;
-    let mut vetoes: u16 = 0;
-    let mut i: usize = 0;
-    while i < below {
-        let t = f.trucks[i];
-        let sent = t.sent;
-        proposals += sent.proposals as u16;
-        vetoes += sent.vetoes as u16;
-        i += 1;
+    let mut proposals = 0;
+    let mut vetoes = 0;
+    for t in &f.trucks[..f.n as usize] {
+        proposals += t.sent.proposals as u16;
+        vetoes += t.sent.vetoes as u16;
     }
     Totals { proposals, vetoes }
 }
 
-// Puts the whole listing.
-fn put_listing(buf: &mut [u8], f: Fleet) -> usize
-    requires { (2258 ≤ length buf.old) × (f.n ≤ 32) }
-    ensures placed { Put buf.old 0 (listing_of f) buf.new result }
-    ensures within { result ≤ 2258 }
-{
-    let n = f.n;
-    let done = f.done;
-    let at = put_header(buf, 0, n, done);
-    let last = put_lines(buf, at, f);
-    let sum = sum_sent(f);
-    put_sent(buf, last, sum.proposals, sum.vetoes)
-}
-
 // Copies a text to the lent buffer where it is long enough.
-fn lend_text(t: &[u8], buf: &mut [u8]) -> Listed
+#[tactic(auto, unfolding(crate::specs::Listed::text_in))]
+fn lend_text(t: &[u8], buf: &mut [u8]) -> Result<usize, Refusal>
     ensures { left result buf.new ≡ text_in t.now buf.old }
 {
     if t.len() <= buf.len() {
-        let k = put(buf, 0, t);
-        Listed::Text(k)
+        buf[..t.len()].copy_from_slice(t);
+        Ok(t.len())
     } else {
-        Listed::Refused(Refusal::ShortBuffer)
+        Err(Refusal::ShortBuffer)
     }
-}
-
-// Puts the round and the truck that a refusal names.
-fn put_location(buf: &mut [u8], at: usize, p: Location) -> usize
-    requires { at + 24 ≤ length buf.old }
-    ensures placed { Put buf.old at (location_text p) buf.new result }
-    ensures within { result ≤ at + 24 }
-{
-    match p {
-        Location::Unnamed => at,
-        Location::At { round, truck } => {
-            put_two(buf, at, b" round ", round, b" truck ", truck as u16)
-        }
-    }
-}
-
-// Puts the line of a refused recording.
-fn put_refusal(buf: &mut [u8], r: Refusal) -> usize
-    requires { 38 ≤ length buf.old }
-    ensures placed { Put buf.old 0 (refusal_text r) buf.new result }
-    ensures within { result ≤ 38 }
-{
-    let a = put(buf, 0, b"refused ");
-    let b = put_number(buf, a, refusals::number(r) as u16);
-    let c = put_location(buf, b, refusals::location_of(r));
-    put(buf, c, b"\n")
 }
 
 // The line that is printed for a refused recording.
-pub fn refusal_line(r: Refusal, buf: &mut [u8]) -> Listed
+#[tactic(auto, unfolding(crate::specs::Listed::refusal_listed))]
+pub fn refusal_line(r: Refusal, buf: &mut [u8]) -> Result<usize, Refusal>
     ensures { left result buf.new ≡ refusal_listed r buf.old }
 {
-    let mut work = [0u8; 38];
-    let k = put_refusal(&mut work, r);
-    lend_text(&work[..k], buf)
+    // 8 bytes for the word, 5 for the number, 24 for a location and 1 for the end of the line.
+    let mut text = Text::<38>::new();
+    text.put_refusal(r);
+    lend_text(text.as_bytes(), buf)
 }
 
 // The listing of a recording's run.
-pub fn list(s: &[u8], buf: &mut [u8]) -> Listed
+#[tactic(auto, using(crate::proofs::Laws::run_small), unfolding(crate::specs::Listed::listed))]
+pub fn list(s: &[u8], buf: &mut [u8]) -> Result<usize, Refusal>
     ensures { left result buf.new ≡ listed s.now buf.old }
 {
     let a = playback::run(s);
-    let outcome = a.outcome;
-    match outcome {
-        Outcome::Refused(r) => Listed::Refused(r),
-        Outcome::Accepted => {
-            let f = a.fleet;
-            let mut work = [0u8; 2258];
-            let k = put_listing(&mut work, f);
-            lend_text(&work[..k], buf)
-        }
-    }
+    a.outcome?;
+    // 26 bytes for the first line, 69 for each of 32 trucks and 24 for the last line.
+    let mut text = Text::<2258>::new();
+    text.put_listing(&a.fleet);
+    lend_text(text.as_bytes(), buf)
 }

@@ -1,5 +1,7 @@
 pub mod Tests
+pub mod Chunks
 pub mod Outcomes
+pub mod Filling
 pub mod Turning
 pub mod Answers
 pub mod Putting

@@ -1,26 +1,25 @@
 -- Bits put out four bytes at a time fill the buffer with the bytes of those bits.
 use mathlib.Core.Path.{◌≡◌, refl, ap, ap₂, sym, ◌∙◌}
-use mathlib.Core.List.{List}
+use mathlib.Core.List.{List, [], ◌∷◌, ◌++◌, append_assoc}
 use Prim.Native.Nat.{ℕ, zero, suc, ◌+◌, ◌*◌, ◌-◌, ◌/◌, ◌%◌, ◌^◌, ◌≤◌, ◌<◌}
 use native.Mathlib.Nat.{add-zero, div-one, mod-lt, mod-eq_of_lt}
 use native.Mathlib.Numerals.{add-one}
 use native.Mathlib.Omega.{arith}
 use lib.Arith.{digits_lt}
-use lib.ListN.{length, set, length-set}
+use borrow.Rule.Slice.PartMut.{put_mid}
+use lib.ListN.{length, set, take, drop}
+use lib.Seq.{drop-drop}
 use lib.Pow.{pow_pos, pow-add, mod-pow-add, mod-mod-pow, field, high, low, shl-shr, shr-shr}
+use Rattle.std.specs.Int.{w32, to_be_bytes}
+use Rattle.std.proofs.lemmas.List.Edits.{sets-eq}
 use Rattle.basics.specs.Lists.{filled}
-use Rattle.basics.proofs.Laws.{filled_none, filled_more, length-filled, filled_again}
+use Rattle.basics.proofs.Laws.{filled_none, filled_more, length-filled}
 use Rattle.bitreader.proofs.Digits.{num_at-add, num_at-part, num_at-lt}
 use Rattle.recording.specs.Packed.{num_at}
 use Rattle.plain.specs.Steps.{over, byte_of, added, BitsPut}
 
 -- ---- the buffer
 module _ (g : ℕ → ℕ) (i : ℕ) where
-  pub length_over : (m : ℕ) (d : List ℕ) → length (over g i m d) ≡ length d
-  unfolding over
-  length_over zero d = refl
-  length_over (suc m) d = length-set (over g i m d) (i + m) (g m) ∙ length_over m d
-
   pub over_none : (d : List ℕ) → d ≡ over g i 0 d
   unfolding over
   over_none d = refl
@@ -44,14 +43,23 @@ module _ (g : ℕ → ℕ) (i : ℕ) where
       ∙ filled_more G (i + m) d (g m) (omega arith) (e m (omega arith))
       ∙ ap (λ (k : ℕ). filled G k d) (let o : suc (i + m) ≡ i + suc m = omega arith in o)
 
--- four stores
-pub over-four : (v at : ℕ) (d : List ℕ) → v < 2 ^ 32
-    → set (set (set (set d at (v / 16777216)) (at + 1) (v / 65536 % 256)) (at + 2) (v / 256 % 256)) (at + 3) (v % 256) ≡ over (byte_of v 32) at 4 d
-unfolding over
-over-four v at d h =
-    let stored : ℕ → ℕ → ℕ → List ℕ = λ i x y. set (set (set (set d i x) (at + 1) (v / 65536 % 256)) (at + 2) (v / 256 % 256)) (at + 3) (y % 256) in
-    ap₂ (λ (i x : ℕ). stored i x v) (sym (add-zero at)) (let o : v / 16777216 ≡ v / 16777216 % 256 = omega arith in o)
-    ∙ ap (λ (y : ℕ). stored (at + 0) (v / 16777216 % 256) y) (sym (div-one v))
+-- four bytes put at once
+module _ (at : ℕ) (d : List ℕ) (room : at + 4 ≤ length d) where
+  over-four : (g : ℕ → ℕ) → take at d ++ ((g 0 ∷ g 1 ∷ g 2 ∷ g 3 ∷ []) ++ drop (at + 4) d) ≡ over g at 4 d
+  unfolding over
+  over-four g =
+      let stored : ℕ → ℕ → ℕ → ℕ → List ℕ = λ i j k l. set (set (set (set d i (g 0)) j (g 1)) k (g 2)) l (g 3) in
+      sym (append_assoc (take at d) (g 0 ∷ g 1 ∷ g 2 ∷ g 3 ∷ []) (drop (at + 4) d))
+      ∙ sym (sets-eq (g 0 ∷ g 1 ∷ g 2 ∷ g 3 ∷ []) d at room)
+      ∙ ap₂ (λ (i j : ℕ). stored i j (suc (suc at)) (suc (suc (suc at)))) (sym (add-zero at)) (let o : suc at ≡ at + 1 = omega arith in o)
+      ∙ ap₂ (λ (k l : ℕ). stored (at + 0) (at + 1) k l) (let o : suc (suc at) ≡ at + 2 = omega arith in o) (let o : suc (suc (suc at)) ≡ at + 3 = omega arith in o)
+
+  pub four_put : (v k : ℕ) (bytes : List ℕ) → k ≡ 4 → bytes ≡ to_be_bytes w32 v → put_mid at k d bytes ≡ over (byte_of v 32) at 4 d
+  four_put v k bytes e h =
+      ap₂ (λ (n : ℕ) (l : List ℕ). take at d ++ (l ++ drop n (drop at d))) e h
+      ∙ ap₂ (λ (x : ℕ) (l : List ℕ). take at d ++ ((v / 2 ^ 24 % 256 ∷ v / 2 ^ 16 % 256 ∷ v / 2 ^ 8 % 256 ∷ x % 256 ∷ []) ++ l)) (sym (div-one v))
+      (drop-drop 4 at d)
+      ∙ over-four (byte_of v 32)
 
 -- ---- the numbers
 -- a shift loses the highest digits
@@ -137,28 +145,6 @@ pub bits-put-at : (f : ℕ → ℕ) (a b at have acc : ℕ) (d buf : List ℕ) �
 bits-put-at f a b at have acc d buf e p = rw e at p
 
 module _ (f : ℕ → ℕ) (place at have acc : ℕ) (d buf : List ℕ) (sofar : BitsPut f place at have acc d buf) where
-  -- seen from the buffer as it is
-  pub bits-put_anew : BitsPut f place at have acc buf buf
-  bits-put_anew =
-      let g : ℕ → ℕ = λ q. num_at f (8 * q) 8 in
-      record {
-        bytes = sofar.bytes;
-        left = sofar.left;
-        number = sofar.number;
-        buffer = sofar.buffer ∙ sym (ap (filled g at) sofar.buffer ∙ filled_again g g at at d (omega arith));
-      }
-
-  -- and back
-  pub bits-put_since : (place' at' have' acc' : ℕ) (buf' : List ℕ) → place ≤ place' → BitsPut f place' at' have' acc' buf buf' → BitsPut f place' at' have' acc' d buf'
-  bits-put_since place' at' have' acc' buf' h p =
-      let g : ℕ → ℕ = λ q. num_at f (8 * q) 8 in
-      record {
-        bytes = p.bytes;
-        left = p.left;
-        number = p.number;
-        buffer = p.buffer ∙ ap (filled g at') sofar.buffer ∙ filled_again g g at at' d (omega (arith, sofar.bytes, p.bytes));
-      }
-
   pub bits-put-length : place ≤ 8 * length d → length buf ≡ length d
   bits-put-length h = ap length sofar.buffer ∙ length-filled (λ q. num_at f (8 * q) 8) at d (omega (arith, sofar.bytes))
 

@@ -2,20 +2,28 @@
 use mathlib.Core.Path.{◌≡◌, refl, ap, sym, ◌∙◌}
 use mathlib.Core.Bool.{Bool, true, false, not, ◌||◌}
 use mathlib.Core.List.{List}
-use Prim.Native.Nat.{ℕ, ◌+◌, ◌*◌, ◌-◌, ◌/◌, ◌%◌, ◌^◌, ◌≤◌, ◌<◌, min}
-use native.Mathlib.Nat.{div-eq_of_lt, le-div_iff_mul-le, mul-le-mul}
+use Prim.Native.Nat.{ℕ, zero, suc, ◌+◌, ◌*◌, ◌-◌, ◌/◌, ◌%◌, ◌^◌, ◌≤◌, ◌<◌, min}
+use native.Mathlib.Nat.{le_refl, div-eq_of_lt, le-div_iff_mul-le}
+use native.Mathlib.Numerals.{add-one}
 use native.Mathlib.Omega.{arith}
-use borrow.Author.Tests.{leb-true, leb-false, le-leb, lt-leb, lt-ltb, eq-eqb, ne_eqb, eqb-true, eqb-false}
+use borrow.Author.Tests.{leb-true, leb-false, le-leb, lt-leb, eq-eqb, ne_eqb, eqb-true, eqb-false}
 use lib.Bits.{bit_and, bit_or, and_le_l, and_le_r, and_high, or_lt, or_add_and}
 use lib.Dec.{leb, ltb, eqb, lit<}
-use lib.ListN.{length, get_or}
+use lib.ListN.{length, get_or, take}
 use lib.Pow.{pow_mono, pow_pos, pow-add, shl_exact}
+use Rattle.std.proofs.Common.{Option, Some, None}
+use Rattle.std.specs.Option.{MatchOption}
+use Rattle.std.specs.List.{fold, list_any}
+use Rattle.std.proofs.lemmas.List.{take_all}
+use Rattle.std.proofs.lemmas.List.Folds.{list_any_more}
+use Rattle.std.proofs.lemmas.List.Sums.{fold_more}
 use Rattle.basics.specs.Bits.{digit, bit}
 use Rattle.basics.specs.Lists.{first, some_below}
-use Rattle.basics.proofs.Laws.{some_below_by, some_past, first_past}
+use Rattle.basics.proofs.Laws.{first_unique, some_below_by, none-some_below, some-none, some_more, some_ext, first_ext, some_past, first_past}
 use Rattle.bitreader.proofs.Digits.{digit_lt}
+use Rattle.plain.specs.Steps.{own_in_rows}
+use Rattle.plain.proofs.Chunks.{Taken, rows, rows_count, row-there}
 use Rattle.recording.specs.Checks.{high_bit, own_bit, own_in, own_truck, bad_openings, bad_words}
-use Rattle.recording.proofs.OwnLoss.{own_looked, own_searched}
 
 -- a shift in place of a power
 pub high_shift : (n w : ℕ) → leb 1 (w / 2 ^ n) ≡ high_bit n w
@@ -53,6 +61,39 @@ high_or n a b = go (leb (2 ^ n) a) (leb (2 ^ n) b) refl refl
     go false true p q = le-leb (2 ^ n) (bit_or a b) (omega (arith, leb-true (2 ^ n) b q, or_add_and a b, and_le_l a b))
     go false false p q = lt-leb (2 ^ n) (bit_or a b) (or_lt n a b (leb-false (2 ^ n) a p) (leb-false (2 ^ n) b q))
 
+-- and so the union of a list's words
+pub high_union : (n : ℕ) (xs : List ℕ) → high_bit n (fold bit_or 0 xs) ≡ some_below (λ k. high_bit n (get_or xs k 0)) (length xs)
+high_union n xs = ap (λ (l : List ℕ). high_bit n (fold bit_or 0 l)) (sym (take_all (length xs) xs (le_refl (length xs)))) ∙ go (length xs) (le_refl (length xs))
+  where
+    high : ℕ → Bool
+    high k = high_bit n (get_or xs k 0)
+
+    go : (m : ℕ) → m ≤ length xs → high_bit n (fold bit_or 0 (take m xs)) ≡ some_below high m
+    go zero l = high_zero n ∙ sym (some-none high)
+    go (suc m) l =
+        ap (λ (k : ℕ). high_bit n (fold bit_or 0 (take k xs))) (sym (add-one m))
+        ∙ ap (high_bit n) (fold_more bit_or 0 xs m 0 l)
+        ∙ high_or n (fold bit_or 0 (take m xs)) (get_or xs m 0)
+        ∙ ap (λ (b : Bool). b || high m) (go m (omega arith))
+        ∙ some_more high m
+        ∙ ap (some_below high) (add-one m)
+
+-- a test of a list's elements, by their places
+pub some_in_list : (p : ℕ → Bool) (xs : List ℕ) → list_any p xs ≡ some_below (λ k. p (get_or xs k 0)) (length xs)
+some_in_list p xs = ap (list_any p) (sym (take_all (length xs) xs (le_refl (length xs)))) ∙ go (length xs) (le_refl (length xs))
+  where
+    at : ℕ → Bool
+    at k = p (get_or xs k 0)
+
+    go : (m : ℕ) → m ≤ length xs → list_any p (take m xs) ≡ some_below at m
+    go zero l = sym (some-none at)
+    go (suc m) l =
+        ap (λ (k : ℕ). list_any p (take k xs)) (sym (add-one m))
+        ∙ list_any_more p xs m 0 l
+        ∙ ap (λ (b : Bool). b || at m) (go m (omega arith))
+        ∙ some_more at m
+        ∙ ap (some_below at) (add-one m)
+
 -- a word's bit alone
 pub bit-alone : (w i : ℕ) → i < 32 → high_bit 0 (bit_and w (1 * 2 ^ i % 2 ^ 32)) ≡ bit w i
 unfolding high_bit
@@ -67,29 +108,23 @@ bit-alone w i h =
         let d : digit w i ≡ 1 → ⊥ = eqb-false (digit w i) 1 e in
         lt-leb 1 (digit w i * 2 ^ i) (rw (let z : digit w i ≡ 0 = omega (arith, digit_lt w i) in z) (omega arith))
 
--- the own loss bits of the round whose words begin at a place
-abbrev pub own_plain : List ℕ → ℕ → ℕ → Bool
-own_plain words base i = bit (get_or words (base + (3 + i)) 0) i
+-- what a search from the lowest number up answers
+pub first_searched : (p : ℕ → Bool) (m : ℕ) (r : Option ℕ)
+    → MatchOption r ((k : ℕ) → 0 ≤ k → k < m → p k ≡ false) (λ i. (0 ≤ i) × (i < m) × (p i ≡ true) × ((k : ℕ) → 0 ≤ k → k < i → p k ≡ false))
+    → MatchOption r (some_below p m ≡ false) (λ i. (some_below p m ≡ true) × (i ≡ first p m))
+first_searched p m None h = none-some_below p m (λ k l. h k (omega arith) l)
+first_searched p m (Some i) h =
+    (some_below_by p m i h.1 h.2, sym (first_unique p m i (omega arith) (λ k l. h.3 k (omega arith) l) (λ l. h.2)))
 
 -- ---- openings and words as a whole
-or-true : (a b : Bool) → b ≡ true → true ≡ (a || b)
-or-true true b h = refl
-or-true false b h = sym h
-
 module _ (n : ℕ) (openings : List ℕ) where
-  pub openings-count : (length openings ≡ n → ⊥) → true ≡ bad_openings n openings
+  pub openings-count : (length openings ≡ n → ⊥) → not (eqb (length openings) n) ≡ bad_openings n openings
   unfolding bad_openings
   openings-count h = rw (ne_eqb (length openings) n h)
 
-  pub openings_above : (i : ℕ) → i < length openings → 15 < get_or openings i 0 → true ≡ bad_openings n openings
+  pub openings_tested : (b : Bool) → length openings ≡ n → b ≡ some_below (λ k. ltb 15 (get_or openings k 0)) (length openings) → b ≡ bad_openings n openings
   unfolding bad_openings
-  openings_above i l h =
-      or-true (not (eqb (length openings) n)) (some_below (λ k. ltb 15 (get_or openings k 0)) (length openings))
-      (some_below_by (λ k. ltb 15 (get_or openings k 0)) (length openings) i l (lt-ltb 15 (get_or openings i 0) h))
-
-  pub openings_fine : length openings ≡ n → some_below (λ k. ltb 15 (get_or openings k 0)) (length openings) ≡ false → false ≡ bad_openings n openings
-  unfolding bad_openings
-  openings_fine e h = rw (eq-eqb (length openings) n e, h)
+  openings_tested b e h = rw (eq-eqb (length openings) n e, h)
 
 module _ (n R : ℕ) (words : List ℕ) where
   pub words_count : (length words ≡ R * (3 + n) → ⊥) → true ≡ bad_words n R words
@@ -100,23 +135,38 @@ module _ (n R : ℕ) (words : List ℕ) where
   unfolding bad_words
   words_tested b e h = rw (eq-eqb (length words) (R * (3 + n)) e, h)
 
--- the number of words fits
-pub words_small : (n R : ℕ) → n < 256 → R < 65536 → R * (3 + n) ≤ 16908030
-words_small n R h l = mul-le-mul (let o : R ≤ 65535 = omega arith in o) (let o : 3 + n ≤ 258 = omega arith in o)
+-- what a look at the rows of round r says; the first 32 trucks alone have an own loss bit
+module _ {words : List ℕ} {n r : ℕ} {round rest : List ℕ} (taken : Taken words n r round rest) (m : ℕ)
+    (fits : (k : ℕ) → get_or words k 0 < 2 ^ 32) (held : m ≡ min n 32) where
+  own : ℕ → Bool
+  own = own_bit (λ w. get_or words w 0) n r
 
--- what a look at round r says, whose words begin at a place; the first 32 trucks alone have an own loss bit
-module _ (words : List ℕ) (n m r base : ℕ) (fits : (k : ℕ) → get_or words k 0 < 2 ^ 32) (held : m ≡ min n 32) (placed : base ≡ r * (3 + n)) where
-  own-plain : (i : ℕ) → own_plain words base i ≡ own_bit (λ w. get_or words w 0) n r i
-  unfolding own_bit
-  own-plain i = ap (λ (b : ℕ). own_plain words b i) placed
+  count : length (rows round m) ≡ m
+  count = rows_count taken m (omega arith)
 
-  none_above : (k : ℕ) → m ≤ k → k < n → own_plain words base k ≡ false
-  none_above k l u = sym (bit-none (get_or words (base + (3 + k)) 0) k (omega arith) (fits (base + (3 + k))))
+  own-there : (i : ℕ) → i < length (rows round m) → own_in_rows (rows round m) i ≡ own i
+  unfolding own own_bit
+  own-there i l = ap (λ (w : ℕ). bit w i) (row-there taken m i (omega arith) l)
 
-  pub plain_looked : (b : Bool) → b ≡ some_below (own_plain words base) m → own_in (λ w. get_or words w 0) n r ≡ b
-  plain_looked b e =
-      own_looked (λ w. get_or words w 0) n r (own_plain words base) (λ i l. own-plain i) b (e ∙ some_past (own_plain words base) m n (omega arith) none_above)
+  none_above : (k : ℕ) → length (rows round m) ≤ k → k < n → own k ≡ false
+  unfolding own own_bit
+  none_above k l u = sym (bit-none (get_or words (r * (3 + n) + (3 + k)) 0) k (omega (arith, count)) (fits (r * (3 + n) + (3 + k))))
 
-  pub plain_searched : (truck : ℕ) → some_below (own_plain words base) m ≡ true → truck ≡ first (own_plain words base) m → own_truck (λ w. get_or words w 0) n r ≡ truck
+  some-there : some_below (own_in_rows (rows round m)) (length (rows round m)) ≡ some_below own n
+  some-there =
+      some_ext (own_in_rows (rows round m)) own (length (rows round m)) own-there
+      ∙ some_past own (length (rows round m)) n (omega (arith, count)) none_above
+
+  pub plain_looked : (b : Bool) → some_below (own_in_rows (rows round m)) (length (rows round m)) ≡ b → own_in (λ w. get_or words w 0) n r ≡ b
+  unfolding own own_in
+  plain_looked b e = sym some-there ∙ e
+
+  pub plain_searched : (truck : ℕ) → some_below (own_in_rows (rows round m)) (length (rows round m)) ≡ true → truck ≡ first (own_in_rows (rows round m)) (length (rows round m))
+      → own_truck (λ w. get_or words w 0) n r ≡ truck
+  unfolding own own_truck
   plain_searched truck h e =
-      own_searched (λ w. get_or words w 0) n r (own_plain words base) (λ i l. own-plain i) truck (e ∙ first_past (own_plain words base) m n (omega arith) h)
+      let part : List ℕ = rows round m in
+      sym
+      (e
+      ∙ first_ext (own_in_rows part) own (length part) own-there
+      ∙ first_past own (length part) n (omega (arith, count)) (sym (some_ext (own_in_rows part) own (length part) own-there) ∙ h))

@@ -1,20 +1,22 @@
 -- What the steps of reading and of writing do to their buffer. Only private functions cite these.
-use Rattle.std.specs.Prelude.{ℕ, zero, suc, ◌+◌, ◌*◌, ◌-◌, ◌/◌, ◌%◌, ◌^◌, ◌≡◌, List, set}
+use Rattle.std.specs.Prelude.{ℕ, zero, suc, ◌+◌, ◌*◌, ◌-◌, ◌/◌, ◌%◌, ◌^◌, ◌≡◌, Bool, List, set, get_or}
+use Rattle.std.specs.Int.{w32, swap_bytes}
+use Rattle.basics.specs.Bits.{bit}
 use Rattle.basics.specs.Lists.{filled}
 use Rattle.recording.specs.Packed.{bit_at, num_at, word_place, pack_bit}
 use Rattle.bitreader.specs.Bits.{mirrored}
 
--- the four bytes of a number of 32 bits in reverse
-abbrev pub swapped : ℕ → ℕ
-swapped x = x % 256 * 16777216 + x / 256 % 256 * 65536 + x / 65536 % 256 * 256 + x / 16777216
+-- the own loss bit of truck i is 1 in the rows of a round, the first of which is that of truck 0
+abbrev pub own_in_rows : List ℕ → ℕ → Bool
+own_in_rows rows i = bit (get_or rows i 0) i
 
 -- word w of the rounds of n trucks as it is gathered: the 32 bits from its place on, their bytes in reverse
 abbrev pub gathered_word : List ℕ → ℕ → ℕ → ℕ
-gathered_word s n w = swapped (num_at (bit_at s) (word_place n w) 32)
+gathered_word s n w = swap_bytes w32 (num_at (bit_at s) (word_place n w) 32)
 
 -- the word of plain form, of n bits, that was gathered so
 abbrev pub turned_word : ℕ → ℕ → ℕ
-turned_word n x = mirrored 32 (swapped x) % 2 ^ n
+turned_word n x = mirrored 32 (swap_bytes w32 x) % 2 ^ n
 
 -- a list in which the m elements from place i on are g 0, g 1, ..
 unfoldable pub over : (ℕ → ℕ) → ℕ → ℕ → List ℕ → List ℕ

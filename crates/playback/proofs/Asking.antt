@@ -1,23 +1,23 @@
 -- Loops that ask those wanted, one by one, what they hear: `left` holds those that are still to come.
-use mathlib.Core.Path.{◌≡◌, refl, ap, sym, ◌∙◌}
-use mathlib.Core.Bool.{Bool, true, false, cond, not, ◌&&◌}
+use mathlib.Core.Path.{◌≡◌, refl, ap, ap₂, sym, ◌∙◌}
+use mathlib.Core.Bool.{Bool, true, false, cond, not, ◌&&◌, ◌||◌}
 use mathlib.Core.List.{List}
-use Prim.Native.Nat.{ℕ, ◌^◌, ◌≤◌, ◌<◌}
-use lib.Bits.{bit_and, bit_or, bit_xor}
-use lib.Count.{count_trailing_zeros}
+use Prim.Native.Nat.{ℕ, ◌%◌, ◌^◌, ◌≤◌, ◌<◌}
+use lib.Bits.{bit_or, bit_xor, or_lt, xor_lt}
 use lib.Dec.{eqb}
 use lib.ListN.{get_or, set, replicate}
 use Rattle.basics.specs.Bits.{bit}
 use Rattle.basics.specs.Lists.{first}
-use Rattle.sets.specs.Sets.{Members, without, rest_of, lowest_only}
+use Rattle.sets.specs.Sets.{Members, without, IsNext}
 use Rattle.protocol.specs.declared.Heard.{Heard}
 use Rattle.protocol.specs.declared.Heard.TheVariants.{Nothing, One, Several}
 use Rattle.protocol.specs.Rules.{is_one, is_several}
 use Rattle.playback.specs.declared.hearing.Values.{Values}
 use Rattle.playback.specs.Sets.{Sorted, heard_set, was_heard, values_of}
 use Rattle.playback.specs.Listens.{row_from, heard_from, some_value}
-use Rattle.sets.proofs.Members.{TakenOut, taken_out, own_out, within-removed, Picked, picked_none, picked-lowest, picked_all, members_ext, members-rest}
-use Rattle.playback.proofs.Radios.{heard_by_own}
+use Rattle.basics.proofs.Bits.{bit-or, bit-xor, one_of}
+use Rattle.sets.proofs.Words.{same_bits}
+use Rattle.sets.proofs.Members.{TakenOut, next_out, only_is, within-removed, Picked, picked_none, picked-lowest, picked_all, members_ext, members-rest}
 use Rattle.playback.proofs.Sorting.{Sorting, sorting-starts, least-heard, none-heard, sorting-done}
 
 -- the truck at place p is the next of those left: `only` is its set, and left' are left after it
@@ -25,9 +25,8 @@ pub record Next (left p only left' : ℕ) : Type 0 where
   pub taken : TakenOut left p left'
   pub own : only ≡ 2 ^ p
 
-pub next_is : {left p only left' : ℕ} → (left ≡ 0 → ⊥) → (p ≡ count_trailing_zeros 32 left) × ((left ≡ 0 → ⊥) → (p < 32) × (bit left p ≡ true)) → only ≡ lowest_only left → left' ≡ rest_of left
-    → Next left p only left'
-next_is some lowest own rest = record { taken = taken_out some lowest rest; own = own_out some lowest.0 own }
+pub next_is : {left p only left' : ℕ} → IsNext left p left' → only ≡ 2 ^ p % 2 ^ 32 → Next left p only left'
+next_is {p = p} n e = let t = next_out n in record { taken = t; own = e ∙ only_is p t.below }
 
 -- `out` holds those wanted that were asked already and have f
 pub record Asking (wanted : ℕ) (f : ℕ → Bool) (left out : ℕ) : Type 0 where
@@ -50,10 +49,8 @@ module _ (wanted : ℕ) (f : ℕ → Bool) where
   asking-done a none = picked_all 32 wanted f a.picked none
 
 -- what the truck at place p hears, of which w are the senders
-pub heard-at : (s : List ℕ) (at n senders : ℕ) (by : List ℕ) (p : ℕ) {own row w : ℕ} → own ≡ 2 ^ p → row ≡ row_from s at n p → w ≡ bit_or (without senders row) (bit_and senders own)
-    → heard_from s at n senders by p ≡ values_of by w 16
-heard-at s at n senders by p {own} {row} {w} q r e =
-    sym (ap (λ (x : ℕ). values_of by x 16) (heard_by_own senders row p own w e q ∙ ap (λ (x : ℕ). heard_set senders x p) r))
+pub heard-at : (s : List ℕ) (at n senders : ℕ) (by : List ℕ) (p : ℕ) {w : ℕ} → w ≡ heard_set senders (row_from s at n p) p → heard_from s at n senders by p ≡ values_of by w 16
+heard-at s at n senders by p e = sym (ap (λ (x : ℕ). values_of by x 16) e)
 
 -- those that heard several values are the rest of those that heard some
 pub several-rest : (wanted : ℕ) (h : ℕ → Heard) {some one : ℕ} → Members some 32 (λ p. bit wanted p && some_value (h p)) → Members one 32 (λ p. bit wanted p && is_one (h p))
@@ -75,6 +72,24 @@ several-rest wanted h {some} {one} a b =
     both true One = refl
     both true Several = refl
     both false v = refl
+
+-- those that heard some are those that heard one value and those that heard several
+pub some-parts : (wanted : ℕ) (h : ℕ → Heard) {some one : ℕ} → Members some 32 (λ p. bit wanted p && some_value (h p)) → Members one 32 (λ p. bit wanted p && is_one (h p))
+    → bit_or one (bit_xor some one) ≡ some
+some-parts wanted h {some} {one} a b =
+    same_bits (bit_or one (bit_xor some one)) some 32 (or_lt 32 one (bit_xor some one) b.below (xor_lt 32 some one a.below b.below)) a.below
+    (λ j l.
+    bit-or one (bit_xor some one) j
+    ∙ ap (λ (x : Bool). bit one j || x) (bit-xor some one j)
+    ∙ ap₂ (λ (x y : Bool). y || one_of x y) (a.each j l) (b.each j l)
+    ∙ go (bit wanted j) (h j)
+    ∙ sym (a.each j l))
+  where
+    go : (x : Bool) (v : Heard) → ((x && is_one v) || one_of (x && some_value v) (x && is_one v)) ≡ (x && some_value v)
+    go true Nothing = refl
+    go true One = refl
+    go true Several = refl
+    go false v = refl
 
 -- ---- those wanted take the least value that they hear: `some` holds those asked already that heard one, and `taking` those of them of each crusher
 pub record Takes (wanted : ℕ) (h : ℕ → Values) (left some : ℕ) (taking : List ℕ) : Type 0 where

@@ -13,11 +13,11 @@ use lib.Pow.{pow-lt}
 use lib.Dec.{eqb, ltb, lit<}
 use lib.ListN.{length, get_or, replicate}
 use lib.Seq.{ext_get_or}
+use Rattle.std.specs.Prelude.{Ok}
 use Rattle.radio.specs.Runs.{state_at}
 use Rattle.basics.specs.Bits.{bit, odd}
 use Rattle.basics.specs.Lists.{filled, first}
 use Rattle.basics.proofs.Laws.{zeros, or_left, or_right, odd-suc, first_unique, get_or-filled, get_or-filled_past, length-filled, length-tab, get_or-tab}
-use Rattle.refusals.specs.declared.Outcome.TheVariants.{Accepted}
 use Rattle.basics.proofs.Bits.{bit-and, bit-or}
 use Rattle.sets.proofs.Words.{bit_power, bit-zero, no_bits}
 use Rattle.recording.specs.Packed.{trucks_of, rounds_of, counts_of, opening_at, openings_into, openings_of, word_place, round_place, round_at}
@@ -46,7 +46,6 @@ use Rattle.protocol.proofs.AnyRun.{at_suc, opened-truck, throughout, estimates-o
 use Rattle.playback.specs.declared.replay.Proposed.{Proposed}
 use Rattle.playback.specs.declared.replay.Vetoed.{Vetoed}
 use Rattle.playback.specs.declared.replay.Sets.{Sets}
-use Rattle.playback.specs.declared.replay.Begun.{Begun}
 use Rattle.sets.specs.Sets.{without}
 use Rattle.counters.specs.Counters.{counted_up, in_use}
 use Rattle.counters.proofs.Counts.{tally-none, tally_used}
@@ -69,7 +68,7 @@ takes_in TwoRound = sound_two.takes
 takes_in SixRound = sound-six.takes
 
 -- what the rounds of a recording have in common
-module _ (s : List ℕ) (good : frame_check s ≡ Accepted) where
+module _ (s : List ℕ) (good : frame_check s ≡ Ok tt) where
   pub few : trucks_of s ≤ 32
   few = (frame_good s good).most
 
@@ -140,8 +139,8 @@ module _ {rules : Rules recorded} {rounds : ℕ → List ℕ} {s : List ℕ} {at
         go (no h) = absurd (due-left (omega arith))
 
     -- the numbers of the next round are small
-    pub due-room : (n ≤ 32) × (((3 + n) * n ≤ 35 * 32) × ((at < 450000) × ((0 < left) × (k < 400))))
-    due-room = (
+    pub due_room : (n ≤ 32) × (((3 + n) * n ≤ 35 * 32) × ((at < 450000) × ((0 < left) × (k < 400))))
+    due_room = (
       due-few,
       (
         mul-le-mul (let z : 3 + n ≤ 35 = omega (arith, due-few) in z) due-few,
@@ -362,17 +361,17 @@ module _ (p : Protocol) {rounds : ℕ → List ℕ} {s : List ℕ} {last : ℕ} 
 
 -- ---- before round 1
 -- the openings as they were read
-module _ (s : List ℕ) (good : frame_check s ≡ Accepted) (openings : List ℕ) (read : openings ≡ openings_into s (replicate 32 0)) where
+module _ (s : List ℕ) (good : frame_check s ≡ Ok tt) (openings : List ℕ) (read : openings ≡ openings_into s (replicate 32 0)) where
   pub openings_are : (j : ℕ) → j < trucks_of s → get_or openings j 0 ≡ opening_at s j
   openings_are j l = front-opening s (replicate 32 0) openings read j l (omega (arith, (frame_good s good).most))
 
   pub openings-small : (i : ℕ) → get_or openings i 0 < 16
   openings-small = front-small s (replicate 32 0) openings read (λ i. rw (zeros 32 i) (lit< tt))
 
-pub first-few : (s : List ℕ) → frame_check s ≡ Accepted → (n : ℕ) → n ≡ trucks_of s → (n ≤ 32) × (rounds_of s ≤ 400)
+pub first-few : (s : List ℕ) → frame_check s ≡ Ok tt → (n : ℕ) → n ≡ trucks_of s → (n ≤ 32) × (rounds_of s ≤ 400)
 first-few s good n count = (omega (arith, count, (frame_good s good).most), (frame_good s good).rounds)
 
-module _ (rules : Rules recorded) (rounds : ℕ → List ℕ) (s : List ℕ) (good : frame_check s ≡ Accepted) (n : ℕ) (count : n ≡ trucks_of s) where
+module _ (rules : Rules recorded) (rounds : ℕ → List ℕ) (s : List ℕ) (good : frame_check s ≡ Ok tt) (n : ℕ) (count : n ≡ trucks_of s) where
   opening-truck : (j : ℕ) → j < trucks_of s → truck (trucks_after rules rounds s 0) j ≡ opened (opening_at s j)
   unfolding openings_of
   opening-truck j l =
@@ -422,18 +421,18 @@ module _ (rules : Rules recorded) (rounds : ℕ → List ℕ) (s : List ℕ) (go
           ∙ sym (ap (λ (x : Bool). x && eqb (truck (trucks_after rules rounds s 0) j).estimate c) (le-ltb j (trucks_of s) (omega arith)))
 
 -- the same of a recording's trucks as they were read, in arrays that were lent as zeros
-module _ {s openings by : List ℕ} {r : Begun} (good : frame_check s ≡ Accepted) (o : Opens s openings by r) where
-  pub begun_count : r.counts.trucks ≡ trucks_of s
-  begun_count = counts-trucks s r.counts o.counts
+module _ {s openings by : List ℕ} {c : Counts} {all : ℕ} (good : frame_check s ≡ Ok tt) (o : Opens s openings by c all) where
+  pub begun_count : c.trucks ≡ trucks_of s
+  begun_count = counts-trucks s c o.counts
 
-  pub begun_few : (r.counts.trucks ≤ 32) × (rounds_of s ≤ 400)
-  begun_few = first-few s good r.counts.trucks begun_count
+  pub begun_few : (c.trucks ≤ 32) × (rounds_of s ≤ 400)
+  begun_few = first-few s good c.trucks begun_count
 
   pub begun_openings : (j : ℕ) → j < trucks_of s → get_or openings j 0 ≡ opening_at s j
   begun_openings = openings_are s good openings o.read
 
-  pub begun_due : (rules : Rules recorded) (rounds : ℕ → List ℕ) → AsRecorded rounds s → (at R until : ℕ) (ends sent : List ℕ) → at ≡ word_place r.counts.trucks 0 → R ≤ 400 → ends ≡ replicate 32 0 → sent ≡ replicate 8 0
-      → Due rules rounds s at r.counts.trucks R 0 by ends sent r.all 0 0 0 0 0 until
+  pub begun_due : (rules : Rules recorded) (rounds : ℕ → List ℕ) → AsRecorded rounds s → (at R until : ℕ) (ends sent : List ℕ) → at ≡ word_place c.trucks 0 → R ≤ 400 → ends ≡ replicate 32 0 → sent ≡ replicate 8 0
+      → Due rules rounds s at c.trucks R 0 by ends sent all 0 0 0 0 0 until
   begun_due rules rounds words at R until ends sent ep most ee es =
       rw (ee, es)
-      (first-due rules rounds s good r.counts.trucks begun_count words openings begun_openings at r.all until by ep most o.all (o.sorted, o.crushers))
+      (first-due rules rounds s good c.trucks begun_count words openings begun_openings at all until by ep most o.everyone (o.sorted, o.crushers))

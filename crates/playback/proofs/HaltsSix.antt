@@ -22,15 +22,24 @@ use Rattle.playback.specs.Grading.{RadioSets, Judges}
 use Rattle.playback.specs.Standing.{next_trucks, holds, trucks_after, Stands, SixPlays, noted, Due, Halted}
 use Rattle.playback.proofs.Graded.{radio_after}
 use Rattle.playback.proofs.StoodSix.{prepare-stands, prepare-radio, bit-stands, bit-radio, accept-stands, accept-radio}
-use Rattle.playback.proofs.Halts.{few, small, read_as_lem, read-active, at_place, recount, graded-next, halts}
+use Rattle.playback.proofs.Halts.{few, small, read_as_lem, read-active, at_place, recount, due_room, graded-next, halts}
 
 -- the loop goes on
-pub on_test : (left k rounds running decided : ℕ) → left ≡ rounds - k → (ltb k rounds && not (eqb running 0)) ≡ true
+on_test : (left k rounds running decided : ℕ) → left ≡ rounds - k → (ltb k rounds && not (eqb running 0)) ≡ true
     → (eqb left 0 || eqb running 0 || not (eqb (bit_and decided 0) 0)) ≡ false
 on_test left k rounds running decided e h =
     let l : k < rounds = ltb-true k rounds (and_left (ltb k rounds) (not (eqb running 0)) h) in
     ap₂ (λ (x y : Bool). x || y || not (eqb (bit_and decided 0) 0)) (ne_eqb left 0 (omega arith)) (not-true (eqb running 0) (and_right (ltb k rounds) (not (eqb running 0)) h))
     ∙ ap not (eq-eqb (bit_and decided 0) 0 (and_zero_r decided))
+
+-- a turn of the loop over the rounds, before which k are done
+module _ (rounds k : ℕ) {s : List ℕ} {at n : ℕ} {by ends sent : List ℕ} {running decided unwilling : ℕ} (d : Due six_rules (round_at s) s at n (rounds - k) k by ends sent running decided 0 0 0 unwilling 0)
+    (h : (ltb k rounds && not (eqb running 0)) ≡ true) where
+  pub six-on : (eqb (rounds - k) 0 || eqb running 0 || not (eqb (bit_and decided 0) 0)) ≡ false
+  six-on = on_test (rounds - k) k rounds running decided refl h
+
+  pub six_room : (n ≤ 32) × (((3 + n) * n ≤ 35 * 32) × ((at < 450000) × ((0 < rounds - k) × (k < 400))))
+  six_room = due_room d six-on
 
 -- it ends
 over_test : (left k rounds running decided : ℕ) → left ≡ rounds - k → (ltb k rounds && not (eqb running 0)) ≡ false

@@ -6,12 +6,12 @@ use Prim.Native.Nat.{ℕ, ◌+◌, ◌-◌, ◌≤◌, ◌<◌, ◌^◌, ◌%◌
 use native.Mathlib.Omega.{arith}
 use lib.ListN.{length, get_or}
 use borrow.Author.Tests.{lt-ltb, le-ltb}
+use Rattle.std.specs.Prelude.{Ok, Err}
 use Rattle.basics.specs.Lists.{first, filled}
 use Rattle.basics.proofs.Laws.{first-le, get_or-filled, get_or-filled_past, fill_length}
 use Rattle.sets.proofs.Members.{only_is}
 use Rattle.refusals.specs.declared.Refusal.{Refusal}
 use Rattle.refusals.specs.declared.Refusal.TheVariants.{ShortBuffer}
-use Rattle.refusals.specs.declared.Outcome.TheVariants.{Accepted, Refused}
 use Rattle.recording.specs.Packed.{rounds_of, round_at}
 use Rattle.recording.specs.Checks.{check_of}
 use Rattle.counters.specs.Counters.{in_use}
@@ -78,15 +78,15 @@ module _ (c : Counts) (openings : List ℕ) (b : Sets) (by ends sent d : List �
 -- ---- what a run to bytes answers, and what it leaves
 
 module _ (p : Protocol) (s d : List ℕ) where
-  pub run-refused : (r : Refusal) → check_of s ≡ Refused r → (Refused r ≡ run_check_in p s d) × (d ≡ run_bytes_in p s d)
+  pub run-refused : (r : Refusal) → check_of s ≡ Err r → (Err r ≡ run_check_in p s d) × (d ≡ run_bytes_in p s d)
   unfolding run_check_in run_bytes_in ran_in
   run-refused r h = (rw h, rw h)
 
-  module _ (taken : check_of s ≡ Accepted) where
-    pub run_short : length d < size_for 32 → (Refused ShortBuffer ≡ run_check_in p s d) × (d ≡ run_bytes_in p s d)
+  module _ (taken : check_of s ≡ Ok tt) where
+    pub run_short : length d < size_for 32 → (Err ShortBuffer ≡ run_check_in p s d) × (d ≡ run_bytes_in p s d)
     unfolding run_check_in run_bytes_in ran_in
     run_short l = (rw (taken, lt-ltb (length d) (size_for 32) l), rw (taken, lt-ltb (length d) (size_for 32) l))
 
-    pub run-put : size_for 32 ≤ length d → (l : List ℕ) → l ≡ filled (record_byte (fleet_after p (round_at s) s (rounds_of s))) (size_for 32) d → (Accepted ≡ run_check_in p s d) × (l ≡ run_bytes_in p s d)
+    pub run-put : size_for 32 ≤ length d → (l : List ℕ) → l ≡ filled (record_byte (fleet_after p (round_at s) s (rounds_of s))) (size_for 32) d → ((Ok tt) ≡ run_check_in p s d) × (l ≡ run_bytes_in p s d)
     unfolding run_check_in run_bytes_in ran_in
     run-put room l e = (rw (taken, le-ltb (length d) (size_for 32) room), e ∙ rw (taken, le-ltb (length d) (size_for 32) room))

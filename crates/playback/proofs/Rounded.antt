@@ -1,5 +1,5 @@
 -- What a round's function returns, as its contract says it.
-use mathlib.Core.Path.{◌≡◌, refl, ap, ap₂, subst₂, ◌∙◌}
+use mathlib.Core.Path.{◌≡◌, refl, ap, ap₂, sym, subst₂, ◌∙◌}
 use mathlib.Core.Bool.{Bool, true, false, cond, not, ◌&&◌, ◌||◌, and-false}
 use mathlib.Core.List.{List}
 use Prim.Native.Nat.{ℕ, ◌+◌, ◌*◌, ◌<◌, ◌^◌}
@@ -9,37 +9,39 @@ use lib.Bits.{bit_and, bit_or, bit_xor, and_zero_l, and_le_l, xor_lt}
 use lib.Dec.{eqb}
 use Rattle.basics.specs.Bits.{bit}
 use Rattle.basics.specs.Lists.{filled}
+use Rattle.protocol.specs.declared.Heard.{Heard}
 use Rattle.protocol.specs.Rules.{is_one, is_several}
 use Rattle.playback.specs.declared.listening.Hearing.{Hearing}
-use Rattle.playback.specs.declared.listening.Taking.{Taking}
 use Rattle.sets.specs.Sets.{Members, without}
 use Rattle.sets.proofs.Words.{bit-zero}
 use Rattle.sets.proofs.Members.{members-none, members-rest}
 use Rattle.playback.specs.Sets.{Sorted}
 use Rattle.playback.specs.Listens.{row_from, heard_from, some_value, settled}
+use Rattle.playback.proofs.Asking.{several-rest, some-parts}
 use Rattle.playback.specs.Standing.{word_from, going_on, senders_of, proposers_of, unread_of, wanted_of, Proposes, may_of, Vetoes, unmarked_of, Prepares, with_bit, quiet_of, asked_in, Listens, willing_of, Accepts}
 
 pub proposes_by : (s : List ℕ) (at n left running : ℕ) (by by' : List ℕ) (stop active mark going u fewer wanted changed : ℕ) (h : Hearing)
     → stop ≡ word_from s at → mark ≡ word_from s (at + 2 * n) → going ≡ without running stop → u ≡ unread_of left mark → fewer ≡ without going u
     → wanted ≡ cond (eqb (bit_and going active) 0) 0 fewer
-    → Members h.one 32 (λ p. bit wanted p && is_one (heard_from s (at + 3 * n) n (bit_and going active) by p).heard)
-    × (Members h.several 32 (λ p. bit wanted p && is_several (heard_from s (at + 3 * n) n (bit_and going active) by p).heard)
+    → Members h.some 32 (λ p. bit wanted p && some_value (heard_from s (at + 3 * n) n (bit_and going active) by p).heard)
+    × (Members h.one 32 (λ p. bit wanted p && is_one (heard_from s (at + 3 * n) n (bit_and going active) by p).heard)
     × Sorted h.taking 32 wanted (λ p. (heard_from s (at + 3 * n) n (bit_and going active) by p).least))
-    → changed ≡ without (bit_or h.one h.several) mark → by' ≡ filled (settled by h.taking changed) 16 by
-    → Proposes s at n left running active by by' (record { going = going; senders = bit_and going active; mark = mark; one = h.one; several = h.several })
+    → changed ≡ without h.some mark → by' ≡ filled (settled by h.taking changed) 16 by
+    → Proposes s at n left running active by by' (record { going = going; senders = bit_and going active; mark = mark; one = h.one; several = bit_xor h.some h.one })
 proposes_by s at n left running by by' stop active mark going u fewer wanted changed h es em eg eu ef ew eh ec eb =
     let g : going ≡ going_on s at running = eg ∙ ap (without running) es in
     let d : bit_and going active ≡ senders_of s at running active = ap (λ (x : ℕ). bit_and x active) g in
     let w : wanted ≡ wanted_of s at n left running active = ew ∙ ap₂ (λ (x y : ℕ). cond (eqb x 0) 0 y) d (ef ∙ ap₂ without g (eu ∙ ap (unread_of left) em)) in
+    let heard : ℕ → Heard = λ p. (heard_from s (at + 3 * n) n (bit_and going active) by p).heard in
     record {
       going = g;
       senders = d;
       mark = em;
-      one = subst₂ (λ (x y : ℕ). Members h.one 32 (λ p. bit x p && is_one (heard_from s (at + 3 * n) n y by p).heard)) w d eh.0;
-      several = subst₂ (λ (x y : ℕ). Members h.several 32 (λ p. bit x p && is_several (heard_from s (at + 3 * n) n y by p).heard)) w d eh.1.0;
+      one = subst₂ (λ (x y : ℕ). Members h.one 32 (λ p. bit x p && is_one (heard_from s (at + 3 * n) n y by p).heard)) w d eh.1.0;
+      several = subst₂ (λ (x y : ℕ). Members (bit_xor h.some h.one) 32 (λ p. bit x p && is_several (heard_from s (at + 3 * n) n y by p).heard)) w d (several-rest wanted heard eh.0 eh.1.0);
       taking = h.taking;
       sorted = subst₂ (λ (x y : ℕ). Sorted h.taking 32 x (λ p. (heard_from s (at + 3 * n) n y by p).least)) w d eh.1.1;
-      took = eb ∙ ap (λ (x : ℕ). filled (settled by h.taking x) 16 by) ec;
+      took = eb ∙ ap (λ (x : ℕ). filled (settled by h.taking x) 16 by) (ec ∙ sym (ap (λ (x : ℕ). without x mark) (some-parts wanted heard eh.0 eh.1.0)));
     }
 
 -- who hears some of the senders need not be asked where nobody sends, or nobody is wanted
@@ -83,22 +85,22 @@ vetoes_by s at n running marked one several stop mark going may some fits es em 
     }
 
 -- rounds of the six-round cycle
-pub prepares_by : (s : List ℕ) (at n running : ℕ) (by by' : List ℕ) (stop active mark going unmarked wanted : ℕ) (h : Taking)
+pub prepares_by : (s : List ℕ) (at n running : ℕ) (by by' : List ℕ) (stop active mark going unmarked wanted : ℕ) (h : Hearing)
     → stop ≡ word_from s at → active ≡ word_from s (at + n) → mark ≡ word_from s (at + 2 * n) → going ≡ without running stop → unmarked ≡ without going mark
     → wanted ≡ cond (eqb (bit_and going active) 0) 0 unmarked
-    → Members h.changed 32 (λ p. bit wanted p && some_value (heard_from s (at + 3 * n) n (bit_and going active) by p).heard)
-    × Sorted h.taking 32 wanted (λ p. (heard_from s (at + 3 * n) n (bit_and going active) by p).least)
-    → by' ≡ filled (settled by h.taking h.changed) 16 by
+    → Members h.some 32 (λ p. bit wanted p && some_value (heard_from s (at + 3 * n) n (bit_and going active) by p).heard)
+    → Sorted h.taking 32 wanted (λ p. (heard_from s (at + 3 * n) n (bit_and going active) by p).least)
+    → by' ≡ filled (settled by h.taking h.some) 16 by
     → Prepares s at n running by by' (record { going = going; senders = bit_and going active; mark = mark; on = going; done = 0; unwilling = 0 })
-prepares_by s at n running by by' stop active mark going unmarked wanted h es ea em eg eu ew eh eb =
+prepares_by s at n running by by' stop active mark going unmarked wanted h es ea em eg eu ew eh et eb =
     let g : going ≡ going_on s at running = eg ∙ ap (without running) es in
     let d : bit_and going active ≡ proposers_of s at n running = ap₂ bit_and g ea in
     let w : wanted ≡ unmarked_of s at n running = ew ∙ ap₂ (λ (x y : ℕ). cond (eqb x 0) 0 y) d (eu ∙ ap₂ without g em) in
     record {
-      changed = h.changed;
-      heard = subst₂ (λ (x y : ℕ). Members h.changed 32 (λ p. bit x p && some_value (heard_from s (at + 3 * n) n y by p).heard)) w d eh.0;
+      changed = h.some;
+      heard = subst₂ (λ (x y : ℕ). Members h.some 32 (λ p. bit x p && some_value (heard_from s (at + 3 * n) n y by p).heard)) w d eh;
       taking = h.taking;
-      sorted = subst₂ (λ (x y : ℕ). Sorted h.taking 32 x (λ p. (heard_from s (at + 3 * n) n y by p).least)) w d eh.1;
+      sorted = subst₂ (λ (x y : ℕ). Sorted h.taking 32 x (λ p. (heard_from s (at + 3 * n) n y by p).least)) w d et;
       took = eb;
       played = λ i. record { going = g i; senders = d i; mark = em i; on = g i; done = 0; unwilling = 0 };
     }

@@ -13,13 +13,13 @@ use lib.Seq.{get_or-set_same, get_or-set_other}
 use Rattle.basics.specs.Bits.{bit}
 use Rattle.basics.specs.Lists.{first}
 use Rattle.basics.proofs.Laws.{first-le}
-use Rattle.sets.specs.Sets.{Members, without}
+use Rattle.sets.specs.Sets.{Members}
 use Rattle.protocol.specs.declared.Heard.TheVariants.{Nothing, One, Several}
 use Rattle.playback.specs.declared.hearing.Values.{Values}
 use Rattle.playback.specs.Sets.{Sorted, heard_set, was_heard, values_of}
-use Rattle.sets.proofs.Members.{TakenOut, members-none, members-next, within-removed, Picked, picked_none, picked_more, picked_all}
+use Rattle.sets.proofs.Members.{TakenOut, members-next, within-removed, Picked, picked_none, picked_more, picked_all}
 use Rattle.playback.proofs.ByCrusher.{values_hit, values-none, first-from}
-use Rattle.playback.proofs.Radios.{heard_by_own, heard-sends, heard-fits}
+use Rattle.playback.proofs.Radios.{heard-sends, heard-fits}
 
 -- the trucks of `senders` that were taken already, sorted by crusher
 pub record Sorting (n senders : ℕ) (est : ℕ → ℕ) (values : List ℕ) (left : ℕ) : Type 0 where
@@ -71,10 +71,9 @@ module _ (n senders : ℕ) (est : ℕ → ℕ) where
   sorting-done s z c l = picked_all n senders (λ j. eqb (est j) c) (s.sorted c l) z
 
 -- what the truck at place p hears was sent, so a search for its least value may begin with the least that anybody sends
-pub sent-from : (by : List ℕ) (senders row p : ℕ) {own w low : ℕ} → senders < 2 ^ 32 → own ≡ 2 ^ p → w ≡ bit_or (without senders row) (bit_and senders own)
-    → low ≡ first (was_heard by senders) 16 → (low ≤ 16) × (first (was_heard by w) low ≡ low)
-sent-from by senders row p {own} {w} {low} fits q e l =
-    let o : w ≡ heard_set senders row p = heard_by_own senders row p own w e q in
+pub sent-from : (by : List ℕ) (senders row p : ℕ) {w low : ℕ} → senders < 2 ^ 32 → w ≡ heard_set senders row p → low ≡ first (was_heard by senders) 16
+    → (low ≤ 16) × (first (was_heard by w) low ≡ low)
+sent-from by senders row p {w} {low} fits o l =
     first-from by senders w low (rw o (heard-fits senders row p fits)) (λ j h. heard-sends senders row p j (sym (ap (λ (x : ℕ). bit x j) o) ∙ h)) l
 
 -- the least values that those wanted heard are sorted. The truck at place p is next, and w are those that it hears
@@ -105,14 +104,6 @@ pub record Sending (sends : ℕ → Bool) (est : ℕ → ℕ) (i senders : ℕ) 
   pub each : (c : ℕ) → c < 16 → Members (get_or values c 0) i (λ j. sends j && eqb (est j) c)
 
 module _ (sends : ℕ → Bool) (est : ℕ → ℕ) where
-  pub sending-starts : Sending sends est 0 0 (replicate 16 0)
-  sending-starts =
-      record {
-        long = refl;
-        all = members-none 0 sends (λ j l. absurd (omega arith));
-        each = λ c l. rw (get_or-replicate {A = ℕ} 16 c 0 0 l) (members-none 0 (λ j. sends j && eqb (est j) c) (λ j l. absurd (omega arith)));
-      }
-
   pub sending_more : {i senders : ℕ} {values : List ℕ} → Sending sends est i senders values → est i < 16 → (joins : Bool) → joins ≡ sends i
       → Sending sends est (suc i) (cond joins (bit_or senders (2 ^ i)) senders) (set values (est i) (cond joins (bit_or (get_or values (est i) 0) (2 ^ i)) (get_or values (est i) 0)))
   sending_more {i} {senders} {values} s small joins e =
@@ -132,10 +123,3 @@ module _ (sends : ℕ → Bool) (est : ℕ → ℕ) where
       go c lc (no d) =
           rw (get_or-set_other values (est i) c own 0 d)
           (members-next (s.each c lc) false (sym (ap (λ (b : Bool). sends i && b) (ne_eqb (est i) c (λ q. d (sym q))) ∙ and-false (sends i))))
-
-  pub sending-done : {n senders : ℕ} {values : List ℕ} → Sending sends est n senders values → Sorted values n senders est
-  sending-done s c lc =
-      record {
-        below = (s.each c lc).below;
-        each = λ j l. (s.each c lc).each j l ∙ ap (λ (b : Bool). b && eqb (est j) c) (sym (s.all.each j l));
-      }

@@ -1,10 +1,9 @@
 -- A run by sets in packed order: truck j stands at the bit worth 2 to the 31 - j.
-use Rattle.std.specs.Prelude.{ℕ, suc, ◌+◌, ◌*◌, ◌-◌, ◌<◌, ◌≤◌, ◌^◌, ◌≡◌, Bool, true, false, cond, not, ◌&&◌, List, [], eqb, ltb, length, get_or, replicate}
+use Rattle.std.specs.Prelude.{ℕ, suc, ◌+◌, ◌*◌, ◌-◌, ◌<◌, ◌≤◌, ◌^◌, ◌≡◌, Bool, true, false, cond, not, ◌&&◌, List, [], eqb, ltb, length, get_or, replicate, Ok}
 use Rattle.std.specs.Int.Bits.{bit_and, bit_or, bit_xor}
 use Rattle.basics.specs.Bits.{bit}
 use Rattle.basics.specs.Lists.{first, filled, some_below}
 use Rattle.radio.specs.Round.{active_bit}
-use Rattle.refusals.specs.declared.Outcome.TheVariants.{Accepted}
 use Rattle.bitreader.specs.Bits.{bit_at, num_at}
 use Rattle.recording.specs.Packed.{trucks_of, counts_of, opening_at, openings_into, openings_of, round_place, round_at}
 use Rattle.recording.specs.declared.Counts.{Counts}
@@ -22,7 +21,7 @@ use Rattle.protocol.specs.Runs.{opened_trucks, trucks_in}
 use Rattle.playback.specs.declared.replay.Proposed.{Proposed}
 use Rattle.playback.specs.declared.replay.Vetoed.{Vetoed}
 use Rattle.playback.specs.declared.replay.Sets.{Sets}
-use Rattle.playback.specs.declared.replay.Begun.{Begun}
+use Rattle.playback.specs.declared.replay.Tally.{Tally}
 use Rattle.playback.specs.declared.six.Played.{Played}
 use Rattle.sets.specs.Sets.{Members, without}
 use Rattle.counters.specs.Counters.{tally, in_use}
@@ -255,7 +254,7 @@ Fresh n k ends decided until = (j : ℕ) → j < n → holds (bit_and decided un
 
 -- the run of these rounds by the rules of a cycle stands so after k rounds, and the next of those left begins at a place
 pub record Due (c : Rules recorded) (rounds : ℕ → List ℕ) (s : List ℕ) (at n left k : ℕ) (by ends sent : List ℕ) (running decided marked one several unwilling until : ℕ) : Type 0 where
-  pub good : frame_check s ≡ Accepted
+  pub good : frame_check s ≡ Ok tt
   pub words : AsRecorded rounds s
   pub stands : Stands (trucks_of s) (k + left) k (opening_at s) (trucks_after c rounds s k) by ends sent running decided marked one several unwilling
   pub most : k + left ≤ 400
@@ -265,20 +264,24 @@ pub record Due (c : Rules recorded) (rounds : ℕ → List ℕ) (s : List ℕ) (
 
 -- where the run came to its end: all rounds are done, nobody runs any more, or one of `until` decided, in the round done last
 pub record Halted (c : Rules recorded) (rounds : ℕ → List ℕ) (s : List ℕ) (last : ℕ) (by ends sent : List ℕ) (until : ℕ) (r : Sets) : Type 0 where
-  pub good : frame_check s ≡ Accepted
+  pub good : frame_check s ≡ Ok tt
   pub stands : Stands (trucks_of s) last r.done (opening_at s) (trucks_after c rounds s r.done) by ends sent r.running r.decided r.marked r.one r.several r.unwilling
   pub most : r.done ≤ last
   pub over : (r.running ≡ 0 → ⊥) → bit_and r.decided until ≡ 0 → r.done ≡ last
   pub fresh : Fresh (trucks_of s) r.done ends r.decided until
+
+-- what is noted before a recording's openings are read
+abbrev pub zeros : Tally
+zeros = record { openings = replicate 32 0; by = replicate 16 0; ends = replicate 32 0; sent = replicate 8 0; found = replicate 4 0 }
 
 -- the set of the first n trucks
 abbrev pub all_of : ℕ → ℕ
 all_of n = (2 ^ n - 1) * 2 ^ (32 - n)
 
 -- a recording before round 1: the counts and the openings as they were read, all trucks, and those of each opening
-pub record Opens (s openings by : List ℕ) (r : Begun) : Type 0 where
-  pub counts : r.counts ≡ counts_of s
+pub record Opens (s openings by : List ℕ) (c : Counts) (all : ℕ) : Type 0 where
+  pub counts : c ≡ counts_of s
   pub read : openings ≡ openings_into s (replicate 32 0)
-  pub all : r.all ≡ all_of r.counts.trucks
-  pub sorted : Sorted by 32 r.all (λ p. get_or openings (31 - p) 0)
+  pub everyone : all ≡ all_of c.trucks
+  pub sorted : Sorted by 32 all (λ p. get_or openings (31 - p) 0)
   pub crushers : length by ≡ 16

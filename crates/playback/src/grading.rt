@@ -1,12 +1,12 @@
 // What the marks of a round are worth, by sets in packed order, and the first round that breaks each class.
-ghost use Rattle.std.specs.Prelude.{◌≡◌, true, cond, ◌&&◌, ◌<◌, ◌≤◌, ◌^◌, ◌*◌, eqb, leb, length};
+ghost use Rattle.std.specs.Prelude.{◌≡◌, true, cond, ◌&&◌, ◌<◌, ◌≤◌, ◌^◌, ◌*◌, eqb, leb};
 ghost use Rattle.std.specs.Int.Bits.{bit_or};
 ghost use Rattle.std.specs.Int.Count.{ones};
 ghost use Rattle.basics.specs.Bits.{bit};
 ghost use Rattle.sets.specs.Sets.{Members};
 ghost use Rattle.playback.specs.Grading.{heard_at, misses_some, misses_all, misses_half, carried, grades_of, Judges};
 
-use crate::hearing::heard_by;
+use crate::listening::heard_of;
 use crate::replay::listeners;
 use protocol::Grades;
 
@@ -51,14 +51,9 @@ fn missing(s: &[u8], at: usize, n: usize, senders: u32, wanted: u32) -> Missed
         all: 0,
         half: 0,
     };
-    let mut left = wanted;
-    while left != 0 {
-        let p = sets::lowest(left);
-        let own = sets::only_lowest(left);
-        let row = bitreader::read_at(s, at + (31 - p) * n, 32);
-        let heard = heard_by(senders, row, own);
-        m = with_truck(m, own, heard, senders, sent);
-        left = sets::rest(left);
+    for p in sets::members_of(wanted) {
+        let heard = heard_of(s, at, n, senders, p);
+        m = with_truck(m, sets::only(p), heard, senders, sent);
     }
     m
 }
@@ -69,19 +64,22 @@ fn where_open(asked: bool, set: u32) -> u32
     if asked { set } else { 0 }
 }
 
-// The first round that breaks a class, where round k is the next one looked at.
+// The first round that breaks a class, or 0 as `carried` says it, where round k is the next one looked at.
+#[tactic(auto, unfolding(crate::specs::Grading::carried))]
 fn carry(first: u16, ok: bool, k: u16) -> u16
     ensures { result ≡ carried first ok k }
 {
     if first != 0 {
-        return first;
+        first
+    } else if ok {
+        0
+    } else {
+        k
     }
-    if ok { 0 } else { k }
 }
 
-// The grades, by the four numbers in which a run keeps them.
+// The grades, by the four numbers in which a run keeps them: a list, as `grades_of` and `Judges` of specs/Grading speak of it.
 pub(crate) fn grades_of(found: &[u16; 4]) -> Grades
-    requires { length found.now ≡ 4 }
     ensures { result ≡ grades_of found.now }
 {
     Grades {
@@ -103,7 +101,7 @@ fn judged_into(
     senders: u32,
     mark: u32,
 )
-    requires { (n ≤ 32) × ((at < 2 ^ 32) × (length found.old ≡ 4)) }
+    requires { (n ≤ 32) × (at < 2 ^ 32) }
     ensures { Judges true s.now at n k going senders mark found.old found.new }
 {
     let first = where_open(
@@ -118,9 +116,9 @@ fn judged_into(
     found[3] = carry(found[3], sets::without(going & mark, m.some) == 0, k);
 }
 
-// The grades with a proposal round or a round of the six-round cycle too, where they are asked for. Veto rounds have a function of their own, so that
-// `judged_into` has two callers and stays a call: built into one function for all rounds, it would make that a call in every round, asked for or not.
-pub(crate) fn judged_proposing(
+// The grades with a round too, where they are asked for. Veto rounds have an instance of their own, so that `judged_into` has two callers and stays a call: built
+// into one function for all rounds, it would make that a call in every round, asked for or not.
+pub(crate) fn judged<const VETO: bool>(
     judging: bool,
     found: &mut [u16; 4],
     s: &[u8],
@@ -131,30 +129,10 @@ pub(crate) fn judged_proposing(
     senders: u32,
     mark: u32,
 )
-    requires { (n ≤ 32) × ((at < 2 ^ 32) × (length found.old ≡ 4)) }
+    requires { (n ≤ 32) × (at < 2 ^ 32) }
     ensures { Judges judging s.now at n k going senders mark found.old found.new }
 {
     if judging {
         judged_into(found, s, at, n, k, going, senders, mark);
-    }
-}
-
-// The grades with a veto round too, where they are asked for.
-pub(crate) fn judged_vetoing(
-    judging: bool,
-    found: &mut [u16; 4],
-    s: &[u8],
-    at: usize,
-    n: usize,
-    k: u16,
-    going: u32,
-    vetoers: u32,
-    mark: u32,
-)
-    requires { (n ≤ 32) × ((at < 2 ^ 32) × (length found.old ≡ 4)) }
-    ensures { Judges judging s.now at n k going vetoers mark found.old found.new }
-{
-    if judging {
-        judged_into(found, s, at, n, k, going, vetoers, mark);
     }
 }

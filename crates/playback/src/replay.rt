@@ -1,25 +1,32 @@
 // A recording run from its bytes by sets in packed order, truck j at the bit worth 2 to the 31 - j: proposal rounds and veto rounds hand on
 // to each other, each with one round fewer left. The rounds of the six-round cycle are in six.rt.
-ghost use Rattle.std.specs.Prelude.{◌≡◌, false, true, cond, ◌+◌, ◌-◌, ◌<◌, ◌≤◌, ◌^◌, ℕ, eqb, length, get_or, replicate};
+ghost use Rattle.std.specs.Prelude.{◌≡◌, false, true, cond, ◌+◌, ◌-◌, ◌<◌, ◌≤◌, ◌^◌, ℕ, eqb, length, get_or, replicate, Ok};
 ghost use Rattle.basics.specs.Bits.{odd};
 ghost use Rattle.basics.specs.Lists.{filled};
-ghost use Rattle.refusals.specs.declared.Outcome.TheVariants.{Accepted};
 ghost use Rattle.recording.specs.Packed.{rounds_of, round_at};
 ghost use Rattle.recording.specs.Checks.{frame_check};
 ghost use Rattle.protocol.specs.declared.Heard.TheVariants.{Nothing};
 ghost use Rattle.recordbytes.specs.Layout.{size_for, record_byte};
 ghost use Rattle.protocol.specs.Rules.{two_rules};
 ghost use Rattle.protocol.specs.Fleets.{chosen};
+ghost use Rattle.counters.specs.Counters.{in_use};
 ghost use Rattle.playback.specs.Sets.{Sorted};
 ghost use Rattle.playback.specs.Replays.{fleet_after, grades_after, FoundAfter};
-ghost use Rattle.playback.specs.Standing.{word_from, state_of, memory_of, sent_by, truck_of, fleet_by, unread_of, Proposes, Vetoes, noted, Due, Halted, all_of, Opens};
+ghost use Rattle.playback.specs.Standing.{zeros, word_from, state_of, memory_of, sent_by, truck_of, built_by, fleet_by, unread_of, Proposes, Vetoes, noted, Due, Halted, all_of, Opens};
 
-use crate::grading::{grades_of, judged_proposing, judged_vetoing};
+use crate::grading::{grades_of, judged};
 use crate::hearing::first_heard;
 use crate::listening::{hear, hearing_some, settle};
 use crate::six::six_rounds;
 use protocol::{Cycle, Fleet, Grades, Heard, Sent, State, Truck};
 use recording::Counts;
+
+// A recording whose frame is good. The rounds below take its bytes alone: a reference to a struct of a reference is one step more for each row.
+#[derive(Clone, Copy)]
+pub(crate) struct Frame<'a> {
+    pub(crate) bytes: &'a [u8],
+    ghost good: { frame_check bytes.now ≡ Ok tt },
+}
 
 // Those that go on after a proposal round's stops, its senders and marks, and who heard one value and who several.
 #[derive(Clone, Copy)]
@@ -53,30 +60,39 @@ pub struct Sets {
     pub done: u16,
 }
 
-// The header's counts, and the set of all trucks.
+// What a run notes beside the sets: the trucks' openings, the trucks of each crusher, the round in which each truck ended, the digits of what was sent, and the
+// grades so far. A run makes one and lends it on, so that nothing of it is copied. (An array for each thing and not one of trucks: a round goes by sets, and writes few
+// of them.)
 #[derive(Clone, Copy)]
-pub struct Begun {
-    pub counts: Counts,
-    pub all: u32,
+pub struct Tally {
+    pub openings: [u8; 32],
+    pub by: [u32; 16],
+    pub ends: [u16; 32],
+    pub sent: [u64; 8],
+    pub found: [u16; 4],
 }
 
-// What a run has come to.
-#[derive(Clone, Copy)]
-pub struct Course {
-    pub counts: Counts,
-    pub sets: Sets,
+impl Tally {
+    // Before round 1, with no opening read yet.
+    fn new() -> Tally
+        ensures { result ≡ zeros }
+    {
+        Tally {
+            openings: [0; 32],
+            by: [0; 16],
+            ends: [0; 32],
+            sent: [0; 8],
+            found: [0; 4],
+        }
+    }
 }
 
 // Those of a set came to their end in round k.
 pub(crate) fn ended(ends: &mut [u16; 32], who: u32, k: u16)
-    requires { length ends.old ≡ 32 }
     ensures { ends.new ≡ filled (noted ends.old who k) 32 ends.old }
 {
-    let mut left = who;
-    while left != 0 {
-        let p = sets::lowest(left);
+    for p in sets::members_of(who) {
         ends[31 - p] = k;
-        left = sets::rest(left);
     }
 }
 
@@ -96,7 +112,7 @@ pub(crate) fn listeners(senders: u32, wanted: u32) -> u32
 
 // The proposal round at a place.
 fn propose(s: &[u8], at: usize, n: usize, left: u16, running: u32, by: &mut [u32; 16]) -> Proposed
-    requires { (n ≤ 32) × ((at < 2 ^ 31) × (length by.old ≡ 16)) }
+    requires { (n ≤ 32) × (at < 2 ^ 31) }
     ensures { Proposes s.now at n left running (word_from s.now (at + n)) by.old by.new result }
 {
     let stop = bitreader::read_at(s, at, 32);
@@ -105,14 +121,14 @@ fn propose(s: &[u8], at: usize, n: usize, left: u16, running: u32, by: &mut [u32
     let going = sets::without(running, stop);
     let senders = going & active;
     let wanted = listeners(senders, sets::without(going, unread(left, mark)));
-    let h = hear(s, at + 3 * n, n, senders, wanted, by);
-    settle(by, &h.taking, sets::without(h.one | h.several, mark));
+    let h = hear::<true>(s, at + 3 * n, n, senders, wanted, by);
+    settle(by, &h.taking, sets::without(h.some, mark));
     Proposed {
         going,
         senders,
         mark,
         one: h.one,
-        several: h.several,
+        several: h.some ^ h.one,
     }
 }
 
@@ -126,7 +142,7 @@ fn veto(s: &[u8], at: usize, n: usize, running: u32, marked: u32, one: u32, seve
     let going = sets::without(running, stop);
     let senders = going & (marked | several);
     let may = sets::without(going & one, mark | marked);
-    // Nobody hears where nobody sends. The loop has callers in both cycles, so that the compiler does not build it into a round, and each call costs.
+    // Nobody hears where nobody sends, and no row is read there.
     let some = if (senders == 0) | (may == 0) {
         0
     } else {
@@ -143,7 +159,8 @@ fn veto(s: &[u8], at: usize, n: usize, running: u32, marked: u32, one: u32, seve
 }
 
 // A proposal round and those after it. Here and in `vetoes` judging stands last, right before the next round: it is a call only where grades are asked for, and
-// at that place fewer values have to be kept over it.
+// at that place fewer values have to be kept over it. The sets go from round to round one by one and not as a struct, so that they stay in registers. `judging` is a
+// flag and no const parameter: that would be a second pair of these functions in the archive.
 #[cycle(proposals_vetoes)]
 fn proposals(
     s: &[u8],
@@ -151,19 +168,16 @@ fn proposals(
     n: usize,
     left: u16,
     k: u16,
-    by: &mut [u32; 16],
-    ends: &mut [u16; 32],
-    sent: &mut [u64; 8],
-    found: &mut [u16; 4],
+    t: &mut Tally,
     running: u32,
     decided: u32,
     until: u32,
     judging: bool,
 ) -> Sets
-    requires { Due two_rules (round_at s.now) s.now at n left k by.old ends.old sent.old running decided 0 0 0 0 until
-        × ((odd k ≡ false) × FoundAfter two_rules (round_at s.now) s.now judging k found.old) }
-    ensures { Halted two_rules (round_at s.now) s.now (k + left) by.new ends.new sent.new until result
-        × FoundAfter two_rules (round_at s.now) s.now judging result.done found.new }
+    requires { Due two_rules (round_at s.now) s.now at n left k t.old.by t.old.ends t.old.sent running decided 0 0 0 0 until
+        × ((odd k ≡ false) × FoundAfter two_rules (round_at s.now) s.now judging k t.old.found) }
+    ensures { Halted two_rules (round_at s.now) s.now (k + left) t.new.by t.new.ends t.new.sent until result
+        × (FoundAfter two_rules (round_at s.now) s.now judging result.done t.new.found × (t.new.openings ≡ t.old.openings)) }
 {
     if (left == 0) | (running == 0) | (decided & until != 0) {
         return Sets {
@@ -176,12 +190,12 @@ fn proposals(
             done: k,
         };
     }
-    let q = propose(s, at, n, left, running, by);
-    ended(ends, sets::without(running, q.going), k + 1);
-    counters::count_up(sent, q.senders as u64);
-    judged_proposing(
+    let q = propose(s, at, n, left, running, &mut t.by);
+    ended(&mut t.ends, sets::without(running, q.going), k + 1);
+    counters::count_up(&mut t.sent, q.senders as u64);
+    judged::<false>(
         judging,
-        found,
+        &mut t.found,
         s,
         at + 3 * n,
         n,
@@ -196,10 +210,7 @@ fn proposals(
         n,
         left - 1,
         k + 1,
-        by,
-        ends,
-        sent,
-        found,
+        t,
         q.going,
         decided,
         q.mark,
@@ -218,10 +229,7 @@ fn vetoes(
     n: usize,
     left: u16,
     k: u16,
-    by: &mut [u32; 16],
-    ends: &mut [u16; 32],
-    sent: &mut [u64; 8],
-    found: &mut [u16; 4],
+    t: &mut Tally,
     running: u32,
     decided: u32,
     marked: u32,
@@ -230,10 +238,10 @@ fn vetoes(
     until: u32,
     judging: bool,
 ) -> Sets
-    requires { Due two_rules (round_at s.now) s.now at n left k by.old ends.old sent.old running decided marked one several 0 until
-        × ((odd k ≡ true) × FoundAfter two_rules (round_at s.now) s.now judging k found.old) }
-    ensures { Halted two_rules (round_at s.now) s.now (k + left) by.new ends.new sent.new until result
-        × FoundAfter two_rules (round_at s.now) s.now judging result.done found.new }
+    requires { Due two_rules (round_at s.now) s.now at n left k t.old.by t.old.ends t.old.sent running decided marked one several 0 until
+        × ((odd k ≡ true) × FoundAfter two_rules (round_at s.now) s.now judging k t.old.found) }
+    ensures { Halted two_rules (round_at s.now) s.now (k + left) t.new.by t.new.ends t.new.sent until result
+        × (FoundAfter two_rules (round_at s.now) s.now judging result.done t.new.found × (t.new.openings ≡ t.old.openings)) }
 {
     if (left == 0) | (running == 0) | (decided & until != 0) {
         return Sets {
@@ -247,11 +255,11 @@ fn vetoes(
         };
     }
     let q = veto(s, at, n, running, marked, one, several);
-    ended(ends, sets::without(running, q.on), k + 1);
-    counters::count_up(sent, (q.senders as u64) << 32);
-    judged_vetoing(
+    ended(&mut t.ends, sets::without(running, q.on), k + 1);
+    counters::count_up(&mut t.sent, (q.senders as u64) << 32);
+    judged::<true>(
         judging,
-        found,
+        &mut t.found,
         s,
         at + 3 * n,
         n,
@@ -266,10 +274,7 @@ fn vetoes(
         n,
         left - 1,
         k + 1,
-        by,
-        ends,
-        sent,
-        found,
+        t,
         q.on,
         decided | q.done,
         until,
@@ -280,28 +285,21 @@ fn vetoes(
 fn state_of(running: bool, decided: bool, end: u16) -> State
     ensures { result ≡ state_of running decided end }
 {
-    if running {
-        return State::Running;
+    match (running, decided) {
+        (true, _) => State::Running,
+        (false, true) => State::Decided(end),
+        (false, false) => State::Stopped(end),
     }
-    if decided {
-        return State::Decided(end);
-    }
-    State::Stopped(end)
 }
 
 fn heard_of(running: bool, one: bool, several: bool) -> Heard
     ensures { result ≡ cond running (memory_of one several) Nothing }
 {
-    if !running {
-        return Heard::Nothing;
+    match (running, one, several) {
+        (true, true, _) => Heard::One,
+        (true, false, true) => Heard::Several,
+        _ => Heard::Nothing,
     }
-    if one {
-        return Heard::One;
-    }
-    if several {
-        return Heard::Several;
-    }
-    Heard::Nothing
 }
 
 // How many proposals and vetoes the truck at place p sent, by the first m words of the counts. Proposals are counted at its place and vetoes 32 places further,
@@ -310,11 +308,10 @@ fn sent_at(words: &[u64; 8], m: usize, p: usize) -> Sent
     requires { (m ≤ 8) × (p < 32) }
     ensures { result ≡ sent_by words.now m p }
 {
+    let used = &words[..m];
     let mut both = 0u64;
-    let mut i = 0;
-    while i < m {
-        both = both + (((words[i] >> p) & 4294967297) << i);
-        i += 1;
+    for (i, word) in used.iter().enumerate() {
+        both += ((word >> p) & 4294967297) << i;
     }
     Sent {
         proposals: (both % 4294967296) as u8,
@@ -341,91 +338,70 @@ fn truck_of(b: Sets, e: usize, opening: u8, end: u16, sent: Sent, p: usize) -> T
     }
 }
 
+// Truck i, where m words of the counts are in use. As a call, for its two callers, it makes a run of 32 trucks and 20 rounds a tenth longer.
+#[inline(always)]
+fn truck_at(b: Sets, t: &Tally, m: usize, i: usize) -> Truck
+    requires { (m ≡ in_use t.now.sent 8) × (i < 32) }
+    ensures { result ≡ built_by t.now.openings b t.now.by t.now.ends t.now.sent i }
+{
+    let p = 31 - i;
+    truck_of(
+        b,
+        first_heard(&t.by, sets::only(p), 0),
+        t.openings[i],
+        t.ends[i],
+        sent_at(&t.sent, m, p),
+        p,
+    )
+}
+
 // The record of a run that has come to its end, with all rounds done.
-fn fleet_of(
-    c: Counts,
-    openings: &[u8; 32],
-    b: Sets,
-    by: &[u32; 16],
-    ends: &[u16; 32],
-    sent: &[u64; 8],
-) -> Fleet
-    requires { c.trucks ≤ 32 }
-    ensures { result ≡ fleet_by c openings.now b by.now ends.now sent.now }
+fn fleet_of(counts: Counts, b: Sets, t: &Tally) -> Fleet
+    requires { counts.trucks ≤ 32 }
+    ensures { result ≡ fleet_by counts t.now.openings b t.now.by t.now.ends t.now.sent }
 {
     let none = fleetrecord::blank();
     let mut trucks = none.trucks;
-    let n = c.trucks as usize;
-    let m = counters::in_use(sent);
-    let mut i = 0;
-    while i < n {
-        trucks[i] = truck_of(
-            b,
-            first_heard(by, sets::only(31 - i), 0),
-            openings[i],
-            ends[i],
-            sent_at(sent, m, 31 - i),
-            31 - i,
-        );
-        i += 1;
+    let m = counters::in_use(&t.sent);
+    for i in 0..fleetrecord::places(counts.trucks) {
+        trucks[i] = truck_at(b, t, m, i);
     }
     Fleet {
-        n: c.trucks,
-        done: c.rounds,
+        n: counts.trucks,
+        done: counts.rounds,
         trucks,
     }
 }
 
 // The same record put into bytes, all 32 places.
-fn put_fleet(
-    c: Counts,
-    openings: &[u8; 32],
-    b: Sets,
-    by: &[u32; 16],
-    ends: &[u16; 32],
-    sent: &[u64; 8],
-    d: &mut [u8],
-)
-    requires { (c.trucks ≤ 32) × (size_for 32 ≤ length d.old) }
+fn put_fleet(counts: Counts, b: Sets, t: &Tally, d: &mut [u8])
+    requires { (counts.trucks ≤ 32) × (size_for 32 ≤ length d.old) }
     ensures { d.new
-        ≡ filled (record_byte (fleet_by c openings.now b by.now ends.now sent.now)) (size_for 32) d.old }
+        ≡ filled (record_byte (fleet_by counts t.now.openings b t.now.by t.now.ends t.now.sent)) (size_for 32) d.old }
 {
-    d[0] = c.trucks;
-    d[1] = (c.rounds % 256) as u8;
-    d[2] = (c.rounds / 256) as u8;
-    let n = c.trucks as usize;
-    let m = counters::in_use(sent);
-    let mut i = 0;
-    while i < n {
-        let t = truck_of(
-            b,
-            first_heard(by, sets::only(31 - i), 0),
-            openings[i],
-            ends[i],
-            sent_at(sent, m, 31 - i),
-            31 - i,
-        );
-        recordbytes::put_in(d, i, t);
-        i += 1;
+    d[0] = counts.trucks;
+    d[1] = (counts.rounds % 256) as u8;
+    d[2] = (counts.rounds / 256) as u8;
+    let n = fleetrecord::places(counts.trucks);
+    let m = counters::in_use(&t.sent);
+    for i in 0..n {
+        let truck = truck_at(b, t, m, i);
+        recordbytes::put_in(d, i, truck);
     }
-    while i < 32 {
-        let t = fleetrecord::opened(0);
-        recordbytes::put_in(d, i, t);
-        i += 1;
+    for i in n..32 {
+        let truck = fleetrecord::opened(0);
+        recordbytes::put_in(d, i, truck);
     }
 }
 
 // The trucks of each opening.
 fn openers(openings: &[u8; 32], all: u32, by: &mut [u32; 16])
     requires { ((i : ℕ) → get_or openings.now i 0 < 16) × (by.old ≡ replicate 16 0) }
-    ensures { Sorted by.new 32 all (λ p. get_or openings.now (31 - p) 0) × (length by.new ≡ 16) }
+    ensures { Sorted by.new 32 all (λ p. get_or openings.now (31 - p) 0) }
 {
-    let mut left = all;
-    while left != 0 {
-        let p = sets::lowest(left);
+    for p in sets::members_of(all) {
         let c = openings[31 - p] as usize;
-        by[c] = by[c] | sets::only(p);
-        left = sets::rest(left);
+        by[c] |= sets::only(p);
     }
 }
 
@@ -444,144 +420,80 @@ fn rounds_in(
     at: usize,
     n: usize,
     rounds: u16,
-    by: &mut [u32; 16],
-    ends: &mut [u16; 32],
-    sent: &mut [u64; 8],
-    found: &mut [u16; 4],
+    t: &mut Tally,
     all: u32,
     judging: bool,
 ) -> Sets
-    requires { Due (chosen cycle).rules (round_at s.now) s.now at n rounds 0 by.old ends.old sent.old all 0 0 0 0 0 0
-        × ((sent.old ≡ replicate 8 0) × (found.old ≡ replicate 4 0)) }
-    ensures { Halted (chosen cycle).rules (round_at s.now) s.now rounds by.new ends.new sent.new 0 result
-        × FoundAfter (chosen cycle).rules (round_at s.now) s.now judging result.done found.new }
+    requires { Due (chosen cycle).rules (round_at s.now) s.now at n rounds 0 t.old.by t.old.ends t.old.sent all 0 0 0 0 0 0
+        × ((t.old.sent ≡ replicate 8 0) × (t.old.found ≡ replicate 4 0)) }
+    ensures { Halted (chosen cycle).rules (round_at s.now) s.now rounds t.new.by t.new.ends t.new.sent 0 result
+        × (FoundAfter (chosen cycle).rules (round_at s.now) s.now judging result.done t.new.found × (t.new.openings ≡ t.old.openings)) }
 {
     match cycle {
-        Cycle::TwoRound => {
-            proposals(
-                s, at, n, rounds, 0, by, ends, sent, found, all, 0, 0, judging,
-            )
-        }
-        Cycle::SixRound => six_rounds(s, at, n, rounds, by, ends, found, all, judging),
+        Cycle::TwoRound => proposals(s, at, n, rounds, 0, t, all, 0, 0, judging),
+        Cycle::SixRound => six_rounds(s, at, n, rounds, t, all, judging),
     }
 }
 
-// A recording before round 1: its openings are read, and the trucks of each opening put together.
-fn begin(s: &[u8], openings: &mut [u8; 32], by: &mut [u32; 16]) -> Begun
-    requires { (frame_check s.now ≡ Accepted) × (openings.old ≡ replicate 32 0) × (by.old ≡ replicate 16 0) }
-    ensures { Opens s.now openings.new by.new result }
+// A recording before round 1, by its header's counts and the set of all trucks: its openings are read, and the trucks of each opening put together.
+fn begin(frame: &Frame, openings: &mut [u8; 32], by: &mut [u32; 16]) -> (Counts, u32)
+    requires { (openings.old ≡ replicate 32 0) × (by.old ≡ replicate 16 0) }
+    ensures { Opens frame.now.bytes.now openings.new by.new result.0 result.1 }
 {
-    let c = recording::read_front(s, openings);
-    let all = everyone(c.trucks as usize);
+    let counts = recording::read_front(frame.bytes, openings);
+    let all = everyone(counts.trucks as usize);
     openers(openings, all, by);
-    Begun { counts: c, all }
+    (counts, all)
 }
 
-// All rounds of a recording whose frame is good, in arrays that are lent as zeros.
-fn play(
-    cycle: Cycle,
-    s: &[u8],
-    openings: &mut [u8; 32],
-    by: &mut [u32; 16],
-    ends: &mut [u16; 32],
-    sent: &mut [u64; 8],
-    found: &mut [u16; 4],
-    judging: bool,
-) -> Course
-    requires { (frame_check s.now ≡ Accepted) × (openings.old ≡ replicate 32 0) × (by.old ≡ replicate 16 0) × (ends.old ≡ replicate 32 0) × (sent.old ≡ replicate 8 0)
-        × (found.old ≡ replicate 4 0) }
-    ensures few { result.counts.trucks ≤ 32 }
-    ensures fleet { fleet_by result.counts openings.new result.sets by.new ends.new sent.new
-        ≡ fleet_after (chosen cycle) (round_at s.now) s.now (rounds_of s.now) }
-    ensures grades { FoundAfter (chosen cycle).rules (round_at s.now) s.now judging (rounds_of s.now) found.new }
+// All rounds of a recording.
+fn play(cycle: Cycle, frame: &Frame, t: &mut Tally, judging: bool) -> (Counts, Sets)
+    requires { t.old ≡ zeros }
+    ensures few { result.0.trucks ≤ 32 }
+    ensures fleet { fleet_by result.0 t.new.openings result.1 t.new.by t.new.ends t.new.sent
+        ≡ fleet_after (chosen cycle) (round_at frame.now.bytes.now) frame.now.bytes.now (rounds_of frame.now.bytes.now) }
+    ensures grades { FoundAfter (chosen cycle).rules (round_at frame.now.bytes.now) frame.now.bytes.now judging (rounds_of frame.now.bytes.now) t.new.found }
 {
-    let g = begin(s, openings, by);
-    let c = g.counts;
-    let b = rounds_in(
+    let (counts, all) = begin(frame, &mut t.openings, &mut t.by);
+    let sets = rounds_in(
         cycle,
-        s,
-        recording::word_place(c.trucks, 0),
-        c.trucks as usize,
-        c.rounds,
-        by,
-        ends,
-        sent,
-        found,
-        g.all,
+        frame.bytes,
+        recording::word_place(counts.trucks, 0),
+        counts.trucks as usize,
+        counts.rounds,
+        t,
+        all,
         judging,
     );
-    Course { counts: c, sets: b }
+    (counts, sets)
 }
 
 // The record after all rounds.
-pub(crate) fn ran(cycle: Cycle, s: &[u8]) -> Fleet
-    requires { frame_check s.now ≡ Accepted }
-    ensures { result ≡ fleet_after (chosen cycle) (round_at s.now) s.now (rounds_of s.now) }
+pub(crate) fn ran(cycle: Cycle, frame: &Frame) -> Fleet
+    ensures { result ≡ fleet_after (chosen cycle) (round_at frame.now.bytes.now) frame.now.bytes.now (rounds_of frame.now.bytes.now) }
 {
-    let mut openings = [0u8; 32];
-    let mut by = [0u32; 16];
-    let mut ends = [0u16; 32];
-    let mut sent = [0u64; 8];
-    let mut found = [0u16; 4];
-    let q = play(
-        cycle,
-        s,
-        &mut openings,
-        &mut by,
-        &mut ends,
-        &mut sent,
-        &mut found,
-        false,
-    );
-    let c = q.counts;
-    let b = q.sets;
-    fleet_of(c, &openings, b, &by, &ends, &sent)
+    let mut t = Tally::new();
+    let (counts, sets) = play(cycle, frame, &mut t, false);
+    fleet_of(counts, sets, &t)
 }
 
 // The same, put into bytes that have room for it: no record is built, which is much of what a run of few trucks and rounds takes.
-pub(crate) fn run_into(cycle: Cycle, s: &[u8], d: &mut [u8])
-    requires { (frame_check s.now ≡ Accepted) × (size_for 32 ≤ length d.old) }
-    ensures { d.new ≡ filled (record_byte (fleet_after (chosen cycle) (round_at s.now) s.now (rounds_of s.now))) (size_for 32) d.old }
+pub(crate) fn run_into(cycle: Cycle, frame: &Frame, d: &mut [u8])
+    requires { size_for 32 ≤ length d.old }
+    ensures { d.new
+        ≡ filled (record_byte (fleet_after (chosen cycle) (round_at frame.now.bytes.now) frame.now.bytes.now (rounds_of frame.now.bytes.now)))
+        (size_for 32) d.old }
 {
-    let mut openings = [0u8; 32];
-    let mut by = [0u32; 16];
-    let mut ends = [0u16; 32];
-    let mut sent = [0u64; 8];
-    let mut found = [0u16; 4];
-    let q = play(
-        cycle,
-        s,
-        &mut openings,
-        &mut by,
-        &mut ends,
-        &mut sent,
-        &mut found,
-        false,
-    );
-    let c = q.counts;
-    let b = q.sets;
-    put_fleet(c, &openings, b, &by, &ends, &sent, d);
+    let mut t = Tally::new();
+    let (counts, sets) = play(cycle, frame, &mut t, false);
+    put_fleet(counts, sets, &t, d);
 }
 
 // The grades of all rounds.
-pub(crate) fn graded(cycle: Cycle, s: &[u8]) -> Grades
-    requires { frame_check s.now ≡ Accepted }
-    ensures { result ≡ grades_after (chosen cycle).rules (round_at s.now) s.now true (rounds_of s.now) }
+pub(crate) fn graded(cycle: Cycle, frame: &Frame) -> Grades
+    ensures { result ≡ grades_after (chosen cycle).rules (round_at frame.now.bytes.now) frame.now.bytes.now true (rounds_of frame.now.bytes.now) }
 {
-    let mut openings = [0u8; 32];
-    let mut by = [0u32; 16];
-    let mut ends = [0u16; 32];
-    let mut sent = [0u64; 8];
-    let mut found = [0u16; 4];
-    play(
-        cycle,
-        s,
-        &mut openings,
-        &mut by,
-        &mut ends,
-        &mut sent,
-        &mut found,
-        true,
-    );
-    grades_of(&found)
+    let mut t = Tally::new();
+    play(cycle, frame, &mut t, true);
+    grades_of(&t.found)
 }

@@ -1,15 +1,15 @@
 // The rounds of the six-round cycle by sets in packed order, truck j at the bit worth 2 to the 31 - j. The senders of a bit round are the trucks of the crushers
 // that have its bit.
-ghost use Rattle.std.specs.Prelude.{◌≡◌, ℕ, ◌<◌, ◌≤◌, ◌^◌, length, replicate};
+ghost use Rattle.std.specs.Prelude.{◌≡◌, ℕ, ◌<◌, ◌≤◌, ◌^◌};
 ghost use Rattle.basics.specs.Bits.{bit};
 ghost use Rattle.protocol.specs.Six.{six_rules};
 ghost use Rattle.recording.specs.Packed.{round_at};
 ghost use Rattle.playback.specs.Replays.{FoundAfter};
 ghost use Rattle.playback.specs.Standing.{with_bit, Prepares, Listens, Accepts, SixPlays, Due, Halted};
 
-use crate::grading::judged_proposing;
-use crate::listening::{hearing_some, least_heard, settle};
-use crate::replay::{Sets, ended, listeners};
+use crate::grading::judged;
+use crate::listening::{hear, hearing_some, settle};
+use crate::replay::{Sets, Tally, ended, listeners};
 
 // Those that go on after a round's stops, its senders and marks, those that run on after it, those that decided in it, and those that are unwilling then.
 #[derive(Clone, Copy)]
@@ -28,17 +28,15 @@ fn with_bit(by: &[u32; 16], b: usize) -> u32
     ensures { (p : ℕ) → p < 32 → bit result p ≡ with_bit by.now b p }
 {
     let mut out = 0;
-    let mut c = 0;
-    while c < 16 {
-        out = sets::union_where(out, by[c], (c >> b) % 2 == 1);
-        c += 1;
+    for (c, trucks) in by.iter().enumerate() {
+        out = sets::union_where(out, *trucks, (c >> b) % 2 == 1);
     }
     out
 }
 
 // Prepare at a place.
 fn prepare(s: &[u8], at: usize, n: usize, running: u32, by: &mut [u32; 16]) -> Played
-    requires { (n ≤ 32) × ((at < 2 ^ 31) × (length by.old ≡ 16)) }
+    requires { (n ≤ 32) × (at < 2 ^ 31) }
     ensures { Prepares s.now at n running by.old by.new result }
 {
     let stop = bitreader::read_at(s, at, 32);
@@ -47,8 +45,8 @@ fn prepare(s: &[u8], at: usize, n: usize, running: u32, by: &mut [u32; 16]) -> P
     let going = sets::without(running, stop);
     let senders = going & active;
     let wanted = listeners(senders, sets::without(going, mark));
-    let h = least_heard(s, at + 3 * n, n, senders, wanted, by);
-    settle(by, &h.taking, h.changed);
+    let h = hear::<false>(s, at + 3 * n, n, senders, wanted, by);
+    settle(by, &h.taking, h.some);
     Played {
         going,
         senders,
@@ -121,34 +119,30 @@ fn six_round(
     unwilling: u32,
     by: &mut [u32; 16],
 ) -> Played
-    requires { (n ≤ 32) × ((at < 2 ^ 31) × ((d < 6) × (length by.old ≡ 16))) }
+    requires { (n ≤ 32) × ((at < 2 ^ 31) × (d < 6)) }
     ensures { SixPlays s.now at n d running unwilling by.old by.new result }
 {
-    if d == 0 {
-        return prepare(s, at, n, running, by);
+    match d {
+        0 => prepare(s, at, n, running, by),
+        5 => accept(s, at, n, running, unwilling),
+        _ => bit_round(s, at, n, (4 - d) as usize, running, unwilling, by),
     }
-    if d == 5 {
-        return accept(s, at, n, running, unwilling);
-    }
-    bit_round(s, at, n, (4 - d) as usize, running, unwilling, by)
 }
 
-// All rounds from the first on, until nobody runs.
+// All rounds from the first on, until nobody runs. A `while`, since the number of rounds done by then is part of the answer.
 pub(crate) fn six_rounds(
     s: &[u8],
     first: usize,
     n: usize,
     rounds: u16,
-    by: &mut [u32; 16],
-    ends: &mut [u16; 32],
-    found: &mut [u16; 4],
+    t: &mut Tally,
     all: u32,
     judging: bool,
 ) -> Sets
-    requires { Due six_rules (round_at s.now) s.now first n rounds 0 by.old ends.old (replicate 8 0) all 0 0 0 0 0 0
-        × FoundAfter six_rules (round_at s.now) s.now judging 0 found.old }
-    ensures { Halted six_rules (round_at s.now) s.now rounds by.new ends.new (replicate 8 0) 0 result
-        × FoundAfter six_rules (round_at s.now) s.now judging result.done found.new }
+    requires { Due six_rules (round_at s.now) s.now first n rounds 0 t.old.by t.old.ends t.old.sent all 0 0 0 0 0 0
+        × FoundAfter six_rules (round_at s.now) s.now judging 0 t.old.found }
+    ensures { Halted six_rules (round_at s.now) s.now rounds t.new.by t.new.ends t.new.sent 0 result
+        × (FoundAfter six_rules (round_at s.now) s.now judging result.done t.new.found × (t.new.openings ≡ t.old.openings)) }
 {
     let mut at = first;
     let mut k = 0u16;
@@ -156,10 +150,10 @@ pub(crate) fn six_rounds(
     let mut decided = 0;
     let mut unwilling = 0;
     while (k < rounds) & (running != 0) {
-        let q = six_round(s, at, n, k % 6, running, unwilling, by);
-        judged_proposing(
+        let q = six_round(s, at, n, k % 6, running, unwilling, &mut t.by);
+        judged::<false>(
             judging,
-            found,
+            &mut t.found,
             s,
             at + 3 * n,
             n,
@@ -168,7 +162,7 @@ pub(crate) fn six_rounds(
             q.senders,
             q.mark,
         );
-        ended(ends, sets::without(running, q.on), k + 1);
+        ended(&mut t.ends, sets::without(running, q.on), k + 1);
         running = q.on;
         decided = decided | q.done;
         unwilling = q.unwilling;

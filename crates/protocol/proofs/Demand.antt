@@ -5,8 +5,8 @@ use mathlib.Core.Logic.{◌⊎◌}
 use Prim.Native.Nat.{ℕ, ◌+◌, ◌≤◌}
 use native.Mathlib.Omega.{arith}
 use lib.ListN.{length}
+use Rattle.std.specs.Prelude.{Ok}
 use Rattle.radio.proofs.Laws.{CalmRounds, calm_parts}
-use Rattle.refusals.specs.declared.Outcome.TheVariants.{Accepted}
 use Rattle.recording.specs.Packed.{trucks_of, rounds_of, openings_of, round_at}
 use Rattle.recording.specs.Checks.{check_of}
 use Rattle.recording.proofs.Accepted.{GoodOpenings, openings_in, bytes_good}
@@ -45,7 +45,7 @@ pub record Facts (p : Protocol) : Type 0 where
       → EndedIn recorded n (trucks_in p.rules n openings rounds (S + p.calm_span))
 
 -- what an accepted start fixes
-pub accepted-start : (n : ℕ) (openings : List ℕ) → (started n openings).outcome ≡ Accepted → Start n openings
+pub accepted-start : (n : ℕ) (openings : List ℕ) → (started n openings).outcome ≡ Ok tt → Start n openings
 unfolding started
 accepted-start n openings h =
     start_by n openings (accepted_by (start_check n openings) (record { n = n; done = 0; trucks = opened_trucks openings }) blank h).0
@@ -69,13 +69,13 @@ module _ (p : Protocol) (sound : Sound p) where
       }
 
   -- stepped or run the same
-  pub same_by : (n : ℕ) (openings : List ℕ) (steps : List (List ℕ)) → (started n openings).outcome ≡ Accepted → SameIn p n openings steps
+  pub same_by : (n : ℕ) (openings : List ℕ) (steps : List (List ℕ)) → (started n openings).outcome ≡ Ok tt → SameIn p n openings steps
   same_by n openings steps h =
       let s = accepted-start n openings h in
       let e = steps_are p sound n openings s steps in
       record {
         next_step = λ w. rw e (step_outcome p sound n openings s (round_in (taken n steps)) (length (taken n steps)) w (omega (arith, taken-few n 0 steps (omega arith))));
-        as_run = recording_run p sound n openings s steps ∙ ap (λ (f : Fleet). record { outcome = Accepted; fleet = f }) (sym e);
+        as_run = recording_run p sound n openings s steps ∙ ap (λ (f : Fleet). record { outcome = Ok tt; fleet = f }) (sym e);
       }
 
 module _ (p : Protocol) (facts : Facts p) where

@@ -7,14 +7,13 @@ use native.Mathlib.Decide.{dec_lt}
 use native.Mathlib.Omega.{arith}
 use lib.Dec.{leb, eqb}
 use lib.ListN.{get_or, drop, get_or-map}
+use Rattle.std.specs.Prelude.{Ok, Err}
 use Rattle.basics.specs.Lists.{tab_from, tab, filled, all_below}
 use Rattle.basics.proofs.Laws.{get_or-filled_past, filled_ext}
 use Rattle.radio.specs.Round.{stop_bit, active_bit, mark_bit, loss_bit}
 use Rattle.radio.specs.Radio.{heard_by}
 use Rattle.refusals.specs.declared.Refusal.TheVariants.{Record, RoundsDone}
-use Rattle.refusals.specs.declared.Outcome.{Outcome}
-use Rattle.refusals.specs.declared.Outcome.TheVariants.{Accepted, Refused}
-use Rattle.refusals.specs.Outcomes.{refuse}
+use Rattle.refusals.specs.Outcomes.{Outcome, refuse}
 use Rattle.recording.specs.Checks.{bad_trucks, round_check}
 use Rattle.protocol.specs.declared.Cycle.{Cycle}
 use Rattle.protocol.specs.declared.Cycle.TheVariants.{TwoRound, SixRound}
@@ -154,8 +153,8 @@ module _ (p : Protocol) where
   kept_by part leaves f w i = go (step_check_in p f w)
     where
       go : (o : Outcome) → part (truck (answer o (next_fleet_in p f w) f).fleet.trucks i) ≡ part (truck f.trucks i)
-      go Accepted = leaves_after p.rules f.n (active_bit w) (f.done + 1) w f.trucks part leaves i
-      go (Refused r) = refl
+      go (Ok _) = leaves_after p.rules f.n (active_bit w) (f.done + 1) w f.trucks part leaves i
+      go (Err r) = refl
 
   -- a step, where neither the cycle nor refusal 7 reads what a change of trucks changes
   unread_by : (g : Truck → Truck) → Ignores p.rules g → ((done : ℕ) (t : Truck) → good_truck_in p done (g t) ≡ good_truck_in p done t)
@@ -177,8 +176,8 @@ module _ (p : Protocol) where
           (after_map p.rules g ignores f.trucks f.n (active_bit w) (f.done + 1) w)
 
       go : (o : Outcome) (h : Fleet) → answer o (each_truck g h) (each_truck g f) ≡ record { outcome = (answer o h f).outcome; fleet = each_truck g (answer o h f).fleet }
-      go Accepted h = refl
-      go (Refused r) h = refl
+      go (Ok _) h = refl
+      go (Err r) h = refl
 
 -- a step in two rounds hands on willingness
 two_hands_on : HandsOnOther TwoRound

@@ -5,12 +5,12 @@ use mathlib.Core.Bool.{Bool, true, false, false≢true}
 use mathlib.Core.List.{List, [], ◌∷◌}
 use Prim.Native.Nat.{ℕ, zero, suc}
 use native.Mathlib.Omega.{arith}
+use Rattle.std.specs.Prelude.{Ok}
 use Rattle.basics.specs.Bits.{odd}
 use Rattle.basics.specs.Lists.{tab_from, tab, filled, all_below, who, first, some_below}
 use Rattle.basics.proofs.Laws.{all_below-at}
 use Rattle.radio.specs.Radio.{Radio, implies, sent, hears, heard_by, heard, misses, misses_any, judged, complete, majority_complete, zero_complete, accurate}
 use Rattle.radio.specs.Runs.{state_at}
-use Rattle.refusals.specs.declared.Outcome.TheVariants.{Accepted}
 use Rattle.recording.specs.Packed.{bit_at, num_at, row_at, trucks_of, rounds_of, opening_at, openings_of, word_at, words_of, round_at, bits_for, bytes_for}
 use Rattle.recording.specs.Checks.{too_short, bad_trucks, bad_rounds, bad_length, end_bit, own_bit, own_in, own_loss, own_round, own_truck, own_loss_check, frame_check, own_check, check_of}
 use Rattle.protocol.specs.declared.State.{State}
@@ -67,7 +67,7 @@ ends = ends_in two_round
 
 -- majority complete marks but for round 2, mixed marks throughout, false ones among them; both trucks decide 3 in round 4
 pub half-heard : (worths (λ k. majority_complete) half_heard ≡ true ∷ false ∷ true ∷ true ∷ []) × (worths two_worth half_heard ≡ true ∷ true ∷ true ∷ true ∷ [])
-    × (worths (λ k. accurate) half_heard ≡ false ∷ true ∷ true ∷ true ∷ []) × ((ran half_heard).outcome ≡ Accepted) × (ends half_heard ≡ (Decided 4, 3) ∷ (Decided 4, 3) ∷ [])
+    × (worths (λ k. accurate) half_heard ≡ false ∷ true ∷ true ∷ true ∷ []) × ((ran half_heard).outcome ≡ Ok tt) × (ends half_heard ≡ (Decided 4, 3) ∷ (Decided 4, 3) ∷ [])
 unfolding tab_from tab filled all_below who first some_below sent hears heard_by heard judged majority_complete zero_complete state_at bit_at num_at row_at trucks_of rounds_of opening_at openings_of word_at words_of round_at all_same different least_or radio_in values_in plays_in after_in opened_in trucks_in radios_in misses misses_any accurate bits_for bytes_for too_short bad_trucks bad_rounds bad_length end_bit own_bit own_in own_loss own_round own_truck own_loss_check frame_check own_check check_of blank fleet_in ran_in
 half-heard = (refl, refl, refl, refl, refl)
 

@@ -9,15 +9,14 @@ use borrow.Author.Tests.{lt-ltb, le-ltb, le-leb, ltb-true, eqb-true, eqb-false, 
 use lib.Dec.{ltb, eqb}
 use lib.ListN.{length, get_or, length-append, get_or-append}
 use lib.Seq.{get_or-append_seam}
+use Rattle.std.specs.Prelude.{Ok, Err}
 use Rattle.basics.proofs.Laws.{and_left, and_right, all_below-all}
 use Rattle.radio.specs.Round.{active_bit}
 use Rattle.radio.specs.Runs.{state_at}
 use Rattle.refusals.specs.declared.Refusal.{Refusal}
 use Rattle.refusals.specs.declared.Refusal.TheVariants.{TruckCount, OwnLoss, Record, RoundsDone}
-use Rattle.refusals.specs.declared.Outcome.{Outcome}
-use Rattle.refusals.specs.declared.Outcome.TheVariants.{Accepted, Refused}
 use Rattle.refusals.specs.Numbers.{accepted}
-use Rattle.refusals.specs.Outcomes.{refuse}
+use Rattle.refusals.specs.Outcomes.{Outcome, refuse}
 use Rattle.refusals.proofs.Outcomes.{refuse-false, refuse-rest, refuse_past}
 use Rattle.recording.specs.Packed.{trucks_of, rounds_of, openings_of, words_of, round_at, packed, joined}
 use Rattle.recording.specs.Checks.{bad_trucks, bad_openings, FirstOwn, check_of, round_check}
@@ -42,9 +41,9 @@ taken-good n c [] k l = absurd (omega arith)
 taken-good n c (w ∷ ws) k l =
     go (is_taken n c w) refl (taken-good n (suc c) ws) (taken-good n c ws) k l
   where
-    ok : (o : Outcome) → accepted o ≡ true → o ≡ Accepted
-    ok Accepted h = refl
-    ok (Refused r) h = absurd (false≢true h)
+    ok : (o : Outcome) → accepted o ≡ true → o ≡ Ok tt
+    ok (Ok _) h = refl
+    ok (Err r) h = absurd (false≢true h)
 
     go : (b : Bool) → is_taken n c w ≡ b
         → ((k : ℕ) → k < length (taken_from n (suc c) ws) → GoodRound n (get_or (taken_from n (suc c) ws) k []))
@@ -67,14 +66,14 @@ taken-few n c (w ∷ ws) h = go (is_taken n c w) refl (taken-few n (suc c) ws) (
     go false e f g = g
 
 -- an accepted answer was given for an accepted outcome
-pub accepted_by : (o : Outcome) (f g : Fleet) → (answer o f g).outcome ≡ Accepted → (o ≡ Accepted) × ((answer o f g).fleet ≡ f)
-accepted_by Accepted f g h = (refl, refl)
-accepted_by (Refused r) f g h = absurd (false≢true (ap accepted h))
+pub accepted_by : (o : Outcome) (f g : Fleet) → (answer o f g).outcome ≡ Ok tt → (o ≡ Ok tt) × ((answer o f g).fleet ≡ f)
+accepted_by (Ok _) f g h = (refl, refl)
+accepted_by (Err r) f g h = absurd (false≢true (ap accepted h))
 
 -- the outcome of an answer is the one that it was given for
 pub answer-outcome : (o : Outcome) (f g : Fleet) → (answer o f g).outcome ≡ o
-answer-outcome Accepted f g = refl
-answer-outcome (Refused r) f g = refl
+answer-outcome (Ok _) f g = refl
+answer-outcome (Err r) f g = refl
 
 -- a step's outcome is that of its check
 pub step_checked : (p : Protocol) (f : Fleet) (w : List ℕ) → (stepped_in p f w).outcome ≡ step_check_in p f w
@@ -86,10 +85,10 @@ pub record StepNamed (f : Fleet) (w : List ℕ) (round truck : ℕ) : Type 0 whe
   pub trucks : bad_trucks f.n ≡ false
   pub room : f.done < 400
   pub round-next : round ≡ f.done + 1
-  pub own : round_check f.n (f.done + 1) w ≡ Refused (OwnLoss round truck)
+  pub own : round_check f.n (f.done + 1) w ≡ Err (OwnLoss round truck)
   pub first : FirstOwn (λ k. get_or w k 0) f.n 1 0 truck
 
-pub step_names : (p : Protocol) (f : Fleet) (w : List ℕ) (round truck : ℕ) → step_check_in p f w ≡ Refused (OwnLoss round truck) → StepNamed f w round truck
+pub step_names : (p : Protocol) (f : Fleet) (w : List ℕ) (round truck : ℕ) → step_check_in p f w ≡ Err (OwnLoss round truck) → StepNamed f w round truck
 unfolding step_check_in
 step_names p f w round truck h =
     let q : Refusal = OwnLoss round truck in
@@ -108,24 +107,24 @@ pub record Start (n : ℕ) (openings : List ℕ) : Type 0 where
   pub most : n ≤ 32
   pub trucks : bad_trucks n ≡ false
   pub crushers : bad_openings n openings ≡ false
-  pub accept : start_check n openings ≡ Accepted
+  pub accept : start_check n openings ≡ Ok tt
 
-pub start_by : (n : ℕ) (openings : List ℕ) → start_check n openings ≡ Accepted → Start n openings
+pub start_by : (n : ℕ) (openings : List ℕ) → start_check n openings ≡ Ok tt → Start n openings
 unfolding start_check
 start_by n openings h =
-    let t = refuse-false (bad_trucks n) TruckCount (refuse (bad_openings n openings) Record Accepted) h in
+    let t = refuse-false (bad_trucks n) TruckCount (refuse (bad_openings n openings) Record (Ok tt)) h in
     let r = trucks_in_lem n t in
     record {
       some = r.0;
       most = r.1;
       trucks = t;
-      crushers = refuse-false (bad_openings n openings) Record Accepted (refuse-rest (bad_trucks n) TruckCount (refuse (bad_openings n openings) Record Accepted) h);
+      crushers = refuse-false (bad_openings n openings) Record (Ok tt) (refuse-rest (bad_trucks n) TruckCount (refuse (bad_openings n openings) Record (Ok tt)) h);
       accept = h;
     }
 
 -- the recording of a list is accepted, and what was put into it is read out of it
 pub record RecordingBack (n : ℕ) (openings : List ℕ) (ws : List (List ℕ)) : Type 0 where
-  pub accept : check_of (recording_of n openings ws) ≡ Accepted
+  pub accept : check_of (recording_of n openings ws) ≡ Ok tt
   pub trucks : trucks_of (recording_of n openings ws) ≡ n
   pub rounds : rounds_of (recording_of n openings ws) ≡ length (taken n ws)
   pub crushers : openings_of (recording_of n openings ws) ≡ openings
@@ -154,7 +153,7 @@ recording_back n openings start ws =
     few : length rs ≤ 400
     few = omega (arith, taken-few n 0 ws (omega arith))
 
-    back : (check_of s ≡ Accepted) × (trucks_of s ≡ n) × (rounds_of s ≡ length rs) × (openings_of s ≡ openings) × (words_of s ≡ joined rs)
+    back : (check_of s ≡ Ok tt) × (trucks_of s ≡ n) × (rounds_of s ≡ length rs) × (openings_of s ≡ openings) × (words_of s ≡ joined rs)
     back = read_back n (length rs) openings (joined rs) (joined-accepted n rs each openings start.some start.most few start.crushers)
 
 module _ (p : Protocol) (sound : Sound p) (n : ℕ) (openings : List ℕ) (start : Start n openings) where
@@ -189,10 +188,10 @@ module _ (p : Protocol) (sound : Sound p) (n : ℕ) (openings : List ℕ) (start
 
       go : (o : Outcome) (b : Bool) → eqb k 400 ≡ b
           → (answer (refuse b RoundsDone o) (next_fleet_in p f w) f).fleet ≡ cond (accepted o && ltb k 400) (next_fleet_in p f w) f
-      go Accepted true e = rw (le-ltb k 400 (omega (arith, eqb-true k 400 e)))
-      go (Refused r) true e = refl
-      go Accepted false e = rw (lt-ltb k 400 (let x : k ≡ 400 → ⊥ = eqb-false k 400 e in omega arith))
-      go (Refused r) false e = refl
+      go (Ok _) true e = rw (le-ltb k 400 (omega (arith, eqb-true k 400 e)))
+      go (Err r) true e = refl
+      go (Ok _) false e = rw (lt-ltb k 400 (let x : k ≡ 400 → ⊥ = eqb-false k 400 e in omega arith))
+      go (Err r) false e = refl
 
   -- a taken round is one more round of the run
   next_is : (pre : List (List ℕ)) (w : List ℕ)
@@ -251,11 +250,11 @@ module _ (p : Protocol) (sound : Sound p) (n : ℕ) (openings : List ℕ) (start
 
   -- running the list's recording
   pub recording_run : (ws : List (List ℕ))
-      → ran_in p (recording_of n openings ws) ≡ record { outcome = Accepted; fleet = fleet_in p n openings (round_in (taken n ws)) (length (taken n ws)) }
+      → ran_in p (recording_of n openings ws) ≡ record { outcome = Ok tt; fleet = fleet_in p n openings (round_in (taken n ws)) (length (taken n ws)) }
   unfolding ran_in fleet_in
   recording_run ws =
       ap (λ (o : Outcome). answer o (fleet_in p (trucks_of s) (openings_of s) (round_at s) (rounds_of s)) blank) back.accept
-      ∙ ap (λ (f : Fleet). record { outcome = Accepted; fleet = f })
+      ∙ ap (λ (f : Fleet). record { outcome = Ok tt; fleet = f })
       (ap₂ (λ (m R : ℕ). fleet_in p m (openings_of s) (round_at s) R) back.trucks back.rounds
       ∙ ap (λ (os : List ℕ). fleet_in p n os (round_at s) (length rs)) back.crushers
       ∙ ap (λ (ts : List Truck). record { n = n; done = length rs; trucks = ts }) (rounds_ext c n openings (round_at s) (round_in rs) (length rs) back.words))

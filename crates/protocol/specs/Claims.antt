@@ -1,10 +1,9 @@
 -- What demand 3 says (document 01, 'Whole lists of steps'), for any protocol. Who runs, sends, hears, misses, stops and decides is `trucks_in` and `radios_in`:
 -- it follows from n, the openings and the words of the rounds. Besides, what a grade says, and what the counts of messages are.
-use Rattle.std.specs.Prelude.{◌≡◌, Bool, true, false, cond, not, ◌&&◌, List, ℕ, ◌+◌, ◌≤◌, ◌<◌, eqb, length, get_or}
+use Rattle.std.specs.Prelude.{◌≡◌, Bool, true, false, cond, not, ◌&&◌, List, ℕ, ◌+◌, ◌≤◌, ◌<◌, eqb, length, get_or, Ok}
 use Rattle.basics.specs.Bits.{odd}
 use Rattle.radio.specs.Round.{active_bit}
 use Rattle.radio.specs.Radio.{Radio, complete, majority_complete, zero_complete, accurate, calm_for, FirstToBreak, times_sent}
-use Rattle.refusals.specs.declared.Outcome.TheVariants.{Accepted}
 use Rattle.refusals.specs.declared.Refusal.TheVariants.{RoundsDone}
 use Rattle.refusals.specs.Outcomes.{refuse}
 use Rattle.recording.specs.Checks.{round_check}
@@ -13,7 +12,6 @@ use Rattle.protocol.specs.declared.State.{State}
 use Rattle.protocol.specs.declared.State.TheVariants.{Running, Stopped, Decided}
 use Rattle.protocol.specs.declared.Fleet.{Fleet}
 use Rattle.protocol.specs.declared.Grades.{Grades}
-use Rattle.protocol.specs.declared.Grading.TheVariants.{Graded}
 use Rattle.protocol.specs.Cycles.{Kind, truck_in}
 use Rattle.protocol.specs.Rules.{recorded, truck, radio_of}
 use Rattle.protocol.specs.Runs.{radios_in, radio_at}
@@ -71,9 +69,9 @@ module _ (p : Protocol) where
   -- a claim holds of every list of steps, refused ones included, after an accepted start, that is of the rounds taken and the record returned last; and of every
   -- accepted recording run
   pub record HoldsIn (claim : Claim) : Type 0 where
-    pub steps : (n : ℕ) (openings : List ℕ) (steps : List (List ℕ)) → (started n openings).outcome ≡ Accepted
+    pub steps : (n : ℕ) (openings : List ℕ) (steps : List (List ℕ)) → (started n openings).outcome ≡ Ok tt
         → claim n openings (round_in (taken n steps)) (length (taken n steps)) (last_record_in p (started n openings).fleet steps)
-    pub run : (s : List ℕ) → (ran_in p s).outcome ≡ Accepted → claim (trucks_of s) (openings_of s) (round_at s) (rounds_of s) (ran_in p s).fleet
+    pub run : (s : List ℕ) → (ran_in p s).outcome ≡ Ok tt → claim (trucks_of s) (openings_of s) (round_at s) (rounds_of s) (ran_in p s).fleet
 
   -- stepped or run, of a start with n and openings and a list of steps, refused ones included: running the list's recording is accepted and returns the record that
   -- the list returned last
@@ -81,13 +79,13 @@ module _ (p : Protocol) where
     -- of the next step only 14, 8 and 6 can be refused: no record that a start and steps returned is refused 7; 6 names the round after those taken
     pub next_step : (w : List ℕ) → (stepped_in p (last_record_in p (started n openings).fleet steps) w).outcome
         ≡ refuse (eqb (length (taken n steps)) 400) RoundsDone (round_check n (length (taken n steps) + 1) w)
-    pub as_run : ran_in p (recording_of n openings steps) ≡ record { outcome = Accepted; fleet = last_record_in p (started n openings).fleet steps }
+    pub as_run : ran_in p (recording_of n openings steps) ≡ record { outcome = Ok tt; fleet = last_record_in p (started n openings).fleet steps }
 
   -- the whole of demand 3, where agreement is promised with such marks
   pub record DemandIn (marks : Marks) : Type 0 where
     pub agreement : HoldsIn (agrees_with marks)
     pub deciding : HoldsIn decides_in
-    pub same : (n : ℕ) (openings : List ℕ) (steps : List (List ℕ)) → (started n openings).outcome ≡ Accepted → SameIn n openings steps
+    pub same : (n : ℕ) (openings : List ℕ) (steps : List (List ℕ)) → (started n openings).outcome ≡ Ok tt → SameIn n openings steps
 
 -- marks are majority complete in every round
 abbrev pub MajorityMarks : Marks
@@ -150,13 +148,13 @@ module _ (p : Protocol) (c : Class) where
 
   -- what a grading says of every recording that it is given of
   abbrev pub GradesSay : Type 0
-  GradesSay = (s : List ℕ) (g : Grades) → graded_in p s ≡ Graded g → GradeSays s (grade_of c g)
+  GradesSay = (s : List ℕ) (g : Grades) → graded_in p s ≡ Ok g → GradeSays s (grade_of c g)
 
   -- a grade of 0 gives agreement, and decisions being openings, to the run of an accepted recording; and to a list of steps whose recording has it
   pub record AgreesByGrade : Type 0 where
-    pub steps : (n : ℕ) (openings : List ℕ) (steps : List (List ℕ)) (g : Grades) → (started n openings).outcome ≡ Accepted
-        → graded_in p (recording_of n openings steps) ≡ Graded g → grade_of c g ≡ 0 → Agreed n openings (last_record_in p (started n openings).fleet steps)
-    pub run : (s : List ℕ) (g : Grades) → graded_in p s ≡ Graded g → grade_of c g ≡ 0 → Agreed (trucks_of s) (openings_of s) (ran_in p s).fleet
+    pub steps : (n : ℕ) (openings : List ℕ) (steps : List (List ℕ)) (g : Grades) → (started n openings).outcome ≡ Ok tt
+        → graded_in p (recording_of n openings steps) ≡ Ok g → grade_of c g ≡ 0 → Agreed n openings (last_record_in p (started n openings).fleet steps)
+    pub run : (s : List ℕ) (g : Grades) → graded_in p s ≡ Ok g → grade_of c g ≡ 0 → Agreed (trucks_of s) (openings_of s) (ran_in p s).fleet
 
 -- each truck below n has sent as many proposals as there are odd rounds in which it sends, and as many vetoes as there are even ones
 abbrev pub counts_sent : Claim
@@ -172,7 +170,7 @@ SentCounts = HoldsIn two_round counts_sent
 -- a step of a record adds 1 to a count of a truck exactly if its round is of that kind and the truck sends in it
 abbrev pub StepCounts : Type 0
 StepCounts =
-    (f : Fleet) (w : List ℕ) → (stepped f w).outcome ≡ Accepted → (i : ℕ) → i < f.n
+    (f : Fleet) (w : List ℕ) → (stepped f w).outcome ≡ Ok tt → (i : ℕ) → i < f.n
     → let k = f.done + 1 in
     let a = radio_of f.n (active_bit w) k w f.trucks in
     let t = truck f.trucks i in

@@ -1,15 +1,14 @@
 -- Starting, stepping, running and grading a fleet, with their refusals (document 01, 'Who can cause which refusal'). The laws of what refusal 7 asks are in
 -- proofs/Good.
-use Rattle.std.specs.Prelude.{ℕ, ◌+◌, ◌/◌, ◌%◌, Bool, true, false, cond, not, ◌&&◌, ◌||◌, List, [], ◌∷◌, eqb, leb, ltb}
+use Rattle.std.specs.Prelude.{ℕ, ◌+◌, ◌/◌, ◌%◌, Bool, true, false, cond, not, ◌&&◌, ◌||◌, List, [], ◌∷◌, eqb, leb, ltb, Result, Ok, Err}
+use Rattle.refusals.specs.declared.Refusal.{Refusal}
 use Rattle.basics.specs.Lists.{all_below}
 use Rattle.basics.specs.Bits.{odd}
 use Rattle.radio.specs.Round.{active_bit}
 use Rattle.radio.specs.Radio.{Radio, implies, majority_complete, zero_complete}
 use Rattle.refusals.specs.declared.Refusal.TheVariants.{TruckCount, Record, RoundsDone}
-use Rattle.refusals.specs.declared.Outcome.{Outcome}
-use Rattle.refusals.specs.declared.Outcome.TheVariants.{Accepted, Refused}
 use Rattle.refusals.specs.Numbers.{number_of}
-use Rattle.refusals.specs.Outcomes.{refuse}
+use Rattle.refusals.specs.Outcomes.{Outcome, refuse}
 use Rattle.recording.specs.Packed.{trucks_of, rounds_of, openings_of, round_at}
 use Rattle.recording.specs.Checks.{bad_trucks, bad_openings, check_of, round_check}
 use Rattle.protocol.specs.declared.Cycle.{Cycle}
@@ -23,9 +22,6 @@ use Rattle.protocol.specs.declared.Truck.{Truck}
 use Rattle.protocol.specs.declared.Fleet.{Fleet}
 use Rattle.protocol.specs.declared.Answer.{Answer}
 use Rattle.protocol.specs.declared.Grades.{Grades}
-use Rattle.protocol.specs.declared.Grading.{Grading}
-use Rattle.protocol.specs.declared.Grading.TheVariants.{Graded}
-use Rattle.protocol.specs.declared.Grading.TheVariants as grading
 use Rattle.protocol.specs.Cycles.{Rules, after_in}
 use Rattle.protocol.specs.Rules.{recorded, two_rules, truck, runs}
 use Rattle.protocol.specs.Six.{is_prepare, is_accept, six_rules}
@@ -38,12 +34,12 @@ blank = record { n = 0; done = 0; trucks = opened_trucks [] }
 
 -- an outcome with the record of an accepted call, and with the other record where it is a refusal
 abbrev pub answer : Outcome → Fleet → Fleet → Answer
-answer Accepted f g = record { outcome = Accepted; fleet = f }
-answer (Refused r) f g = record { outcome = Refused r; fleet = g }
+answer (Ok _) f g = record { outcome = Ok tt; fleet = f }
+answer (Err r) f g = record { outcome = Err r; fleet = g }
 
 -- starting a fleet checks 2, 7
 unfoldable pub start_check : ℕ → List ℕ → Outcome
-start_check n openings = refuse (bad_trucks n) TruckCount (refuse (bad_openings n openings) Record Accepted)
+start_check n openings = refuse (bad_trucks n) TruckCount (refuse (bad_openings n openings) Record (Ok tt))
 
 -- starting a fleet of n trucks
 unfoldable pub started : ℕ → List ℕ → Answer
@@ -119,14 +115,14 @@ chosen TwoRound = two_round
 chosen SixRound = six_round
 
 -- an outcome with the grades of an accepted call
-abbrev pub grading_for : Outcome → Grades → Grading
-grading_for Accepted g = Graded g
-grading_for (Refused r) g = grading.Refused r
+abbrev pub grading_for : Outcome → Grades → Result Grades Refusal
+grading_for (Ok _) g = Ok g
+grading_for (Err r) g = Err r
 
 -- an answer by document 01's number and values: complete, majority, zero and accurate, where it is no refusal
-abbrev pub grade_answer : Grading → ℕ × List ℕ
-grade_answer (Graded g) = (0, g.complete ∷ g.majority ∷ g.zero ∷ g.accurate ∷ [])
-grade_answer (grading.Refused r) = (number_of r, [])
+abbrev pub grade_answer : Result Grades Refusal → ℕ × List ℕ
+grade_answer (Ok g) = (0, g.complete ∷ g.majority ∷ g.zero ∷ g.accurate ∷ [])
+grade_answer (Err r) = (number_of r, [])
 
 -- round k is not 0 and not later than the rounds done
 abbrev pub is_done : ℕ → ℕ → Bool
@@ -171,7 +167,7 @@ module _ (p : Protocol) where
   ran_in s = answer (check_of s) (fleet_in (trucks_of s) (openings_of s) (round_at s) (rounds_of s)) blank
 
   -- grading a recording
-  unfoldable pub graded_in : List ℕ → Grading
+  unfoldable pub graded_in : List ℕ → Result Grades Refusal
   graded_in s = grading_for (check_of s) (grades_for (radios_in p.rules (trucks_of s) (openings_of s) (round_at s)) (rounds_of s))
 
 -- the same by document 01's protocol
@@ -193,5 +189,5 @@ fleet_at = fleet_in two_round
 abbrev pub ran : List ℕ → Answer
 ran = ran_in two_round
 
-abbrev pub graded : List ℕ → Grading
+abbrev pub graded : List ℕ → Result Grades Refusal
 graded = graded_in two_round

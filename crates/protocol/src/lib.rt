@@ -3,10 +3,10 @@
 // and whole runs. There is no code here.
 #![tactic(auto)]
 
-use refusals::{Outcome, Refusal};
+use refusals::Refusal;
 
 // The cycle of rounds by which a fleet is stepped, or a recording run and graded: proposals and vetoes (document 01), or prepare, four bit rounds and accept
-// (document 02, F-4).
+// (document 02, F-4). An enum and no trait: callers choose it by a value, in C by a name, and what depends on it matches.
 #[derive(Clone, Copy)]
 pub enum Cycle {
     TwoRound,
@@ -14,7 +14,7 @@ pub enum Cycle {
 }
 
 // How many different values a truck heard in the proposal round.
-#[derive(Clone, Copy)]
+#[derive(Clone, Copy, PartialEq, Eq)]
 pub enum Heard {
     Nothing,
     One,
@@ -49,7 +49,7 @@ pub struct Truck {
     pub sent: Sent,
 }
 
-// A fleet of n trucks with some rounds done. Places n and above of the array hold no truck of the fleet.
+// A fleet of n trucks with some rounds done. Places n and above of the array hold no truck of the fleet: there is no heap, and 32 places serve every fleet.
 #[derive(Clone, Copy)]
 pub struct Fleet {
     pub n: u8,
@@ -57,25 +57,19 @@ pub struct Fleet {
     pub trucks: [Truck; 32],
 }
 
-// What starting, stepping and running a fleet answer.
+// What starting, stepping and running a fleet answer. No `Result` with a fleet: a refused call hands back a record too (the blank one, or the one it was given), of
+// which `stepped_in` and the claims on whole lists of steps speak.
 #[derive(Clone, Copy)]
 pub struct Answer {
-    pub outcome: Outcome,
+    pub outcome: Result<(), Refusal>,
     pub fleet: Fleet,
 }
 
-// For each class of marks the first round that breaks it, or 0.
+// For each class of marks the first round that breaks it, or 0. Numbers and no `Option`: `grades_for` and `GradesSay` compare them, and C is given them.
 #[derive(Clone, Copy)]
 pub struct Grades {
     pub complete: u16,
     pub majority: u16,
     pub zero: u16,
     pub accurate: u16,
-}
-
-// What grading a recording answers.
-#[derive(Clone, Copy)]
-pub enum Grading {
-    Graded(Grades),
-    Refused(Refusal),
 }

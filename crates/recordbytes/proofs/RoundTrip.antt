@@ -9,10 +9,9 @@ use lib.Dec.{eqb, ltb}
 use lib.ListN.{length, get_or}
 use lib.Seq.{ext_get_or}
 use borrow.Author.Tests.{le-ltb, ltb-false}
+use Rattle.std.specs.Prelude.{Ok}
 use Rattle.basics.specs.Lists.{filled, some_below}
 use Rattle.basics.proofs.Laws.{length-filled, get_or-filled, get_or-filled_past, filled-same, filled-part, or_left, or_right, some_below-none, none-some_below}
-use Rattle.refusals.specs.declared.Outcome.{Outcome}
-use Rattle.refusals.specs.declared.Outcome.TheVariants.{Accepted}
 use Rattle.recording.proofs.Accepted.{trucks_in_lem}
 use Rattle.recording.specs.Checks.{bad_trucks}
 use Rattle.protocol.specs.declared.Heard.{Heard}
@@ -26,6 +25,7 @@ use Rattle.protocol.specs.Runs.{opened_trucks}
 use Rattle.protocol.proofs.Opened.{length-opened, truck_unopened}
 use Rattle.recordbytes.specs.Layout.{size_for, bool_byte, heard_byte, state_byte, round_of, truck_bytes, record_byte, pack_check, pack_for, packed_record, packed_whole, heard_of_byte, state_of_byte, pair_of, place_byte, place_round, truck_at, damaged_at, damaged, record_of, no_record, unpacked}
 use Rattle.recordbytes.proofs.Laws.{place_byte_lem, same_byte, byte_of_place, accepted_is, pack_0}
+use Rattle.refusals.specs.Outcomes.{Outcome}
 
 -- ---- numbers of two bytes
 
@@ -154,11 +154,11 @@ module _ (d : List ℕ) (bytes : Bytes d) (u : Undamaged d) where
       ap (record_byte (record_of d)) e ∙ later_back q (omega arith) ∙ sym (ap (λ (k : ℕ). get_or d k 0) e)
 
 -- bytes that are taken for a record are undamaged
-pub taken-whole : (d : List ℕ) → (unpacked d).outcome ≡ Accepted → damaged d ≡ false
+pub taken-whole : (d : List ℕ) → (unpacked d).outcome ≡ Ok tt → damaged d ≡ false
 unfolding unpacked
 taken-whole d h = go (damaged d) h
   where
-    go : (b : Bool) → (cond b no_record (record { outcome = Accepted; fleet = record_of d })).outcome ≡ Accepted → b ≡ false
+    go : (b : Bool) → (cond b no_record (record { outcome = Ok tt; fleet = record_of d })).outcome ≡ Ok tt → b ≡ false
     go true e = let z : ◌≡◌ {A = ℕ} 0 1 = cc in absurd (omega arith)
     go false e = refl
 
@@ -293,34 +293,34 @@ module _ (f : Fleet) (d : List ℕ) (m : ℕ) (range : bad_trucks f.n ≡ false)
       rw (le-ltb (length laid) (size_for 32) (omega (arith, length-filled (record_byte f) (size_for m) d (omega arith))), head_laid.0, range)
       (none-some_below (damaged_at laid) f.n (λ i l. place_there laid i (truck f.trucks i) (place-laid i (omega arith))))
 
-  read-laid : unpacked laid ≡ record { outcome = Accepted; fleet = record_of laid }
+  read-laid : unpacked laid ≡ record { outcome = Ok tt; fleet = record_of laid }
   unfolding unpacked
   read-laid = rw undamaged-laid
 
-  same_back : ((unpacked laid).outcome ≡ Accepted) × SameRecord f (unpacked laid).fleet
+  same_back : ((unpacked laid).outcome ≡ Ok tt) × SameRecord f (unpacked laid).fleet
   same_back = rw read-laid (refl, same-laid)
 
-  tidy-back : Tidy f.n f.trucks → unpacked laid ≡ record { outcome = Accepted; fleet = f }
+  tidy-back : Tidy f.n f.trucks → unpacked laid ≡ record { outcome = Ok tt; fleet = f }
   tidy-back t =
       let few : get_or laid 0 0 ≤ 32 = omega (arith, head_laid.0) in
-      read-laid ∙ ap (λ (g : Fleet). record { outcome = Accepted; fleet = g }) (tidy-same f (record_of laid) t (tidy-read laid few) same-laid)
+      read-laid ∙ ap (λ (g : Fleet). record { outcome = Ok tt; fleet = g }) (tidy-same f (record_of laid) t (tidy-read laid few) same-laid)
 
-module _ (f : Fleet) (d : List ℕ) (room : pack_check f.n (length d) ≡ Accepted) where
+module _ (f : Fleet) (d : List ℕ) (room : pack_check f.n (length d) ≡ Ok tt) where
   -- a record brought up to date in a buffer is read out of it, and so is one that is put there whole
-  pub record_back : ((unpacked (packed_record f d)).outcome ≡ Accepted) × SameRecord f (unpacked (packed_record f d)).fleet
+  pub record_back : ((unpacked (packed_record f d)).outcome ≡ Ok tt) × SameRecord f (unpacked (packed_record f d)).fleet
   unfolding packed_record
   record_back =
       let g = accepted_is f.n (length d) room in
       rw room (same_back f d f.n g.0 g.2 (omega arith) g.1)
 
-  pub whole_back : ((unpacked (packed_whole f d)).outcome ≡ Accepted) × SameRecord f (unpacked (packed_whole f d)).fleet
+  pub whole_back : ((unpacked (packed_whole f d)).outcome ≡ Ok tt) × SameRecord f (unpacked (packed_whole f d)).fleet
   unfolding packed_whole
   whole_back =
       let g = accepted_is f.n (length d) room in
       rw room (same_back f d 32 g.0 g.2 g.1 (omega arith))
 
   -- and where its places n and above are as a start makes them, every place of it
-  pub whole-tidy : Tidy f.n f.trucks → unpacked (packed_whole f d) ≡ record { outcome = Accepted; fleet = f }
+  pub whole-tidy : Tidy f.n f.trucks → unpacked (packed_whole f d) ≡ record { outcome = Ok tt; fleet = f }
   unfolding packed_whole
   whole-tidy t =
       let g = accepted_is f.n (length d) room in

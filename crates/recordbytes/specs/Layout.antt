@@ -1,13 +1,12 @@
 -- A fleet record as 323 bytes, for callers in other languages: n, the rounds done (low byte first), then ten bytes for each of 32 places:
 -- opening, estimate, mark, what the truck heard, its state, the round of its stop or decision (low byte first; 0 for a running truck), how many proposals
 -- and how many vetoes it sent, and whether it is unwilling.
-use Rattle.std.specs.Prelude.{ℕ, ◌+◌, ◌*◌, ◌-◌, ◌/◌, ◌%◌, Bool, cond, ◌&&◌, ◌||◌, List, [], ◌∷◌, eqb, leb, ltb, length, get_or}
+use Rattle.std.specs.Prelude.{ℕ, ◌+◌, ◌*◌, ◌-◌, ◌/◌, ◌%◌, ◌≤◌, ◌<◌, ◌≡◌, Bool, cond, ◌&&◌, ◌||◌, List, [], ◌∷◌, eqb, leb, ltb, length, take, get_or, Ok, Err}
+use Rattle.std.specs.List.{list_any}
 use Rattle.std.proofs.lemmas.List.Edits.{sets}
 use Rattle.basics.specs.Lists.{filled, some_below}
 use Rattle.refusals.specs.declared.Refusal.TheVariants.{Record, ShortBuffer}
-use Rattle.refusals.specs.declared.Outcome.{Outcome}
-use Rattle.refusals.specs.declared.Outcome.TheVariants.{Accepted, Refused}
-use Rattle.refusals.specs.Outcomes.{refuse}
+use Rattle.refusals.specs.Outcomes.{Outcome, refuse}
 use Rattle.recording.specs.Checks.{bad_trucks}
 use Rattle.protocol.specs.declared.Heard.{Heard}
 use Rattle.protocol.specs.declared.Heard.TheVariants.{Nothing, One, Several}
@@ -59,12 +58,12 @@ record_byte f p =
 
 -- putting a record of n trucks into a lent buffer checks 7 (n out of range), then 9
 unfoldable pub pack_check : ℕ → ℕ → Outcome
-pack_check n room = refuse (bad_trucks n) Record (refuse (ltb room (size_for 32)) ShortBuffer Accepted)
+pack_check n room = refuse (bad_trucks n) Record (refuse (ltb room (size_for 32)) ShortBuffer (Ok tt))
 
 -- the buffer with the head and the first m places of a record, everything past them staying; a refusal changes nothing
 abbrev pub pack_for : Outcome → ℕ → Fleet → List ℕ → List ℕ
-pack_for Accepted m f d = filled (record_byte f) (size_for m) d
-pack_for (Refused r) m f d = d
+pack_for (Ok _) m f d = filled (record_byte f) (size_for m) d
+pack_for (Err r) m f d = d
 
 -- the buffer with a record brought up to date: places n and above stay as they are
 unfoldable pub packed_record : Fleet → List ℕ → List ℕ
@@ -106,6 +105,19 @@ truck_at d i =
       sent = record { proposals = place_byte d i 7; vetoes = place_byte d i 8 };
     }
 
+-- the truck of the ten bytes of a place
+abbrev pub truck_of : List ℕ → Truck
+truck_of p =
+    record {
+      opening = get_or p 0 0;
+      estimate = get_or p 1 0;
+      mark = eqb (get_or p 2 0) 1;
+      heard = heard_of_byte (get_or p 3 0);
+      unwilling = eqb (get_or p 9 0) 1;
+      state = state_of_byte (get_or p 4 0) (pair_of (get_or p 5 0) (get_or p 6 0));
+      sent = record { proposals = get_or p 7 0; vetoes = get_or p 8 0 };
+    }
+
 -- there is no place i: the bytes are too few for a record, or it has no such place
 abbrev pub lacks_place : List ℕ → ℕ → Bool
 lacks_place d i = ltb (length d) (size_for 32) || leb 32 i
@@ -125,6 +137,12 @@ damaged_at d i =
     ltb 1 (place_byte d i 2) || ltb 2 (place_byte d i 3) || ltb 2 (place_byte d i 4) || (eqb (place_byte d i 4) 0 && ltb 0 (place_round d i))
     || ltb 1 (place_byte d i 9)
 
+-- the same of those ten bytes
+abbrev pub damaged_place : List ℕ → Bool
+damaged_place p =
+    ltb 1 (get_or p 2 0) || ltb 2 (get_or p 3 0) || ltb 2 (get_or p 4 0) || (eqb (get_or p 4 0) 0 && ltb 0 (pair_of (get_or p 5 0) (get_or p 6 0)))
+    || ltb 1 (get_or p 9 0)
+
 -- the bytes are no record: too few, n out of range, or a damaged place below n; places n and above are not read
 unfoldable pub damaged : List ℕ → Bool
 damaged d = ltb (length d) (size_for 32) || bad_trucks (get_or d 0 0) || some_below (damaged_at d) (get_or d 0 0)
@@ -134,9 +152,32 @@ unfoldable pub record_of : List ℕ → Fleet
 record_of d =
     record { n = get_or d 0 0; done = pair_of (get_or d 1 0) (get_or d 2 0); trucks = filled (truck_at d) (get_or d 0 0) (opened_trucks []) }
 
+-- ---- the same by the parts of bytes that are enough for a record: the head, and the ten bytes of each place
+
+pub record ArePartsOf (d head : List ℕ) (places : List (List ℕ)) : Type 0 where
+  pub whole : size_for 32 ≤ length d
+  pub count : length places ≡ 32
+  pub head_byte : (j : ℕ) → j < 3 → get_or head j 0 ≡ get_or d j 0
+  pub byte : (i j : ℕ) → i < 32 → j < 10 → get_or (get_or places i []) j 0 ≡ place_byte d i j
+
+-- the trucks of the first places, with those of a record of no trucks past them
+abbrev pub trucks_of : List (List ℕ) → List Truck
+trucks_of places = filled (λ i. truck_of (get_or places i [])) (length places) (opened_trucks [])
+
+unfoldable pub damaged_parts : List ℕ → List (List ℕ) → Bool
+damaged_parts head places = bad_trucks (get_or head 0 0) || list_any damaged_place (take (get_or head 0 0) places)
+
+unfoldable pub record_of_parts : List ℕ → List (List ℕ) → Fleet
+record_of_parts head places =
+    record {
+      n = get_or head 0 0;
+      done = pair_of (get_or head 1 0) (get_or head 2 0);
+      trucks = trucks_of (take (get_or head 0 0) places);
+    }
+
 -- taking bytes for a record: 7 where they are none, with the blank record
 abbrev pub no_record : Answer
-no_record = record { outcome = Refused Record; fleet = blank }
+no_record = record { outcome = Err Record; fleet = blank }
 
 unfoldable pub unpacked : List ℕ → Answer
-unpacked d = cond (damaged d) no_record (record { outcome = Accepted; fleet = record_of d })
+unpacked d = cond (damaged d) no_record (record { outcome = Ok tt; fleet = record_of d })

@@ -10,13 +10,7 @@ ghost use Rattle.ffi.specs.Calls.{call_result, start_call, step_call_in, step_ca
 ghost use Rattle.recordcalls.specs.Calls.{put_call};
 
 use protocol::{Answer, Cycle, Fleet};
-use refusals::Outcome;
-
-fn number(o: Outcome) -> u32
-    ensures { result ≡ outcome_number o }
-{
-    refusals::outcome_number(o) as u32
-}
+use refusals::Refusal;
 
 // Starts a fleet.
 #[unsafe(no_mangle)]
@@ -24,15 +18,13 @@ pub extern "C" fn recordcalls_start(trucks: u32, openings: &[u8], fleet: &mut [u
     ensures { call_result result (fleet.new ∷ []) [] ≡ start_call trucks openings.now fleet.old }
 {
     let a = fleet::start(ffi::narrow_trucks(trucks), openings);
-    let o = a.outcome;
-    let f = a.fleet;
-    match o {
-        Outcome::Refused(r) => number(Outcome::Refused(r)),
-        Outcome::Accepted => number(recordbytes::pack_whole(f, fleet)),
+    match a.outcome {
+        Ok(()) => ffi::outcome_number(recordbytes::pack_whole(a.fleet, fleet)),
+        Err(r) => ffi::outcome_number(Err(r)),
     }
 }
 
-// A step in a cycle, by the function of that cycle.
+// A step in a cycle. That of two rounds goes by `step`, which these tests try too.
 fn stepped(cycle: Cycle, f: Fleet, words: &[u32]) -> Answer
     ensures { result ≡ stepped_in (chosen cycle) f words.now }
 {
@@ -43,31 +35,21 @@ fn stepped(cycle: Cycle, f: Fleet, words: &[u32]) -> Answer
 }
 
 // Brings the record of an answer up to date in a lent buffer.
-fn put(a: Answer, d: &mut [u8]) -> u32
-    ensures { call_result result (d.new ∷ []) [] ≡ put_call a d.old }
+fn put(a: Answer, d: &mut [u8]) -> Result<(), Refusal>
+    ensures { call_result (outcome_number result) (d.new ∷ []) [] ≡ put_call a d.old }
 {
-    let o = a.outcome;
-    let f = a.fleet;
-    match o {
-        Outcome::Refused(r) => number(Outcome::Refused(r)),
-        Outcome::Accepted => number(recordbytes::pack(f, d)),
-    }
+    a.outcome?;
+    recordbytes::pack(a.fleet, d)
 }
 
 // A step of a record as bytes by way of the record that they are.
-fn step_record(cycle: Cycle, fleet: &mut [u8], words: &[u32]) -> u32
-    ensures { call_result result (fleet.new ∷ []) [] ≡ step_call_in (chosen cycle) fleet.old words.now }
+fn step_record(cycle: Cycle, fleet: &mut [u8], words: &[u32]) -> Result<(), Refusal>
+    ensures { call_result (outcome_number result) (fleet.new ∷ []) [] ≡ step_call_in (chosen cycle) fleet.old words.now }
 {
     let u = recordbytes::unpack(fleet);
-    let whole = u.outcome;
-    match whole {
-        Outcome::Refused(r) => number(Outcome::Refused(r)),
-        Outcome::Accepted => {
-            let f = u.fleet;
-            let a = stepped(cycle, f, words);
-            put(a, fleet)
-        }
-    }
+    u.outcome?;
+    let a = stepped(cycle, u.fleet, words);
+    put(a, fleet)
 }
 
 // Steps a fleet by a round in plain form.
@@ -75,7 +57,7 @@ fn step_record(cycle: Cycle, fleet: &mut [u8], words: &[u32]) -> u32
 pub extern "C" fn recordcalls_step(fleet: &mut [u8], words: &[u32]) -> u32
     ensures { call_result result (fleet.new ∷ []) [] ≡ step_call fleet.old words.now }
 {
-    step_record(Cycle::TwoRound, fleet, words)
+    ffi::outcome_number(step_record(Cycle::TwoRound, fleet, words))
 }
 
 // The same in the six-round cycle.
@@ -83,7 +65,7 @@ pub extern "C" fn recordcalls_step(fleet: &mut [u8], words: &[u32]) -> u32
 pub extern "C" fn recordcalls_step_six(fleet: &mut [u8], words: &[u32]) -> u32
     ensures { call_result result (fleet.new ∷ []) [] ≡ step_call_in six_round fleet.old words.now }
 {
-    step_record(Cycle::SixRound, fleet, words)
+    ffi::outcome_number(step_record(Cycle::SixRound, fleet, words))
 }
 
 // Puts the record of some bytes into another buffer: places n and above stay as they are there.
@@ -92,5 +74,5 @@ pub extern "C" fn recordcalls_copy(fleet: &[u8], copy: &mut [u8]) -> u32
     ensures { call_result result (copy.new ∷ []) [] ≡ put_call (unpacked fleet.now) copy.old }
 {
     let u = recordbytes::unpack(fleet);
-    put(u, copy)
+    ffi::outcome_number(put(u, copy))
 }

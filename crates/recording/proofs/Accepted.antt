@@ -7,10 +7,9 @@ use native.Mathlib.Omega.{arith}
 use borrow.Author.Tests.{ltb-false, leb-false, eqb-true, eqb-false, le-ltb, lt-leb, eq-eqb, ne_eqb, not-false}
 use lib.Dec.{ltb, leb, eqb}
 use lib.ListN.{length, get_or}
+use Rattle.std.specs.Prelude.{Ok}
 use Rattle.refusals.specs.declared.Refusal.TheVariants.{ShortRecording, TruckCount, RoundCount, RecordingLength, EndBit, OwnLoss, Record, PlainRound}
-use Rattle.refusals.specs.declared.Outcome.{Outcome}
-use Rattle.refusals.specs.declared.Outcome.TheVariants.{Accepted}
-use Rattle.refusals.specs.Outcomes.{refuse, and_then}
+use Rattle.refusals.specs.Outcomes.{Outcome, refuse, and_then}
 use Rattle.refusals.specs.Numbers.{outcome_number}
 use Rattle.refusals.proofs.Outcomes.{refuse-false, refuse-rest, refuse-on, then-first, then_second, then-both}
 use Rattle.basics.specs.Lists.{some_below}
@@ -83,7 +82,7 @@ module _ (n k R : ℕ) (words : List ℕ) where
   owned : Outcome
   owned = own_loss_check (λ w. get_or words w 0) n k R
 
-  pub rounds_good : rounds_check n k R words ≡ Accepted → GoodRounds n R words
+  pub rounds_good : rounds_check n k R words ≡ Ok tt → GoodRounds n R words
   unfolding rounds_check bad_words high_bit miscount high owned
   rounds_good h =
       let b : bad_words n R words ≡ false = refuse-false (bad_words n R words) PlainRound owned h in
@@ -96,7 +95,7 @@ module _ (n k R : ℕ) (words : List ℕ) where
         own = own-accepted (λ w. get_or words w 0) n k R (refuse-rest (bad_words n R words) PlainRound owned h);
       }
 
-  pub good_rounds : GoodRounds n R words → rounds_check n k R words ≡ Accepted
+  pub good_rounds : GoodRounds n R words → rounds_check n k R words ≡ Ok tt
   unfolding rounds_check bad_words high_bit miscount high owned
   good_rounds g =
       refuse-on (bad_words n R words) PlainRound owned
@@ -119,12 +118,12 @@ module _ (n R : ℕ) (openings words : List ℕ) where
   after_3 : Outcome
   after_3 = refuse (bad_openings n openings) Record (rounds_check n 1 R words)
 
-  pub plain-good : plain_check n R openings words ≡ Accepted → GoodPlain n R openings words
+  pub plain-good : plain_check n R openings words ≡ Ok tt → GoodPlain n R openings words
   unfolding plain_check after_2 after_3
   plain-good h =
       let t : (0 < n) × (n ≤ 32) = trucks_in_lem n (refuse-false (bad_trucks n) TruckCount after_2 h) in
-      let h₂ : after_2 ≡ Accepted = refuse-rest (bad_trucks n) TruckCount after_2 h in
-      let h₃ : after_3 ≡ Accepted = refuse-rest (bad_rounds R) RoundCount after_3 h₂ in
+      let h₂ : after_2 ≡ Ok tt = refuse-rest (bad_trucks n) TruckCount after_2 h in
+      let h₃ : after_3 ≡ Ok tt = refuse-rest (bad_rounds R) RoundCount after_3 h₂ in
       record {
         some = t.0;
         most = t.1;
@@ -133,7 +132,7 @@ module _ (n R : ℕ) (openings words : List ℕ) where
         rounds_good = rounds_good n 1 R words (refuse-rest (bad_openings n openings) Record (rounds_check n 1 R words) h₃);
       }
 
-  pub good-plain : GoodPlain n R openings words → plain_check n R openings words ≡ Accepted
+  pub good-plain : GoodPlain n R openings words → plain_check n R openings words ≡ Ok tt
   unfolding plain_check after_2 after_3
   good-plain g =
       refuse-on (bad_trucks n) TruckCount after_2 (in_trucks n g.some g.most)
@@ -158,7 +157,7 @@ module _ (s : List ℕ) where
   R = rounds_of s
 
   r_5 : Outcome
-  r_5 = refuse (end_bit (bit_at s) (length s) n R) EndBit Accepted
+  r_5 = refuse (end_bit (bit_at s) (length s) n R) EndBit (Ok tt)
 
   r_4 : Outcome
   r_4 = refuse (bad_length (length s) n R) RecordingLength r_5
@@ -185,13 +184,13 @@ module _ (s : List ℕ) where
       none-some_below (λ j. eqb (bit_at s (bits_for n R + j)) 1) (8 * length s - bits_for n R)
       (λ j l. ap (λ (b : ℕ). eqb b 1) (h (bits_for n R + j) (omega arith) (omega arith)))
 
-  pub frame_good : frame_check s ≡ Accepted → GoodFrame s
+  pub frame_good : frame_check s ≡ Ok tt → GoodFrame s
   unfolding frame_check too_short bad_length n R r_2 r_3 r_4 r_5
   frame_good h =
-      let h₁ : r_2 ≡ Accepted = refuse-rest (too_short s) ShortRecording r_2 h in
-      let h₂ : r_3 ≡ Accepted = refuse-rest (bad_trucks n) TruckCount r_3 h₁ in
-      let h₃ : r_4 ≡ Accepted = refuse-rest (bad_rounds R) RoundCount r_4 h₂ in
-      let h₄ : r_5 ≡ Accepted = refuse-rest (bad_length (length s) n R) RecordingLength r_5 h₃ in
+      let h₁ : r_2 ≡ Ok tt = refuse-rest (too_short s) ShortRecording r_2 h in
+      let h₂ : r_3 ≡ Ok tt = refuse-rest (bad_trucks n) TruckCount r_3 h₁ in
+      let h₃ : r_4 ≡ Ok tt = refuse-rest (bad_rounds R) RoundCount r_4 h₂ in
+      let h₄ : r_5 ≡ Ok tt = refuse-rest (bad_length (length s) n R) RecordingLength r_5 h₃ in
       let t : (0 < n) × (n ≤ 32) = trucks_in_lem n (refuse-false (bad_trucks n) TruckCount r_3 h₁) in
       record {
         long = ltb-false (length s) 2 (refuse-false (too_short s) ShortRecording r_2 h);
@@ -200,23 +199,23 @@ module _ (s : List ℕ) where
         rounds = rounds_in R (refuse-false (bad_rounds R) RoundCount r_4 h₂);
         size = eqb-true (length s) (bytes_for n R)
             (not-false (eqb (length s) (bytes_for n R)) (refuse-false (bad_length (length s) n R) RecordingLength r_5 h₃));
-        ends = ends-zero (refuse-false (end_bit (bit_at s) (length s) n R) EndBit Accepted h₄);
+        ends = ends-zero (refuse-false (end_bit (bit_at s) (length s) n R) EndBit (Ok tt) h₄);
       }
 
-  pub good_frame : GoodFrame s → frame_check s ≡ Accepted
+  pub good_frame : GoodFrame s → frame_check s ≡ Ok tt
   unfolding frame_check too_short bad_length n R r_2 r_3 r_4 r_5
   good_frame g =
       refuse-on (too_short s) ShortRecording r_2 (le-ltb (length s) 2 g.long)
       (refuse-on (bad_trucks n) TruckCount r_3 (in_trucks n g.some g.most)
       (refuse-on (bad_rounds R) RoundCount r_4 (in_rounds R g.rounds)
       (refuse-on (bad_length (length s) n R) RecordingLength r_5 (ap not (eq-eqb (length s) (bytes_for n R) g.size))
-      (refuse-on (end_bit (bit_at s) (length s) n R) EndBit Accepted (zero-ends g.ends) refl))))
+      (refuse-on (end_bit (bit_at s) (length s) n R) EndBit (Ok tt) (zero-ends g.ends) refl))))
 
 pub record GoodBytes (s : List ℕ) : Type 0 where
   pub frame : GoodFrame s
   pub own : (r i : ℕ) → r < rounds_of s → i < trucks_of s → own_bit (word_at s) (trucks_of s) r i ≡ false
 
-pub bytes_good : (s : List ℕ) → check_of s ≡ Accepted → GoodBytes s
+pub bytes_good : (s : List ℕ) → check_of s ≡ Ok tt → GoodBytes s
 unfolding check_of own_check
 bytes_good s h =
     record {
@@ -224,7 +223,7 @@ bytes_good s h =
       own = own-accepted (word_at s) (trucks_of s) 1 (rounds_of s) (then_second (frame_check s) (own_check s) h);
     }
 
-pub good-bytes : (s : List ℕ) → GoodBytes s → check_of s ≡ Accepted
+pub good-bytes : (s : List ℕ) → GoodBytes s → check_of s ≡ Ok tt
 unfolding check_of own_check
 good-bytes s g =
     then-both (frame_check s) (own_check s) (good_frame s g.frame) (accepted-own (word_at s) (trucks_of s) 1 (rounds_of s) g.own)
@@ -240,8 +239,8 @@ check_number s =
     round = own_round (word_at s) (trucks_of s) (rounds_of s)
 
     go : (a b c d e f : Bool)
-        → outcome_number (and_then (refuse a ShortRecording (refuse b TruckCount (refuse c RoundCount (refuse d RecordingLength (refuse e EndBit Accepted)))))
-        (refuse f (OwnLoss (1 + round) (own_truck (word_at s) (trucks_of s) round)) Accepted)) ≤ 6
+        → outcome_number (and_then (refuse a ShortRecording (refuse b TruckCount (refuse c RoundCount (refuse d RecordingLength (refuse e EndBit (Ok tt))))))
+        (refuse f (OwnLoss (1 + round) (own_truck (word_at s) (trucks_of s) round)) (Ok tt))) ≤ 6
     go true b c d e f = omega arith
     go false true c d e f = omega arith
     go false false true d e f = omega arith

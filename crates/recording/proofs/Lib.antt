@@ -9,3 +9,4 @@ pub mod Searches
 pub mod Fronts
 pub mod Named
 pub mod Masks
+pub mod MaskedRounds

@@ -10,11 +10,10 @@ use borrow.Author.Tests.{le-ltb, ne_eqb}
 use lib.Dec.{eqb}
 use lib.ListN.{length, take}
 use lib.Seq.{get_or-take, length-take-le, take_all}
+use Rattle.std.specs.Prelude.{Ok, Err}
 use Rattle.basics.specs.Bits.{digit}
 use Rattle.refusals.specs.declared.Refusal.TheVariants.{TruckCount, RoundCount, RecordingLength, EndBit}
-use Rattle.refusals.specs.declared.Outcome.{Outcome}
-use Rattle.refusals.specs.declared.Outcome.TheVariants.{Accepted, Refused}
-use Rattle.refusals.specs.Outcomes.{refuse, and_then}
+use Rattle.refusals.specs.Outcomes.{Outcome, refuse, and_then}
 use Rattle.bitreader.proofs.Digits.{num_at_ext}
 use Rattle.recording.specs.Packed.{bit_at, trucks_of, rounds_of, bits_for, bytes_for, largest_recording}
 use Rattle.recording.specs.Checks.{too_short, bad_trucks, bad_rounds, bad_length, end_bit, frame_check, own_check, check_of}
@@ -30,19 +29,19 @@ pub bytes_most : (n R : ℕ) → n ≤ 32 → R ≤ 400 → bytes_for n R ≤ la
 unfolding bytes_for bits_for
 bytes_most n R h l = omega (arith, rounds_within n R h l)
 
-pub accepted-most : (s : List ℕ) → check_of s ≡ Accepted → length s ≤ largest_recording
+pub accepted-most : (s : List ℕ) → check_of s ≡ Ok tt → length s ≤ largest_recording
 accepted-most s h =
     let f = (bytes_good s h).frame in
     omega (arith, f.size, bytes_most (trucks_of s) (rounds_of s) f.most f.rounds)
 
 -- what longer bytes are refused for: 2, 3, else 4
 abbrev long_check : ℕ → ℕ → Outcome
-long_check n R = refuse (bad_trucks n) TruckCount (refuse (bad_rounds R) RoundCount (Refused RecordingLength))
+long_check n R = refuse (bad_trucks n) TruckCount (refuse (bad_rounds R) RoundCount (Err RecordingLength))
 
 -- the check of a recording whose length is wrong wherever its counts are right
 by_counts : (t r d e : Bool) (o : Outcome) → (t ≡ false → r ≡ false → d ≡ true)
-    → and_then (refuse t TruckCount (refuse r RoundCount (refuse d RecordingLength (refuse e EndBit Accepted)))) o
-    ≡ refuse t TruckCount (refuse r RoundCount (Refused RecordingLength))
+    → and_then (refuse t TruckCount (refuse r RoundCount (refuse d RecordingLength (refuse e EndBit (Ok tt))))) o
+    ≡ refuse t TruckCount (refuse r RoundCount (Err RecordingLength))
 by_counts true r d e o h = refl
 by_counts false true d e o h = refl
 by_counts false false d e o h = rw (h refl refl)
@@ -72,10 +71,10 @@ module _ (s : List ℕ) (m : ℕ) (l : 1 < m) where
   rounds_cut = num_at_ext (bit_at (take m s)) (bit_at s) 6 6 10 (λ i h. bit_cut (6 + i) (omega arith))
 
 -- the check of an input is that of its first m bytes, where m is above the largest recording; where more were cut off, it is a refusal
-pub check_cut : (s : List ℕ) (m : ℕ) → largest_recording < m → (take m s ≡ s) ⊎ ((check_of (take m s) ≡ check_of s) × (check_of s ≡ Accepted → ⊥))
+pub check_cut : (s : List ℕ) (m : ℕ) → largest_recording < m → (take m s ≡ s) ⊎ ((check_of (take m s) ≡ check_of s) × (check_of s ≡ Ok tt → ⊥))
 check_cut s m h = go (dec_le (length s) m)
   where
-    go : Dec (length s ≤ m) → (take m s ≡ s) ⊎ ((check_of (take m s) ≡ check_of s) × (check_of s ≡ Accepted → ⊥))
+    go : Dec (length s ≤ m) → (take m s ≡ s) ⊎ ((check_of (take m s) ≡ check_of s) × (check_of s ≡ Ok tt → ⊥))
     go (yes l) = inl (take_all m s l)
     go (no l) =
         let u : largest_recording < length s = omega arith in

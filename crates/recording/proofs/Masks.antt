@@ -9,7 +9,8 @@ use native.Mathlib.Omega.{arith}
 use borrow.Author.Tests.{eqb-true, eq-eqb, ne_eqb}
 use lib.Bits.{bit_and, bit_or, and_le_l, and_le_r, or_add_and}
 use lib.Dec.{eqb, lit<}
-use lib.ListN.{length, get_or, set, replicate}
+use lib.ListN.{length, get_or, set, replicate, take, drop, length-take}
+use Rattle.std.proofs.Common.{get_or-take, get_or-drop}
 use lib.Seq.{get_or-set_same, get_or-set_other}
 use Rattle.basics.specs.Bits.{digit, bit}
 use Rattle.basics.specs.Lists.{all_below, some_below}
@@ -79,8 +80,8 @@ mask_more mask at n i p l e h q =
     ∙ some_more (λ k. eqb q (at + k * (n + 1))) i
 
 -- ---- the bytes of a round, and-ed with the mask
-abbrev pub masked : List ℕ → ℕ → List ℕ → ℕ → Bool
-masked s b mask j = not (eqb (bit_and (get_or s (b + j) 0) (get_or mask j 0)) 0)
+abbrev pub masked : List ℕ → List ℕ → ℕ → Bool
+masked bytes mask j = not (eqb (bit_and (get_or bytes j 0) (get_or mask j 0)) 0)
 
 -- a union is 0 exactly where both are
 or_tests : (a b : ℕ) → not (eqb (bit_or a b) 0) ≡ (not (eqb a 0) || not (eqb b 0))
@@ -91,67 +92,100 @@ or_tests a b = go (ℕ_discrete a 0) (ℕ_discrete b 0)
     go (yes x) (no y) = rw (eq-eqb a 0 x, ne_eqb b 0 y, ne_eqb (bit_or a b) 0 (λ z. y (omega (arith, or_add_and a b, and_le_l a b))))
     go (no x) y = rw (ne_eqb a 0 x, ne_eqb (bit_or a b) 0 (λ z. x (omega (arith, or_add_and a b, and_le_r a b))))
 
-pub masked_more : (s : List ℕ) (b : ℕ) (mask : List ℕ) (j any : ℕ) → not (eqb any 0) ≡ some_below (masked s b mask) j
-    → not (eqb (bit_or any (bit_and (get_or s (b + j) 0) (get_or mask j 0))) 0) ≡ some_below (masked s b mask) (j + 1)
-masked_more s b mask j any h =
-    or_tests any (bit_and (get_or s (b + j) 0) (get_or mask j 0)) ∙ ap (λ (x : Bool). x || masked s b mask j) h ∙ some_more (masked s b mask) j
+pub masked_more : (bytes mask : List ℕ) (j any : ℕ) → not (eqb any 0) ≡ some_below (masked bytes mask) j
+    → not (eqb (bit_or any (bit_and (get_or bytes j 0) (get_or mask j 0))) 0) ≡ some_below (masked bytes mask) (j + 1)
+masked_more bytes mask j any h =
+    or_tests any (bit_and (get_or bytes j 0) (get_or mask j 0)) ∙ ap (λ (x : Bool). x || masked bytes mask j) h ∙ some_more (masked bytes mask) j
 
 -- a byte is 0 exactly where each of its bits is
-byte_tests : (v : ℕ) → v < 256 → not (eqb v 0) ≡ some_below (λ k. bit v (8 - suc k)) 8
+pub byte_tests : (v : ℕ) → v < 256 → not (eqb v 0) ≡ some_below (λ k. bit v (8 - suc k)) 8
 byte_tests v h =
     number_tests (λ i. digit v (8 - suc i)) (λ i. digit_lt v (8 - suc i)) 0 8 v
     (sym (num_at_is (λ i. digit v (8 - suc i)) (λ i. digit_lt v (8 - suc i)) 0 8 v h (λ i l. ap (λ (k : ℕ). digit v (8 - suc k)) (zero-add i))))
     ∙ some_ext (λ k. bit v (8 - suc (0 + k))) (λ k. bit v (8 - suc k)) 8 (λ k l. ap (λ (x : ℕ). bit v (8 - suc x)) (zero-add k))
 
 -- two tests of which each follows from the other are the same
-tests_same : (x y : Bool) → (x ≡ true → y ≡ true) → (y ≡ true → x ≡ true) → x ≡ y
+pub tests_same : (x y : Bool) → (x ≡ true → y ≡ true) → (y ≡ true → x ≡ true) → x ≡ y
 tests_same true y f g = sym (f refl)
 tests_same false true f g = g refl
 tests_same false false f g = refl
 
--- m bytes from byte b on, whose first own bit is bit d of them
-module _ (s mask : List ℕ) (b m d n : ℕ) (bytes : (q : ℕ) → get_or s q 0 < 256) (marked : OwnMask mask d n n) (covers : d + n * n ≤ 8 * m) where
-  shared : ℕ → ℕ
-  shared j = bit_and (get_or s (b + j) 0) (get_or mask j 0)
+-- bit q is 1 in both
+abbrev pub both : List ℕ → List ℕ → ℕ → Bool
+both part mask q = eqb (bit_at part q) 1 && eqb (bit_at mask q) 1
 
-  shared_bit : (j k : ℕ) → k < 8 → bit (shared j) (8 - suc k) ≡ (eqb (bit_at s (8 * b + (8 * j + k))) 1 && eqb (bit_at mask (8 * j + k)) 1)
+-- bytes that have a bit of the mask, bit by bit
+module _ (part mask : List ℕ) (m : ℕ) (bytes : (q : ℕ) → get_or part q 0 < 256) where
+  shared : ℕ → ℕ
+  shared j = bit_and (get_or part j 0) (get_or mask j 0)
+
+  shared_bit : (j k : ℕ) → k < 8 → bit (shared j) (8 - suc k) ≡ both part mask (8 * j + k)
   unfolding shared
   shared_bit j k l =
-      bit-and (get_or s (b + j) 0) (get_or mask j 0) (8 - suc k)
-      ∙ ap₂ (λ (x y : ℕ). eqb x 1 && eqb y 1) (sym (bit_at_byte s (b + j) k l) ∙ ap (bit_at s) (omega arith)) (sym (bit_at_byte mask j k l))
+      bit-and (get_or part j 0) (get_or mask j 0) (8 - suc k)
+      ∙ ap₂ (λ (x y : ℕ). eqb x 1 && eqb y 1) (sym (bit_at_byte part j k l)) (sym (bit_at_byte mask j k l))
 
-  shared_some : (j : ℕ) → masked s b mask j ≡ some_below (λ k. bit (shared j) (8 - suc k)) 8
+  shared_some : (j : ℕ) → masked part mask j ≡ some_below (λ k. bit (shared j) (8 - suc k)) 8
   unfolding shared
-  shared_some j = byte_tests (shared j) (omega (arith, and_le_l (get_or s (b + j) 0) (get_or mask j 0), bytes (b + j)))
+  shared_some j = byte_tests (shared j) (omega (arith, and_le_l (get_or part j 0) (get_or mask j 0), bytes j))
 
-  to-own : (j : ℕ) → masked s b mask j ≡ true → some_below (own_packed s (8 * b + d) n) n ≡ true
-  to-own j h =
-      let (k, l, e) = some_below-at (λ k. bit (shared j) (8 - suc k)) 8 (sym (shared_some j) ∙ h) in
-      let q : ℕ = 8 * j + k in
-      let f = sym (shared_bit j k l) ∙ e in
-      let (i, u, g) = some_below-at (λ i. eqb q (d + i * (n + 1))) n (sym (marked q) ∙ and_right (eqb (bit_at s (8 * b + q)) 1) (eqb (bit_at mask q) 1) f) in
-      some_below_by (own_packed s (8 * b + d) n) n i u
-      (ap (λ (x : ℕ). eqb (bit_at s x) 1) (omega (arith, eqb-true q (d + i * (n + 1)) g)) ∙ and_left (eqb (bit_at s (8 * b + q)) 1) (eqb (bit_at mask q) 1) f)
+  to-bits : (j : ℕ) → j < m → masked part mask j ≡ true → some_below (both part mask) (8 * m) ≡ true
+  to-bits j l h =
+      let (k, u, e) = some_below-at (λ k. bit (shared j) (8 - suc k)) 8 (sym (shared_some j) ∙ h) in
+      some_below_by (both part mask) (8 * m) (8 * j + k) (omega arith) (sym (shared_bit j k u) ∙ e)
 
-  from-own : (i : ℕ) → i < n → own_packed s (8 * b + d) n i ≡ true → some_below (masked s b mask) m ≡ true
-  from-own i l h =
-      let q : ℕ = d + i * (n + 1) in
+  from-bits : (q : ℕ) → q < 8 * m → both part mask q ≡ true → some_below (masked part mask) m ≡ true
+  from-bits q l h =
       let j : ℕ = q / 8 in
       let k : ℕ = q % 8 in
       let e : 8 * j + k ≡ q = omega arith in
       let u : k < 8 = mod-lt q (lit< tt) in
-      some_below_by (masked s b mask) m j (let o : q / 8 < m = omega (arith, within_rows n i l) in o)
-      (shared_some j
-      ∙ some_below_by (λ k. bit (shared j) (8 - suc k)) 8 k u
-      (shared_bit j k u
-      ∙ and_both (eqb (bit_at s (8 * b + (8 * j + k))) 1) (eqb (bit_at mask (8 * j + k)) 1)
-      (ap (λ (x : ℕ). eqb (bit_at s x) 1) (omega arith) ∙ h)
-      (ap (λ (x : ℕ). eqb (bit_at mask x) 1) e ∙ marked q ∙ some_below_by (λ k. eqb q (d + k * (n + 1))) n i l (eq-eqb q q refl))))
+      some_below_by (masked part mask) m j (omega arith)
+      (shared_some j ∙ some_below_by (λ k. bit (shared j) (8 - suc k)) 8 k u (shared_bit j k u ∙ ap (both part mask) e ∙ h))
 
-  pub masked-own : some_below (masked s b mask) m ≡ some_below (own_packed s (8 * b + d) n) n
-  masked-own =
-      tests_same (some_below (masked s b mask) m) (some_below (own_packed s (8 * b + d) n) n)
-      (λ h. let t = some_below-at (masked s b mask) m h in to-own t.0 t.2)
+  pub masked-bits : some_below (masked part mask) m ≡ some_below (both part mask) (8 * m)
+  masked-bits =
+      tests_same (some_below (masked part mask) m) (some_below (both part mask) (8 * m))
+      (λ h. let t = some_below-at (masked part mask) m h in to-bits t.0 t.1 t.2)
+      (λ h. let t = some_below-at (both part mask) (8 * m) h in from-bits t.0 t.1 t.2)
+
+-- the bits of m bytes from byte b on
+taken_bit : (s : List ℕ) (b m q : ℕ) → q < 8 * length (take m (drop b s)) → bit_at (take m (drop b s)) q ≡ bit_at s (8 * b + q)
+unfolding bit_at
+taken_bit s b m q h =
+    let l : q / 8 < m = omega (arith, length-take m (drop b s)) in
+    ap (λ (x : ℕ). digit x (7 - q % 8)) (rw (get_or-take, get_or-drop))
+    ∙ ap₂ (λ (j k : ℕ). digit (get_or s j 0) (7 - k)) (let e : b + q / 8 ≡ (8 * b + q) / 8 = omega arith in e) (let e : q % 8 ≡ (8 * b + q) % 8 = omega arith in e)
+
+-- such bytes, whose first own bit is bit d of them and which hold each other one, have a bit of the mask exactly where an own bit is 1
+module _ (s mask : List ℕ) (b m d n : ℕ) (marked : OwnMask mask d n n) (covers : d + n * n ≤ 8 * length (take m (drop b s))) where
+  part : List ℕ
+  part = take m (drop b s)
+
+  to-own : (q : ℕ) → q < 8 * length part → both part mask q ≡ true → some_below (own_packed s (8 * b + d) n) n ≡ true
+  unfolding part
+  to-own q l h =
+      let (i, u, e) = some_below-at (λ i. eqb q (d + i * (n + 1))) n (sym (marked q) ∙ and_right (eqb (bit_at part q) 1) (eqb (bit_at mask q) 1) h) in
+      some_below_by (own_packed s (8 * b + d) n) n i u
+      (ap (λ (x : ℕ). eqb (bit_at s x) 1) (omega (arith, eqb-true q (d + i * (n + 1)) e))
+      ∙ ap (λ (x : ℕ). eqb x 1) (sym (taken_bit s b m q l))
+      ∙ and_left (eqb (bit_at part q) 1) (eqb (bit_at mask q) 1) h)
+
+  from-own : (i : ℕ) → i < n → own_packed s (8 * b + d) n i ≡ true → some_below (both part mask) (8 * length part) ≡ true
+  unfolding part
+  from-own i l h =
+      let q : ℕ = d + i * (n + 1) in
+      let o : q < 8 * length part = omega (arith, within_rows n i l) in
+      some_below_by (both part mask) (8 * length part) q o
+      (and_both (eqb (bit_at part q) 1) (eqb (bit_at mask q) 1)
+      (ap (λ (x : ℕ). eqb x 1) (taken_bit s b m q o) ∙ ap (λ (x : ℕ). eqb (bit_at s x) 1) (omega arith) ∙ h)
+      (marked q ∙ some_below_by (λ k. eqb q (d + k * (n + 1))) n i l (eq-eqb q q refl)))
+
+  pub slice-own : some_below (both (take m (drop b s)) mask) (8 * length (take m (drop b s))) ≡ some_below (own_packed s (8 * b + d) n) n
+  unfolding part
+  slice-own =
+      tests_same (some_below (both part mask) (8 * length part)) (some_below (own_packed s (8 * b + d) n) n)
+      (λ h. let t = some_below-at (both part mask) (8 * length part) h in to-own t.0 t.1 t.2)
       (λ h. let t = some_below-at (own_packed s (8 * b + d) n) n h in from-own t.0 t.1 t.2)
 
 -- the place of round r's first own bit, where the bits of a round fill whole bytes

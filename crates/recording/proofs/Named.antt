@@ -6,11 +6,10 @@ use mathlib.Core.List.{List}
 use Prim.Native.Nat.{ℕ, zero, suc, ◌≤◌, ◌<◌}
 use native.Mathlib.Omega.{arith}
 use lib.ListN.{length, get_or}
+use Rattle.std.specs.Prelude.{Ok, Err}
 use Rattle.refusals.specs.declared.Refusal.{Refusal}
 use Rattle.refusals.specs.declared.Refusal.TheVariants.{ShortRecording, TruckCount, RoundCount, RecordingLength, EndBit, OwnLoss, Record, PlainRound}
-use Rattle.refusals.specs.declared.Outcome.{Outcome}
-use Rattle.refusals.specs.declared.Outcome.TheVariants.{Accepted, Refused}
-use Rattle.refusals.specs.Outcomes.{refuse, and_then}
+use Rattle.refusals.specs.Outcomes.{Outcome, refuse, and_then}
 use Rattle.refusals.proofs.Outcomes.{refused-not, refuse_past}
 use Rattle.recording.specs.Packed.{bit_at, trucks_of, rounds_of, word_at}
 use Rattle.recording.specs.Checks.{too_short, bad_trucks, bad_rounds, bad_length, end_bit, bad_openings, bad_words, FirstOwn, FirstOwnAt, frame_check, own_check, own_loss_check, check_of, rounds_check, round_check, plain_check}
@@ -18,13 +17,13 @@ use Rattle.recording.proofs.Accepted.{frame_good}
 use Rattle.recording.proofs.OwnLoss.{own_named, own_names}
 
 -- none of 1 to 5 is 6
-frame_other : {A : Type 0} (s : List ℕ) (round truck : ℕ) → frame_check s ≡ Refused (OwnLoss round truck) → A
+frame_other : {A : Type 0} (s : List ℕ) (round truck : ℕ) → frame_check s ≡ Err (OwnLoss round truck) → A
 unfolding frame_check
 frame_other s round truck h =
     let q : Refusal = OwnLoss round truck in
     let wrong : Bool = bad_length (length s) (trucks_of s) (rounds_of s) in
     let ended : Bool = end_bit (bit_at s) (length s) (trucks_of s) (rounds_of s) in
-    let r_5 : Outcome = refuse ended EndBit Accepted in
+    let r_5 : Outcome = refuse ended EndBit (Ok tt) in
     let r_4 : Outcome = refuse wrong RecordingLength r_5 in
     let r_3 : Outcome = refuse (bad_rounds (rounds_of s)) RoundCount r_4 in
     let r_2 : Outcome = refuse (bad_trucks (trucks_of s)) TruckCount r_3 in
@@ -32,36 +31,36 @@ frame_other s round truck h =
     let h₃ = (refuse_past (bad_trucks (trucks_of s)) TruckCount q r_3 (λ e. omega arith) h₂).1 in
     let h₄ = (refuse_past (bad_rounds (rounds_of s)) RoundCount q r_4 (λ e. omega arith) h₃).1 in
     let h₅ = (refuse_past wrong RecordingLength q r_5 (λ e. omega arith) h₄).1 in
-    refused-not q (sym (refuse_past ended EndBit q Accepted (λ e. omega arith) h₅).1)
+    refused-not q (sym (refuse_past ended EndBit q (Ok tt) (λ e. omega arith) h₅).1)
 
 -- a recording: 1 to 5 accept it, and the bit is the first
 module _ (s : List ℕ) (round truck : ℕ) where
   abbrev first_of : Type 0
   first_of = FirstOwnAt (word_at s) (trucks_of s) 1 (rounds_of s) round truck
 
-  pub check_names : check_of s ≡ Refused (OwnLoss round truck) → (frame_check s ≡ Accepted) × FirstOwnAt (word_at s) (trucks_of s) 1 (rounds_of s) round truck
+  pub check_names : check_of s ≡ Err (OwnLoss round truck) → (frame_check s ≡ Ok tt) × FirstOwnAt (word_at s) (trucks_of s) 1 (rounds_of s) round truck
   unfolding check_of own_check
   check_names h = go (frame_check s) refl h
     where
-      go : (o : Outcome) → frame_check s ≡ o → and_then o (own_check s) ≡ Refused (OwnLoss round truck) → (frame_check s ≡ Accepted) × first_of
-      go Accepted e g = (e, own_names (word_at s) (trucks_of s) 1 (rounds_of s) round truck g)
-      go (Refused r) e g = frame_other s round truck (e ∙ g)
+      go : (o : Outcome) → frame_check s ≡ o → and_then o (own_check s) ≡ Err (OwnLoss round truck) → (frame_check s ≡ Ok tt) × first_of
+      go (Ok _) e g = (e, own_names (word_at s) (trucks_of s) 1 (rounds_of s) round truck g)
+      go (Err r) e g = frame_other s round truck (e ∙ g)
 
-  pub check_named : frame_check s ≡ Accepted → FirstOwnAt (word_at s) (trucks_of s) 1 (rounds_of s) round truck → check_of s ≡ Refused (OwnLoss round truck)
+  pub check_named : frame_check s ≡ Ok tt → FirstOwnAt (word_at s) (trucks_of s) 1 (rounds_of s) round truck → check_of s ≡ Err (OwnLoss round truck)
   unfolding check_of own_check
   check_named e f = ap (λ (o : Outcome). and_then o (own_check s)) e ∙ own_named (word_at s) (trucks_of s) 1 (rounds_of s) round truck f
 
   -- it is a round of the recording, and one of its trucks
-  pub check_in : check_of s ≡ Refused (OwnLoss round truck) → (round ≤ 400) × (truck < 32)
+  pub check_in : check_of s ≡ Err (OwnLoss round truck) → (round ≤ 400) × (truck < 32)
   check_in h = go (check_names h)
     where
-      go : (frame_check s ≡ Accepted) × first_of → (round ≤ 400) × (truck < 32)
+      go : (frame_check s ≡ Ok tt) × first_of → (round ≤ 400) × (truck < 32)
       go (e, (r, c, f)) =
           let g = frame_good s e in
           (omega (arith, f.round, g.rounds), omega (arith, f.truck, g.most))
 
 -- R rounds in plain form whose first is round k
-rounds_names : (n k R : ℕ) (words : List ℕ) (round truck : ℕ) → rounds_check n k R words ≡ Refused (OwnLoss round truck)
+rounds_names : (n k R : ℕ) (words : List ℕ) (round truck : ℕ) → rounds_check n k R words ≡ Err (OwnLoss round truck)
     → FirstOwnAt (λ w. get_or words w 0) n k R round truck
 unfolding rounds_check
 rounds_names n k R words round truck h =
@@ -69,7 +68,7 @@ rounds_names n k R words round truck h =
     (refuse_past (bad_words n R words) PlainRound (OwnLoss round truck) (own_loss_check (λ w. get_or words w 0) n k R) (λ e. omega arith) h).1
 
 -- one round
-pub round_names : (n k : ℕ) (words : List ℕ) (round truck : ℕ) → round_check n k words ≡ Refused (OwnLoss round truck)
+pub round_names : (n k : ℕ) (words : List ℕ) (round truck : ℕ) → round_check n k words ≡ Err (OwnLoss round truck)
     → (round ≡ k) × FirstOwn (λ w. get_or words w 0) n 1 0 truck
 unfolding round_check
 round_names n k words round truck h = go (rounds_names n k 1 words round truck h)
@@ -79,7 +78,7 @@ round_names n k words round truck h = go (rounds_names n k 1 words round truck h
     go (suc r, e, f) = absurd (omega (arith, f.round))
 
 -- what writing asks: 2, 3, 7 and 8 of all rounds come before
-pub plain_names : (n R : ℕ) (openings words : List ℕ) (round truck : ℕ) → plain_check n R openings words ≡ Refused (OwnLoss round truck)
+pub plain_names : (n R : ℕ) (openings words : List ℕ) (round truck : ℕ) → plain_check n R openings words ≡ Err (OwnLoss round truck)
     → (bad_trucks n ≡ false) × (bad_rounds R ≡ false) × (bad_openings n openings ≡ false) × (bad_words n R words ≡ false)
     × FirstOwnAt (λ w. get_or words w 0) n 1 R round truck
 unfolding plain_check rounds_check

@@ -4,8 +4,8 @@ use mathlib.Core.Bool.{Bool, true, false}
 use Prim.Native.Nat.{ℕ, ◌+◌, ◌*◌, ◌≤◌, ◌<◌}
 use native.Mathlib.Omega.{arith}
 use lib.Arith.{digits_lt}
+use Rattle.std.specs.Prelude.{Ok, Err}
 use Rattle.refusals.specs.declared.Refusal.TheVariants.{OwnLoss}
-use Rattle.refusals.specs.declared.Outcome.TheVariants.{Accepted, Refused}
 use Rattle.refusals.specs.Outcomes.{refuse}
 use Rattle.refusals.proofs.Outcomes.{refused-not, refuse-false, refuse-on}
 use Rattle.basics.specs.Bits.{bit}
@@ -29,17 +29,17 @@ module _ (word : ℕ → ℕ) (n : ℕ) where
   clear_own R h = none-some_below (own_in word n) R (λ r l. none-some_below (own_bit word n r) n (λ i u. h r i l u))
 
   module _ (k R : ℕ) where
-    pub own-accepted : own_loss_check word n k R ≡ Accepted → (r i : ℕ) → r < R → i < n → own_bit word n r i ≡ false
+    pub own-accepted : own_loss_check word n k R ≡ Ok tt → (r i : ℕ) → r < R → i < n → own_bit word n r i ≡ false
     unfolding own_loss_check
     own-accepted h =
         let r = own_round word n R in
-        own-round R (refuse-false (own_loss word n R) (OwnLoss (k + r) (own_truck word n r)) Accepted h)
+        own-round R (refuse-false (own_loss word n R) (OwnLoss (k + r) (own_truck word n r)) (Ok tt) h)
 
-    pub accepted-own : ((r i : ℕ) → r < R → i < n → own_bit word n r i ≡ false) → own_loss_check word n k R ≡ Accepted
+    pub accepted-own : ((r i : ℕ) → r < R → i < n → own_bit word n r i ≡ false) → own_loss_check word n k R ≡ Ok tt
     unfolding own_loss_check
     accepted-own h =
         let r = own_round word n R in
-        refuse-on (own_loss word n R) (OwnLoss (k + r) (own_truck word n r)) Accepted (clear_own R h) refl
+        refuse-on (own_loss word n R) (OwnLoss (k + r) (own_truck word n r)) (Ok tt) (clear_own R h) refl
 
   -- what is named where an own loss bit is 1
   pub own_first : (R : ℕ) → own_loss word n R ≡ true → FirstOwn word n R (own_round word n R) (own_truck word n (own_round word n R))
@@ -78,20 +78,20 @@ module _ (word : ℕ → ℕ) (n : ℕ) where
 
   -- the check names the first one, and nothing else
   module _ (k R round truck : ℕ) where
-    pub own_named : FirstOwnAt word n k R round truck → own_loss_check word n k R ≡ Refused (OwnLoss round truck)
+    pub own_named : FirstOwnAt word n k R round truck → own_loss_check word n k R ≡ Err (OwnLoss round truck)
     unfolding own_loss_check
     own_named (r, e, f) =
-        ap₂ (λ (b : Bool) (q : ℕ). refuse b (OwnLoss (k + q) (own_truck word n q)) Accepted) (first_loss R r truck f) (first_round R r truck f)
-        ∙ ap₂ (λ (q i : ℕ). Refused (OwnLoss q i)) (sym e) (first-truck R r truck f)
+        ap₂ (λ (b : Bool) (q : ℕ). refuse b (OwnLoss (k + q) (own_truck word n q)) (Ok tt)) (first_loss R r truck f) (first_round R r truck f)
+        ∙ ap₂ (λ (q i : ℕ). Err (OwnLoss q i)) (sym e) (first-truck R r truck f)
 
-    pub own_names : own_loss_check word n k R ≡ Refused (OwnLoss round truck) → FirstOwnAt word n k R round truck
+    pub own_names : own_loss_check word n k R ≡ Err (OwnLoss round truck) → FirstOwnAt word n k R round truck
     unfolding own_loss_check
     own_names h = go (own_loss word n R) refl h
       where
         r : ℕ
         r = own_round word n R
 
-        go : (b : Bool) → own_loss word n R ≡ b → refuse b (OwnLoss (k + r) (own_truck word n r)) Accepted ≡ Refused (OwnLoss round truck) → FirstOwnAt word n k R round truck
+        go : (b : Bool) → own_loss word n R ≡ b → refuse b (OwnLoss (k + r) (own_truck word n r)) (Ok tt) ≡ Err (OwnLoss round truck) → FirstOwnAt word n k R round truck
         go true e g = (r, cc, subst (λ (i : ℕ). FirstOwn word n R r i) (cc) (own_first R e))
         go false e g = refused-not (OwnLoss round truck) (sym g)
 
@@ -127,16 +127,21 @@ module _ (word : ℕ → ℕ) (n : ℕ) where
   unfolding own_round
   own_there R r e l = rw e (first-at (own_in word n) R (omega arith))
 
+  -- in such a round a truck has one
+  pub truck_there : (r : ℕ) → own_in word n r ≡ true → own_truck word n r < n
+  unfolding own_in own_truck
+  truck_there r h = some_first (own_bit word n r) n h
+
   module _ (k R : ℕ) where
     pub own_found : (r round truck : ℕ) → r < R → own_round word n r ≡ r → own_in word n r ≡ true → own_truck word n r ≡ truck → round ≡ k + r
-        → Refused (OwnLoss round truck) ≡ own_loss_check word n k R
+        → Err (OwnLoss round truck) ≡ own_loss_check word n k R
     unfolding own_loss_check own_loss own_round
     own_found r round truck l e h t g =
         sym
-        (ap₂ (λ (b : Bool) (q : ℕ). refuse b (OwnLoss (k + q) (own_truck word n q)) Accepted) (some_below_by (own_in word n) R r l h) (first_found (own_in word n) R r l e h)
-        ∙ ap₂ (λ (q i : ℕ). Refused (OwnLoss q i)) (sym g) t)
+        (ap₂ (λ (b : Bool) (q : ℕ). refuse b (OwnLoss (k + q) (own_truck word n q)) (Ok tt)) (some_below_by (own_in word n) R r l h) (first_found (own_in word n) R r l e h)
+        ∙ ap₂ (λ (q i : ℕ). Err (OwnLoss q i)) (sym g) t)
 
-    pub own-ends : (r : ℕ) → r ≡ R → own_round word n r ≡ r → Accepted ≡ own_loss_check word n k R
+    pub own-ends : (r : ℕ) → r ≡ R → own_round word n r ≡ r → (Ok tt) ≡ own_loss_check word n k R
     unfolding own_round own_in
     own-ends r g e =
         sym

@@ -7,14 +7,14 @@ use native.Mathlib.Nat.{div-lt_iff_lt-mul, div-add-mod', mod-lt}
 use native.Mathlib.Decide.{dec_lt}
 use native.Mathlib.Omega.{arith}
 use lib.ListN.{length, get_or}
-use Rattle.refusals.specs.declared.Outcome.TheVariants.{Accepted}
+use Rattle.std.specs.Prelude.{Ok}
 use Rattle.basics.specs.Bits.{digit}
 use Rattle.basics.specs.Lists.{tab}
 use Rattle.basics.proofs.Laws.{length-tab, get_or-tab, tab_ext, tab-get_or}
 use Rattle.recording.specs.Packed.{bit_at, num_at, row_at, trucks_of, rounds_of, header_bits, opening_place, opening_at, openings_of, word_place, word_at, words_of, bits_for, bytes_for, pack_bit, packed, opening_bit, round_bit}
 use Rattle.recording.specs.Checks.{own_bit, check_of, plain_check}
 use Rattle.bitreader.proofs.Digits.{bit_at_lt, num_at_is, num_at-lt, num_at-digit, row_at_is, row_at-lt, row_at-digit}
-use Rattle.recording.proofs.Accepted.{GoodOpenings, GoodRounds, GoodPlain, GoodFrame, GoodBytes, plain-good, good-plain, bytes_good, good-bytes, rounds_good}
+use Rattle.recording.proofs.Accepted.{GoodOpenings, GoodRounds, GoodPlain, GoodFrame, GoodBytes, plain-good, good-plain, bytes_good, good-bytes}
 use Rattle.recording.proofs.OwnLoss.{own_ext}
 use Rattle.recording.proofs.Packing.{length-pack, pack_ext, bit_at-pack, pack-bit_at, bits_flat, bytes_enough, word_ends, bit-trucks, bit_rounds, bit-openings, bit-words, bit_end, bit-opening, bit_word, pack_bit-lt}
 
@@ -105,8 +105,8 @@ module _ (n R : ℕ) (openings words : List ℕ) (good : GoodPlain n R openings 
       }
 
 -- what is written for accepted openings and words is accepted, and reads as them
-pub read_back : (n R : ℕ) (openings words : List ℕ) → plain_check n R openings words ≡ Accepted
-    → (check_of (packed n R openings words) ≡ Accepted)
+pub read_back : (n R : ℕ) (openings words : List ℕ) → plain_check n R openings words ≡ Ok tt
+    → (check_of (packed n R openings words) ≡ Ok tt)
     × (trucks_of (packed n R openings words) ≡ n)
     × (rounds_of (packed n R openings words) ≡ R)
     × (openings_of (packed n R openings words) ≡ openings)
@@ -214,8 +214,8 @@ module _ (s : List ℕ) where
       ∙ pack-bit_at s (bytes_for n R) b.size (λ q l. h q (omega (arith, b.size)))
 
 -- what is read of an accepted recording is accepted for writing, and is written as the same bytes
-pub write_back : (s : List ℕ) → ((q : ℕ) → q < length s → get_or s q 0 < 256) → check_of s ≡ Accepted
-    → (plain_check (trucks_of s) (rounds_of s) (openings_of s) (words_of s) ≡ Accepted)
+pub write_back : (s : List ℕ) → ((q : ℕ) → q < length s → get_or s q 0 < 256) → check_of s ≡ Ok tt
+    → (plain_check (trucks_of s) (rounds_of s) (openings_of s) (words_of s) ≡ Ok tt)
     × (packed (trucks_of s) (rounds_of s) (openings_of s) (words_of s) ≡ s)
 write_back s bytes h =
     let b : GoodBytes s = bytes_good s h in

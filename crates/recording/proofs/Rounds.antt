@@ -8,7 +8,7 @@ use native.Mathlib.Omega.{arith}
 use lib.Arith.{digits_lt}
 use lib.ListN.{length, get_or, length-append, get_or-append}
 use lib.Seq.{ext_get_or, get_or-append-add}
-use Rattle.refusals.specs.declared.Outcome.TheVariants.{Accepted}
+use Rattle.std.specs.Prelude.{Ok}
 use Rattle.basics.specs.Bits.{bit}
 use Rattle.basics.proofs.Laws.{length-tab, get_or-tab}
 use Rattle.recording.specs.Packed.{bit_at, row_at, trucks_of, rounds_of, word_place, word_at, words_of, round_at, packed, joined}
@@ -22,7 +22,7 @@ pub record GoodRound (n : ℕ) (words : List ℕ) : Type 0 where
   pub word : (w : ℕ) → w < 3 + n → get_or words w 0 < 2 ^ n
   pub own : (i : ℕ) → i < n → bit (get_or words (3 + i) 0) i ≡ false
 
-pub round-good : (n k : ℕ) (words : List ℕ) → round_check n k words ≡ Accepted → GoodRound n words
+pub round-good : (n k : ℕ) (words : List ℕ) → round_check n k words ≡ Ok tt → GoodRound n words
 unfolding round_check own_bit
 round-good n k words h =
     let g : GoodRounds n 1 words = rounds_good n k 1 words h in
@@ -98,7 +98,7 @@ module _ (n : ℕ) (rs : List (List ℕ)) (good : (k : ℕ) → k < length rs �
     all-good = record { some = some; most = most; rounds = fewer; openings-good = openings_in n openings crushers; rounds_good = joined-good }
 
     -- openings and accepted rounds are accepted for writing
-    pub joined-accepted : plain_check n (length rs) openings (joined rs) ≡ Accepted
+    pub joined-accepted : plain_check n (length rs) openings (joined rs) ≡ Ok tt
     joined-accepted = good-plain n (length rs) openings (joined rs) all-good
 
     -- and each round is read back as it was

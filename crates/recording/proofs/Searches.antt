@@ -9,9 +9,9 @@ use borrow.Author.Tests.{eqb-false, eq-eqb, ne_eqb, lt-ltb, le-ltb}
 use lib.Bits.{bit_or}
 use lib.Dec.{eqb}
 use lib.ListN.{length, get_or}
+use Rattle.std.specs.Prelude.{Err}
 use Rattle.refusals.specs.declared.Refusal.TheVariants.{ShortRecording, TruckCount, RoundCount, RecordingLength, EndBit}
-use Rattle.refusals.specs.declared.Outcome.{Outcome}
-use Rattle.refusals.specs.declared.Outcome.TheVariants.{Refused}
+use Rattle.refusals.specs.Outcomes.{Outcome}
 use Rattle.basics.specs.Bits.{bit, digit}
 use Rattle.basics.specs.Lists.{some_below}
 use Rattle.basics.proofs.Laws.{some_below-none, none-some_below, some_more}
@@ -96,17 +96,17 @@ within_rows n i h =
 
 -- ---- outcomes by conditions: 2 to 6 by the counts n and R
 module _ (s : List ℕ) (n R : ℕ) (b : Bool) (tested : b ≡ bad_trucks n) where
-  pub counted_2 : b ≡ true → Refused TruckCount ≡ counted_check (bit_at s) (length s) n R
+  pub counted_2 : b ≡ true → Err TruckCount ≡ counted_check (bit_at s) (length s) n R
   unfolding counted_check
   counted_2 h = rw (sym tested ∙ h)
 
   module _ (good : b ≡ false) where
-    pub counted_3 : 400 < R → Refused RoundCount ≡ counted_check (bit_at s) (length s) n R
+    pub counted_3 : 400 < R → Err RoundCount ≡ counted_check (bit_at s) (length s) n R
     unfolding counted_check bad_rounds
     counted_3 h = rw (sym tested ∙ good, lt-ltb 400 R h)
 
     module _ (m : ℕ) (few : R ≤ 400) (sized : m ≡ bytes_for n R) where
-      pub counted_4 : (length s ≡ m → ⊥) → Refused RecordingLength ≡ counted_check (bit_at s) (length s) n R
+      pub counted_4 : (length s ≡ m → ⊥) → Err RecordingLength ≡ counted_check (bit_at s) (length s) n R
       unfolding counted_check bad_rounds bad_length
       counted_4 h = rw (sym tested ∙ good, le-ltb 400 R few, ne_eqb (length s) (bytes_for n R) (λ e. h (e ∙ sym sized)))
 
@@ -126,7 +126,7 @@ module _ (s : List ℕ) (n R : ℕ) (b : Bool) (tested : b ≡ bad_trucks n) whe
           unfolding end_bit
           end_test = ap (λ (t : ℕ). some_below (λ j. eqb (bit_at s (t + j)) 1) (8 * length s - t)) (sym bits) ∙ sym ended
 
-          pub counted_5 : e ≡ true → Refused EndBit ≡ counted_check (bit_at s) (length s) n R
+          pub counted_5 : e ≡ true → Err EndBit ≡ counted_check (bit_at s) (length s) n R
           unfolding counted_check bad_rounds bad_length
           counted_5 h = rw (sym tested ∙ good, le-ltb 400 R few, eq-eqb (length s) (bytes_for n R) (exact ∙ sized), end_test ∙ h)
 
@@ -135,7 +135,7 @@ module _ (s : List ℕ) (n R : ℕ) (b : Bool) (tested : b ≡ bad_trucks n) whe
           counted_6 o h g = rw (sym tested ∙ good, le-ltb 400 R few, eq-eqb (length s) (bytes_for n R) (exact ∙ sized), end_test ∙ h) g
 
 -- ---- 1, then 2 to 6 by the counts of the header
-pub check_1 : (s : List ℕ) → length s < 2 → Refused ShortRecording ≡ check_of s
+pub check_1 : (s : List ℕ) → length s < 2 → Err ShortRecording ≡ check_of s
 unfolding check_of frame_check too_short
 check_1 s h = rw (lt-ltb (length s) 2 h)
 

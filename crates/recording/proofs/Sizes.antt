@@ -8,9 +8,6 @@ use Rattle.recording.specs.Packed.{round_place, bits_for}
 pub square_small : (n : ℕ) → n < 256 → n * n ≤ 65025
 square_small n h = mul-le-mul (let o : n ≤ 255 = omega arith in o) (let o : n ≤ 255 = omega arith in o)
 
-pub run_small : (n w : ℕ) → n < 256 → w < 65536 → w * n ≤ 16711425
-run_small n w h l = mul-le-mul (let o : w ≤ 65535 = omega arith in o) (let o : n ≤ 255 = omega arith in o)
-
 pub rounds_small : (n R : ℕ) → n < 256 → R < 65536 → R * (3 * n + n * n) ≤ 4311547650
 rounds_small n R h l =
     mul-le-mul (let o : R ≤ 65535 = omega arith in o) (let o : 3 * n + n * n ≤ 65790 = omega (arith, square_small n h) in o)

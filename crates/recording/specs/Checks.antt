@@ -1,9 +1,7 @@
 -- Document 01, 'Who can cause which refusal': what is asked of a recording, and of openings and rounds in plain form.
-use Rattle.std.specs.Prelude.{ℕ, ◌+◌, ◌*◌, ◌-◌, ◌^◌, ◌<◌, ◌≡◌, Bool, true, false, not, ◌||◌, List, ltb, leb, eqb, length, get_or}
+use Rattle.std.specs.Prelude.{ℕ, ◌+◌, ◌*◌, ◌-◌, ◌^◌, ◌<◌, ◌≡◌, Bool, true, false, Option, MatchOption, not, ◌||◌, List, ltb, leb, eqb, length, get_or, Ok}
 use Rattle.refusals.specs.declared.Refusal.TheVariants.{ShortRecording, TruckCount, RoundCount, RecordingLength, EndBit, OwnLoss, Record, PlainRound}
-use Rattle.refusals.specs.declared.Outcome.{Outcome}
-use Rattle.refusals.specs.declared.Outcome.TheVariants.{Accepted}
-use Rattle.refusals.specs.Outcomes.{refuse, and_then}
+use Rattle.refusals.specs.Outcomes.{Outcome, refuse, and_then}
 use Rattle.basics.specs.Bits.{bit}
 use Rattle.basics.specs.Lists.{first, some_below}
 use Rattle.recording.specs.Packed.{bit_at, trucks_of, rounds_of, word_in, word_at, bits_for, bytes_for, round_words}
@@ -50,6 +48,10 @@ own_round word n R = first (own_in word n) R
 unfoldable pub own_truck : (ℕ → ℕ) → ℕ → ℕ → ℕ
 own_truck word n r = first (own_bit word n r) n
 
+-- the answer of a search below m: the number k that it is for, or none where k is m
+abbrev pub Found : Option ℕ → ℕ → ℕ → Type 0
+Found answer k m = MatchOption answer (k ≡ m) (λ i. (i < m) × (k ≡ i))
+
 -- truck i of round r has the first one: its bit is 1, no earlier round has one that is, and in round r no lower truck has
 pub record FirstOwn (word : ℕ → ℕ) (n R r i : ℕ) : Type 0 where
   pub round : r < R
@@ -82,7 +84,7 @@ counted_frame f m n R =
     (refuse (bad_rounds R) RoundCount
     (refuse (bad_length m n R) RecordingLength
     (refuse (end_bit f m n R) EndBit
-    Accepted)))
+    (Ok tt))))
 
 -- 1 to 5: header, length and end bits
 unfoldable pub frame_check : List ℕ → Outcome
@@ -92,7 +94,7 @@ frame_check s = refuse (too_short s) ShortRecording (counted_frame (bit_at s) (l
 unfoldable pub own_loss_check : (ℕ → ℕ) → ℕ → ℕ → ℕ → Outcome
 own_loss_check word n k R =
     let r = own_round word n R in
-    refuse (own_loss word n R) (OwnLoss (k + r) (own_truck word n r)) Accepted
+    refuse (own_loss word n R) (OwnLoss (k + r) (own_truck word n r)) (Ok tt)
 
 -- 2 to 6, in this order, by the counts n and R: no bit before the openings is asked for
 unfoldable pub counted_check : (ℕ → ℕ) → ℕ → ℕ → ℕ → Outcome

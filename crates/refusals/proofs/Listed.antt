@@ -5,20 +5,20 @@ use mathlib.Core.Logic.{◌⊎◌, inl, inr}
 use Prim.Native.Nat.{ℕ, ◌≤◌}
 use native.Mathlib.Omega.{arith}
 use lib.Dec.{eqb}
+use Rattle.std.specs.Prelude.{Option, Some, None}
 use Rattle.refusals.specs.declared.Refusal.{Refusal}
 use Rattle.refusals.specs.declared.Refusal.TheVariants.{ShortRecording, TruckCount, RoundCount, RecordingLength, EndBit, OwnLoss, Record}
 use Rattle.refusals.specs.declared.Refusal.TheVariants.{PlainRound, ShortBuffer, RoadLists, Seconds, NoTime, AllIdle, RoundsDone}
 use Rattle.refusals.specs.declared.Location.{Location}
-use Rattle.refusals.specs.declared.Location.TheVariants.{Unnamed, At}
 use Rattle.refusals.specs.Numbers.{number_of}
 use Rattle.refusals.specs.Locations.{location_of}
 
 -- the refusal of a number that names such a place
-abbrev pub own_loss_at : Location → Refusal
-own_loss_at Unnamed = OwnLoss 0 0
-own_loss_at (At round truck) = OwnLoss round truck
+abbrev pub own_loss_at : Option Location → Refusal
+own_loss_at None = OwnLoss 0 0
+own_loss_at (Some p) = OwnLoss p.round p.truck
 
-abbrev pub refusal_of : ℕ → Location → Refusal
+abbrev pub refusal_of : ℕ → Option Location → Refusal
 refusal_of k p =
     cond (eqb k 1) ShortRecording
     (cond (eqb k 2) TruckCount
@@ -38,7 +38,7 @@ refusal_of k p =
 pub record Listed (r : Refusal) : Type 0 where
   pub range : (1 ≤ number_of r) × (number_of r ≤ 14)
   pub back : refusal_of (number_of r) (location_of r) ≡ r
-  pub place : (location_of r ≡ Unnamed) ⊎ ((round : ℕ) × (truck : ℕ) × (r ≡ OwnLoss round truck))
+  pub place : (location_of r ≡ None) ⊎ ((round : ℕ) × (truck : ℕ) × (r ≡ OwnLoss round truck))
 
 pub listed : (r : Refusal) → Listed r
 listed ShortRecording = record { range = (omega arith, omega arith); back = refl; place = inl refl }

@@ -1,10 +1,9 @@
 -- The refusals of document 01, 'Who can cause which refusal', and their numbers there.
-use Rattle.std.specs.Prelude.{ℕ, Bool, true, false, List, []}
+use Rattle.std.specs.Prelude.{ℕ, Bool, true, false, List, [], Ok, Err}
 use Rattle.refusals.specs.declared.Refusal.{Refusal}
 use Rattle.refusals.specs.declared.Refusal.TheVariants.{ShortRecording, TruckCount, RoundCount, RecordingLength, EndBit, OwnLoss, Record}
 use Rattle.refusals.specs.declared.Refusal.TheVariants.{PlainRound, ShortBuffer, RoadLists, Seconds, NoTime, AllIdle, RoundsDone}
-use Rattle.refusals.specs.declared.Outcome.{Outcome}
-use Rattle.refusals.specs.declared.Outcome.TheVariants.{Accepted, Refused}
+use Rattle.refusals.specs.Outcomes.{Outcome}
 
 abbrev pub number_of : Refusal → ℕ
 -- fewer than 2 bytes
@@ -38,15 +37,15 @@ number_of RoundsDone = 14
 
 -- the number that stands for an outcome: 0 is no refusal
 abbrev pub outcome_number : Outcome → ℕ
-outcome_number Accepted = 0
-outcome_number (Refused r) = number_of r
+outcome_number (Ok _) = 0
+outcome_number (Err r) = number_of r
 
 -- an answer by its number and values: a refusal's number with no value, or 0 with the values that the call gives
 abbrev pub numbered : Outcome → List ℕ → ℕ × List ℕ
-numbered Accepted values = (0, values)
-numbered (Refused r) values = (number_of r, [])
+numbered (Ok _) values = (0, values)
+numbered (Err r) values = (number_of r, [])
 
 -- it is no refusal
 abbrev pub accepted : Outcome → Bool
-accepted Accepted = true
-accepted (Refused r) = false
+accepted (Ok _) = true
+accepted (Err r) = false

@@ -28,81 +28,73 @@ pub enum Refusal {
     RoundsDone,
 }
 
-// Where in a recording the cause of a refusal stands, of a refusal that names it.
+// Where in a recording the cause of a refusal stands: a round, counted from 1, and a truck.
 #[derive(Clone, Copy)]
-pub enum Location {
-    Unnamed,
-    At { round: u16, truck: u8 },
-}
-
-// What a check of an input finds.
-#[derive(Clone, Copy)]
-pub enum Outcome {
-    Accepted,
-    Refused(Refusal),
+pub struct Location {
+    pub round: u16,
+    pub truck: u8,
 }
 
 // The number under which document 01 lists the refusal.
-pub fn number(r: Refusal) -> u8
-    ensures { result ≡ number_of r }
-{
-    match r {
-        Refusal::ShortRecording => 1,
-        Refusal::TruckCount => 2,
-        Refusal::RoundCount => 3,
-        Refusal::RecordingLength => 4,
-        Refusal::EndBit => 5,
-        Refusal::OwnLoss {
-            round: _round,
-            truck: _truck,
-        } => 6,
-        Refusal::Record => 7,
-        Refusal::PlainRound => 8,
-        Refusal::ShortBuffer => 9,
-        Refusal::RoadLists => 10,
-        Refusal::Seconds => 11,
-        Refusal::NoTime => 12,
-        Refusal::AllIdle => 13,
-        Refusal::RoundsDone => 14,
+impl From<Refusal> for u8 {
+    ghost from_gives = { λ r n. n ≡ number_of r };
+
+    fn from(r: Refusal) -> u8 {
+        match r {
+            Refusal::ShortRecording => 1,
+            Refusal::TruckCount => 2,
+            Refusal::RoundCount => 3,
+            Refusal::RecordingLength => 4,
+            Refusal::EndBit => 5,
+            Refusal::OwnLoss { .. } => 6,
+            Refusal::Record => 7,
+            Refusal::PlainRound => 8,
+            Refusal::ShortBuffer => 9,
+            Refusal::RoadLists => 10,
+            Refusal::Seconds => 11,
+            Refusal::NoTime => 12,
+            Refusal::AllIdle => 13,
+            Refusal::RoundsDone => 14,
+        }
     }
 }
 
-// The number of an outcome: 0 where the input is accepted.
-pub fn outcome_number(o: Outcome) -> u8
+// The number of what a check found: 0 where the input is accepted. (A `From` for it can't stand here, since `Result` and `u8` are the library's.)
+pub fn outcome_number(o: Result<(), Refusal>) -> u8
     ensures { result ≡ outcome_number o }
 {
     match o {
-        Outcome::Accepted => 0,
-        Outcome::Refused(r) => number(r),
+        Ok(()) => 0,
+        Err(r) => u8::from(r),
     }
 }
 
 // The round and the truck that the refusal names.
-pub fn location_of(r: Refusal) -> Location
+pub fn location_of(r: Refusal) -> Option<Location>
     ensures { result ≡ location_of r }
 {
-    let Refusal::OwnLoss { round: k, truck: i } = r else {
-        return Location::Unnamed;
-    };
-    Location::At { round: k, truck: i }
-}
-
-// What an outcome names: nothing where the input is accepted.
-pub fn outcome_location(o: Outcome) -> Location
-    ensures { result ≡ outcome_location o }
-{
-    match o {
-        Outcome::Accepted => Location::Unnamed,
-        Outcome::Refused(r) => location_of(r),
+    match r {
+        Refusal::OwnLoss { round, truck } => Some(Location { round, truck }),
+        _ => None,
     }
 }
 
-// A location as one number: 256 times the round, and the truck; 0 where none is named.
-pub fn location_number(p: Location) -> u32
+// What the outcome of a check names: nothing where the input is accepted.
+pub fn outcome_location(o: Result<(), Refusal>) -> Option<Location>
+    ensures { result ≡ outcome_location o }
+{
+    match o {
+        Ok(()) => None,
+        Err(r) => location_of(r),
+    }
+}
+
+// A location as one number, as C is given it: 256 times the round, and the truck; 0 where none is named.
+pub fn location_number(p: Option<Location>) -> u32
     ensures { result ≡ location_number p }
 {
     match p {
-        Location::Unnamed => 0,
-        Location::At { round, truck } => round as u32 * 256 + truck as u32,
+        None => 0,
+        Some(at) => at.round as u32 * 256 + at.truck as u32,
     }
 }

@@ -1,9 +1,7 @@
 -- What reading the program's input answers.
-use Rattle.std.specs.Prelude.{ℕ}
-use Rattle.replay.specs.declared.Input.{Input}
-use Rattle.replay.specs.declared.Input.TheVariants.{Bytes, Failed}
+use Rattle.std.specs.Prelude.{ℕ, Result, Ok, Err}
 
--- how many bytes of the buffer were read
-abbrev pub bytes_read : Input → ℕ
-bytes_read (Bytes n) = n
-bytes_read Failed = 0
+-- how many bytes of the buffer were read; 0 where a read failed
+abbrev pub bytes_read : {E : Type 0} → Result ℕ E → ℕ
+bytes_read (Ok n) = n
+bytes_read (Err e) = 0

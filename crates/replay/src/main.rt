@@ -6,35 +6,24 @@ ghost use Rattle.listing.specs.Text.{printed, refusal_text};
 ghost use Rattle.listing.specs.Program.{longest_listing, input_limit};
 ghost use Rattle.replay.specs.Input.{bytes_read};
 
-use listing::Listed;
+use std::io;
 use std::io::{Print, Read};
 
-// Standard input as it was read: so many bytes of the buffer, or a read that failed.
-#[derive(Clone, Copy)]
-enum Input {
-    Bytes(usize),
-    Failed,
-}
-
-// Reads until the buffer is full, the input ends, or a read fails. The buffer has the bytes that the program reads at most.
-fn read_input<R: Read>(input: &mut R, buf: &mut [u8]) -> Input
+// Reads until the buffer is full, the input ends, or a read fails: a `while`, since a read may give any number of bytes. The buffer has the bytes that the program
+// reads at most.
+fn read_input<R: Read>(input: &mut R, buf: &mut [u8]) -> io::Result<usize>
     requires { length buf.old ≡ input_limit }
     ensures { bytes_read result ≤ length buf.new }
 {
     let mut n = 0;
     while n < buf.len() {
-        let got = input.read(&mut buf[n..]);
-        match got {
-            Err(_) => return Input::Failed,
-            Ok(more) => {
-                if more == 0 {
-                    return Input::Bytes(n);
-                }
-                n += more;
-            }
+        let more = input.read(&mut buf[n..])?;
+        if more == 0 {
+            return Ok(n);
         }
+        n += more;
     }
-    Input::Bytes(n)
+    Ok(n)
 }
 
 fn main(rt: HostRuntime) {
@@ -45,8 +34,8 @@ fn main(rt: HostRuntime) {
     let out = rt.stdout();
     let err = rt.stderr();
     match input {
-        Input::Failed => complain(&err, b"replay: standard input could not be read\n"),
-        Input::Bytes(n) => replay(&out, &err, &buf[..n]),
+        Err(_) => complain(&err, b"replay: standard input could not be read\n"),
+        Ok(n) => replay(&out, &err, &buf[..n]),
     }
 }
 
@@ -56,10 +45,9 @@ fn text_of(s: &[u8], text: &mut [u8]) -> usize
     ensures within { result ≤ length text.new }
     ensures printed { take result text.new ≡ printed s.now }
 {
-    let listed = listing::list(s, text);
-    match listed {
-        Listed::Text(k) => k,
-        Listed::Refused(r) => line_of(r, text),
+    match listing::list(s, text) {
+        Ok(k) => k,
+        Err(r) => line_of(r, text),
     }
 }
 
@@ -69,11 +57,10 @@ fn line_of(r: refusals::Refusal, text: &mut [u8]) -> usize
     ensures within { result ≤ length text.new }
     ensures line { take result text.new ≡ refusal_text r }
 {
-    let listed = listing::refusal_line(r, text);
-    match listed {
-        Listed::Text(k) => k,
+    match listing::refusal_line(r, text) {
+        Ok(k) => k,
         // A buffer of this size is never refused (`list_suffices`, `list_room` in crate listing).
-        Listed::Refused(_short) => unreachable!(),
+        Err(_short) => unreachable!(),
     }
 }
 

@@ -12,26 +12,25 @@ use lib.Ieee.Exact.{HasValue}
 use Rattle.rounding.proofs.Order.{Small, order, equal}
 use Rattle.rounding.proofs.Quotient.{whole, whole-eq, quotient}
 use Rattle.roads.specs.declared.Leg.{Leg}
-use Rattle.roads.specs.declared.Estimate.{Estimate}
-use Rattle.roads.specs.declared.Estimate.TheVariants.{Seconds, Idle}
+use Rattle.std.specs.Prelude.{Option, Some, None}
 use Rattle.roads.specs.Estimates.{float, leg_of, quotient_of, estimate_of}
 use Rattle.roads.specs.Opening.{Road, idle, passed_over, numerator, denominator}
 use Rattle.roads.proofs.Roads.{length_0, longer, time_there}
 
 -- ---- the three ways through the code
-abbrev estimate_by : Leg → Bool → Bool → Estimate
-estimate_by leg a b = cond a (Seconds (float 0)) (cond b Idle (Seconds (quotient_of leg)))
+abbrev estimate_by : Leg → Bool → Bool → Option Float
+estimate_by leg a b = cond a (Some (float 0)) (cond b None (Some (quotient_of leg)))
 
 module _ (leg : Leg) where
-  pub estimate-length_0 : eq leg.length (of_bits binary64 0) ≡ true → Seconds (of_bits binary64 0) ≡ estimate_of leg
+  pub estimate-length_0 : eq leg.length (of_bits binary64 0) ≡ true → Some (of_bits binary64 0) ≡ estimate_of leg
   unfolding of_int of_bits
   estimate-length_0 h = sym (ap (λ (a : Bool). estimate_by leg a (eq leg.metres (float 0))) h)
 
-  pub estimate-idle : eq leg.length (of_bits binary64 0) ≡ false → eq leg.metres (of_bits binary64 0) ≡ true → Idle ≡ estimate_of leg
+  pub estimate-idle : eq leg.length (of_bits binary64 0) ≡ false → eq leg.metres (of_bits binary64 0) ≡ true → None ≡ estimate_of leg
   unfolding of_int of_bits
   estimate-idle g h = sym (ap₂ (estimate_by leg) g h)
 
-  pub estimate-seconds : eq leg.length (of_bits binary64 0) ≡ false → eq leg.metres (of_bits binary64 0) ≡ false → Seconds (quotient_of leg) ≡ estimate_of leg
+  pub estimate-seconds : eq leg.length (of_bits binary64 0) ≡ false → eq leg.metres (of_bits binary64 0) ≡ false → Some (quotient_of leg) ≡ estimate_of leg
   unfolding of_int of_bits
   estimate-seconds g h = sym (ap₂ (estimate_by leg) g h)
 
@@ -58,25 +57,25 @@ module _ (r : Road) (R : SixteenBits r) where
   estimate_tests : estimate_of (leg_for r) ≡ estimate_by (leg_for r) (eqb r.length 0) (idle r)
   estimate_tests = ap₂ (estimate_by (leg_for r)) (whole-eq r.length 0 (omega (arith, R.0)) (omega arith)) (whole-eq r.metres 0 (omega (arith, R.1)) (omega arith))
 
-  -- idle where it is passed over, else the exact time, rounded once
-  pub estimate_exact : estimate_of (leg_for r) ≡ cond (passed_over r) Idle (Seconds (rounded r))
+  -- none where it is passed over, else the exact time, rounded once
+  pub estimate_exact : estimate_of (leg_for r) ≡ cond (passed_over r) None (Some (rounded r))
   unfolding of_int
   estimate_exact = estimate_tests ∙ go (eq-zero-or-pos r.length)
     where
-      moved : (b : Bool) → idle r ≡ b → cond b Idle (Seconds (quotient_of (leg_for r))) ≡ cond b Idle (Seconds (round binary64 false (numerator r) r.metres))
+      moved : (b : Bool) → idle r ≡ b → cond b None (Some (quotient_of (leg_for r))) ≡ cond b None (Some (round binary64 false (numerator r) r.metres))
       moved true h = refl
-      moved false h = ap Seconds (quotient r.length r.metres r.seconds R.0 R.1 R.2 (omega (arith, eqb-false r.metres 0 h)))
+      moved false h = ap Some (quotient r.length r.metres r.seconds R.0 R.1 R.2 (omega (arith, eqb-false r.metres 0 h)))
 
-      go : (r.length ≡ 0) ⊎ (0 < r.length) → estimate_by (leg_for r) (eqb r.length 0) (idle r) ≡ cond (passed_over r) Idle (Seconds (rounded r))
+      go : (r.length ≡ 0) ⊎ (0 < r.length) → estimate_by (leg_for r) (eqb r.length 0) (idle r) ≡ cond (passed_over r) None (Some (rounded r))
       go (inl e) =
           let z = length_0 r e in
           ap (λ (a : Bool). estimate_by (leg_for r) a (idle r)) (eq-eqb r.length 0 e)
-          ∙ sym (ap₂ (λ (p : Bool) (t : Float). cond p Idle (Seconds t)) z.0 (ap₂ (round binary64 false) z.1 z.2))
+          ∙ sym (ap₂ (λ (p : Bool) (t : Float). cond p None (Some t)) z.0 (ap₂ (round binary64 false) z.1 z.2))
       go (inr l) =
           let z = longer r l in
           ap (λ (a : Bool). estimate_by (leg_for r) a (idle r)) (ne_eqb r.length 0 (omega arith))
           ∙ moved (idle r) refl
-          ∙ sym (ap₂ (λ (p : Bool) (d : ℕ). cond p Idle (Seconds (round binary64 false (numerator r) d))) z.0 z.1)
+          ∙ sym (ap₂ (λ (p : Bool) (d : ℕ). cond p None (Some (round binary64 false (numerator r) d))) z.0 z.1)
 
   -- the exact time of such a road, where it takes part, is in the range of the laws of rounding
   pub in_range : passed_over r ≡ false → Small (numerator r) (denominator r)
@@ -91,16 +90,16 @@ module _ (r : Road) (R : SixteenBits r) where
       (time_there r h, d, omega arith)
 
   -- a number of seconds as estimate: the road takes part, and the float is its exact time, rounded once
-  pub seconds_exact : (t : Float) → estimate_of (leg_for r) ≡ Seconds t → (passed_over r ≡ false) × (t ≡ rounded r)
+  pub seconds_exact : (t : Float) → estimate_of (leg_for r) ≡ Some t → (passed_over r ≡ false) × (t ≡ rounded r)
   seconds_exact t e = go (passed_over r) (sym estimate_exact ∙ e)
     where
-      go : (b : Bool) → cond b Idle (Seconds (rounded r)) ≡ Seconds t → (b ≡ false) × (t ≡ rounded r)
+      go : (b : Bool) → cond b None (Some (rounded r)) ≡ Some t → (b ≡ false) × (t ≡ rounded r)
       go true h = (cc, cc)
       go false h = (refl, cc)
 
 -- Of two roads with numbers of 16 bits whose estimates are numbers of seconds, the order of the estimates is the order of the exact times: a
 -- smaller fraction gives a smaller float, and equal fractions give equal floats.
-module _ (q r : Road) (Q : SixteenBits q) (R : SixteenBits r) (t u : Float) (a : estimate_of (leg_for q) ≡ Seconds t) (b : estimate_of (leg_for r) ≡ Seconds u) where
+module _ (q r : Road) (Q : SixteenBits q) (R : SixteenBits r) (t u : Float) (a : estimate_of (leg_for q) ≡ Some t) (b : estimate_of (leg_for r) ≡ Some u) where
   pub estimate_order : lt t u ≡ ltb (numerator q * denominator r) (numerator r * denominator q)
   estimate_order =
       let x = seconds_exact q Q t a in

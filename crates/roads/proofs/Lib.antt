@@ -2,6 +2,6 @@ pub mod Meaning
 pub mod Roads
 pub mod Least
 pub mod Estimates
-pub mod Choice
+pub mod Tests
 pub mod Chosen
 pub mod Answers

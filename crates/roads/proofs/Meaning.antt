@@ -8,34 +8,33 @@ use native.Mathlib.Omega.{arith}
 use borrow.Author.Tests.{eq-eqb, eqb-true, eqb-false}
 use lib.Dec.{eqb}
 use lib.ListN.{length}
+use Rattle.std.specs.Prelude.{Result, Ok, Err}
+use Rattle.refusals.specs.declared.Refusal.{Refusal}
 use Rattle.basics.specs.Lists.{first}
 use Rattle.basics.proofs.Laws.{all_below-at, all_below-all, some_below_by, some_below-none, some_first, first-at, first-before}
 use Rattle.refusals.specs.declared.Refusal.TheVariants.{AllIdle}
-use Rattle.refusals.specs.declared.Outcome.{Outcome}
-use Rattle.refusals.specs.declared.Outcome.TheVariants as outcome
 use Rattle.refusals.specs.Numbers.{numbered}
-use Rattle.roads.specs.declared.Opening.{Opening}
-use Rattle.roads.specs.declared.Opening.TheVariants.{Crusher, Refused}
+use Rattle.refusals.specs.Outcomes.{Outcome}
 use Rattle.roads.specs.Opening.{Road, road_at, passed_over, numerator, denominator, bad_lists, seconds_above, no_time, all_passed_over, opening_check, least_road, LeastRoad, crusher_as, opening_of, opening_answer}
 use Rattle.roads.proofs.Answers.{right, opening_by, opening_by_lem, opening-at}
 use Rattle.roads.proofs.Roads.{length_0, passed_over_lem, time_there, time_above_0}
 use Rattle.roads.proofs.Least.{least_is, zero-least, least_there}
 
-abbrev number : Opening → ℕ
+abbrev number : Result ℕ Refusal → ℕ
 number o = (opening_answer o).0
 
-apart : {A : Type 0} {p q : Opening} → p ≡ q → (number p ≡ number q → ⊥) → A
+apart : {A : Type 0} {p q : Result ℕ Refusal} → p ≡ q → (number p ≡ number q → ⊥) → A
 apart e h = absurd (h (ap number e))
 
 -- the tests that lead to a crusher, and to 13
-at-road : (a b c d : Bool) (k j : ℕ) → opening_by a b c d k ≡ Crusher j → (d ≡ false) × (k ≡ j)
+at-road : (a b c d : Bool) (k j : ℕ) → opening_by a b c d k ≡ Ok j → (d ≡ false) × (k ≡ j)
 at-road true b c d k j e = apart e (λ z. omega arith)
 at-road false true c d k j e = apart e (λ z. omega arith)
 at-road false false true d k j e = apart e (λ z. omega arith)
 at-road false false false true k j e = apart e (λ z. omega arith)
 at-road false false false false k j e = (refl, cc)
 
-at_13 : (a b c d : Bool) (k : ℕ) → opening_by a b c d k ≡ Refused AllIdle → (a ≡ false) × (b ≡ false) × (c ≡ false) × (d ≡ true)
+at_13 : (a b c d : Bool) (k : ℕ) → opening_by a b c d k ≡ Err AllIdle → (a ≡ false) × (b ≡ false) × (c ≡ false) × (d ≡ true)
 at_13 true b c d k e = apart e (λ z. omega arith)
 at_13 false true c d k e = apart e (λ z. omega arith)
 at_13 false false true d k e = apart e (λ z. omega arith)
@@ -71,12 +70,12 @@ module _ (lengths metres seconds : List ℕ) where
   opening-answer = go (opening_check lengths metres seconds)
     where
       go : (o : Outcome) → opening_answer (crusher_as o (least_road road n)) ≡ numbered o (least_road road n ∷ [])
-      go outcome.Accepted = refl
-      go (outcome.Refused r) = refl
+      go (Ok _) = refl
+      go (Err r) = refl
 
   -- A crusher k is a road that is not passed over; no road that takes part takes less exact time, and none of the same time has a lower
   -- number.
-  pub opening-least : (k : ℕ) → opening_of lengths metres seconds ≡ Crusher k → LeastRoad road n k
+  pub opening-least : (k : ℕ) → opening_of lengths metres seconds ≡ Ok k → LeastRoad road n k
   opening-least k e =
       let t = at-road (bad_lists lengths metres seconds) (seconds_above seconds) (no_time metres seconds) (all_passed_over road n) (least_road road n) k (sym (opening_by_lem lengths metres seconds) ∙ e) in
       go t (least_there (λ j. passed_over (road j)) (λ j. numerator (road j)) (λ j. denominator (road j)) (λ j. time_there (road j)) n)
@@ -86,7 +85,7 @@ module _ (lengths metres seconds : List ℕ) where
       go t (inr (i, h)) = subst (LeastRoad road n) (sym (least_is (λ j. passed_over (road j)) (λ j. numerator (road j)) (λ j. denominator (road j)) n i h) ∙ t.1) h
 
   -- 13 is the answer exactly where none of 10 to 12 holds and every road is idle and longer than 0.
-  pub opening-idle : (opening_of lengths metres seconds ≡ Refused AllIdle)
+  pub opening-idle : (opening_of lengths metres seconds ≡ Err AllIdle)
       ↔ ((bad_lists lengths metres seconds ≡ false) × (seconds_above seconds ≡ false) × (no_time metres seconds ≡ false)
       × ((k : ℕ) → k < n → ((road k).metres ≡ 0) × (0 < (road k).length)))
   opening-idle = (
@@ -98,7 +97,7 @@ module _ (lengths metres seconds : List ℕ) where
 
   -- Where none of 10 to 12 holds and there is a road of length 0, the opening is the lowest numbered road of length 0.
   pub opening-length_0 : bad_lists lengths metres seconds ≡ false → seconds_above seconds ≡ false → no_time metres seconds ≡ false
-      → (k : ℕ) → k < n → (road k).length ≡ 0 → opening_of lengths metres seconds ≡ Crusher (first (λ j. eqb (road j).length 0) n)
+      → (k : ℕ) → k < n → (road k).length ≡ 0 → opening_of lengths metres seconds ≡ Ok (first (λ j. eqb (road j).length 0) n)
   opening-length_0 p q r k l z =
       let i = first no_length n in
       let b = some_first no_length n (some_below_by no_length n k l (eq-eqb (road k).length 0 z)) in

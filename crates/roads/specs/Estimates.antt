@@ -1,10 +1,8 @@
 -- A road's leg and its estimate (document 01, 'The opening crusher'; document 02, F-2).
-use Rattle.std.specs.Prelude.{ℕ, cond, pos, Float}
+use Rattle.std.specs.Prelude.{ℕ, cond, pos, Float, Option, Some, None}
 use Rattle.std.specs.Float.{binary64}
 use Rattle.std.specs.Float.Ieee.{mul, div, eq, of_int}
 use Rattle.roads.specs.declared.Leg.{Leg}
-use Rattle.roads.specs.declared.Estimate.{Estimate}
-use Rattle.roads.specs.declared.Estimate.TheVariants.{Seconds, Idle}
 
 -- a whole number as a 64-bit float
 abbrev pub float : ℕ → Float
@@ -18,6 +16,6 @@ leg_of length metres seconds = record { length = float length; metres = float me
 abbrev pub quotient_of : Leg → Float
 quotient_of leg = div binary64 (mul binary64 leg.length leg.seconds) leg.metres
 
--- F-2's estimate: 0 seconds at length 0, idle or not; else 01's, idle where the last run covered 0 metres, else the number of seconds
-abbrev pub estimate_of : Leg → Estimate
-estimate_of leg = cond (eq leg.length (float 0)) (Seconds (float 0)) (cond (eq leg.metres (float 0)) Idle (Seconds (quotient_of leg)))
+-- F-2's estimate: 0 seconds at length 0, idle or not; else 01's: none where the last run covered 0 metres, else the number of seconds
+abbrev pub estimate_of : Leg → Option Float
+estimate_of leg = cond (eq leg.length (float 0)) (Some (float 0)) (cond (eq leg.metres (float 0)) None (Some (quotient_of leg)))

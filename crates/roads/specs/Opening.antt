@@ -1,14 +1,11 @@
 -- The opening crusher of three lists of whole numbers, and its refusals (document 01, 'The opening crusher' and refusals 10 to 13; document
 -- 02, F-2).
-use Rattle.std.specs.Prelude.{ℕ, ◌*◌, ◌≤◌, ◌<◌, ◌≡◌, Bool, false, cond, not, ◌&&◌, ◌||◌, List, [], ◌∷◌, ltb, eqb, length, get_or}
+use Rattle.std.specs.Prelude.{ℕ, ◌*◌, ◌≤◌, ◌<◌, ◌≡◌, Bool, false, cond, not, ◌&&◌, ◌||◌, List, [], ◌∷◌, ltb, eqb, length, get_or, Result, Ok, Err}
+use Rattle.refusals.specs.declared.Refusal.{Refusal}
 use Rattle.basics.specs.Lists.{all_below, some_below, first}
 use Rattle.refusals.specs.declared.Refusal.TheVariants.{RoadLists, Seconds, NoTime, AllIdle}
-use Rattle.refusals.specs.declared.Outcome.{Outcome}
-use Rattle.refusals.specs.declared.Outcome.TheVariants.{Accepted, Refused}
 use Rattle.refusals.specs.Numbers.{number_of}
-use Rattle.refusals.specs.Outcomes.{refuse}
-use Rattle.roads.specs.declared.Opening.{Opening}
-use Rattle.roads.specs.declared.Opening.TheVariants.{Crusher, Refused as NoOpening}
+use Rattle.refusals.specs.Outcomes.{Outcome, refuse}
 
 -- a road: its length, the metres of its last run and the seconds of it
 pub record Road : Type 0 where
@@ -86,7 +83,7 @@ opening_check lengths metres seconds =
     (refuse (seconds_above seconds) Seconds
     (refuse (no_time metres seconds) NoTime
     (refuse (all_passed_over (road_at lengths metres seconds) (length lengths)) AllIdle
-    Accepted)))
+    (Ok tt))))
 
 -- ---- the answer
 
@@ -99,16 +96,16 @@ abbrev pub LeastRoad : (ℕ → Road) → ℕ → ℕ → Type 0
 LeastRoad road n k = LeastBelow (λ j. passed_over (road j)) (λ j. numerator (road j)) (λ j. denominator (road j)) n k
 
 -- by the outcome of the check: crusher k where it accepts
-abbrev pub crusher_as : Outcome → ℕ → Opening
-crusher_as Accepted k = Crusher k
-crusher_as (Refused r) k = NoOpening r
+abbrev pub crusher_as : Outcome → ℕ → Result ℕ Refusal
+crusher_as (Ok _) k = Ok k
+crusher_as (Err r) k = Err r
 
 -- 01's opening, or the first of the refusals 10 to 13 that holds; road k leads to crusher k
-unfoldable pub opening_of : List ℕ → List ℕ → List ℕ → Opening
+unfoldable pub opening_of : List ℕ → List ℕ → List ℕ → Result ℕ Refusal
 opening_of lengths metres seconds =
     crusher_as (opening_check lengths metres seconds) (least_road (road_at lengths metres seconds) (length lengths))
 
 -- an answer by document 01's number and values: the crusher, where it is no refusal
-abbrev pub opening_answer : Opening → ℕ × List ℕ
-opening_answer (Crusher k) = (0, k ∷ [])
-opening_answer (NoOpening r) = (number_of r, [])
+abbrev pub opening_answer : Result ℕ Refusal → ℕ × List ℕ
+opening_answer (Ok k) = (0, k ∷ [])
+opening_answer (Err r) = (number_of r, [])

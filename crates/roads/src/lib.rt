@@ -17,26 +17,11 @@ pub struct Leg {
     pub seconds: f64,
 }
 
-// A road's estimate: the seconds that it takes, or that it is passed over, being idle and longer than 0. There is no quotient by 0
-// metres.
-#[derive(Clone, Copy)]
-pub enum Estimate {
-    Seconds(f64),
-    Idle,
-}
-
-// The opening crusher, or why the road lists give none.
-#[derive(Clone, Copy)]
-pub enum Opening {
-    Crusher(u8),
-    Refused(Refusal),
-}
-
 // The road chosen so far, with its estimate.
 #[derive(Clone, Copy)]
-enum Fastest {
-    Road(u8, f64),
-    NoRoad,
+struct Fastest {
+    road: u8,
+    seconds: f64,
 }
 
 // Every 16-bit number is an f64, so the casts lose nothing.
@@ -50,58 +35,47 @@ pub fn leg_of(length: u16, metres: u16, seconds: u16) -> Leg
     }
 }
 
-// One product and one division. Length 0 takes 0 seconds, and 0 metres are tested before a quotient is formed by them.
-pub fn estimate_of(leg: Leg) -> Estimate
+// The seconds that a road takes: one product and one division. None where it is passed over, being idle and longer than 0: length 0
+// takes 0 seconds, and 0 metres are tested before a quotient is formed by them.
+pub fn estimate_of(leg: Leg) -> Option<f64>
     ensures { result ≡ estimate_of leg }
 {
     if leg.length == 0.0 {
-        return Estimate::Seconds(0.0);
+        return Some(0.0);
     }
     if leg.metres == 0.0 {
-        return Estimate::Idle;
+        return None;
     }
-    Estimate::Seconds(leg.length * leg.seconds / leg.metres)
+    Some(leg.length * leg.seconds / leg.metres)
 }
 
-// Road k takes over where its estimate is smaller, so the lowest number stays on a tie.
-fn better(best: Fastest, k: u8, estimate: Estimate) -> Fastest
-    ensures { result ≡ better_of best k estimate }
+// A road takes over where its estimate is smaller, so the lowest number stays on a tie.
+#[tactic(auto, unfolding(crate::specs::Choice::better_of))]
+fn better(best: Option<Fastest>, road: u8, estimate: Option<f64>) -> Option<Fastest>
+    ensures { result ≡ better_of best road estimate }
 {
     match estimate {
-        Estimate::Idle => best,
-        Estimate::Seconds(t) => match best {
-            Fastest::NoRoad => Fastest::Road(k, t),
-            Fastest::Road(j, s) => {
-                if t < s {
-                    Fastest::Road(k, t)
-                } else {
-                    Fastest::Road(j, s)
-                }
-            }
-        },
+        Some(seconds) if best.is_none_or(|b| seconds < b.seconds) => Some(Fastest {
+            road,
+            seconds,
+        }),
+        _ => best,
     }
 }
 
-// No roads, more than 16, or lists of unequal length.
+// No roads, more than 16, or lists of unequal length. (Three lists and no list of roads: callers in C lend three, and this refusal speaks of their lengths.)
 fn bad_lists(lengths: &[u16], metres: &[u16], seconds: &[u16]) -> bool
     ensures { result ≡ bad_lists lengths.now metres.now seconds.now }
 {
     let n = lengths.len();
-    (n == 0) | (16 < n) | (metres.len() != n) | (seconds.len() != n)
+    n == 0 || 16 < n || metres.len() != n || seconds.len() != n
 }
 
 // Some seconds are above the limit.
 fn above_limit(seconds: &[u16]) -> bool
     ensures { result ≡ seconds_above seconds.now }
 {
-    let mut k = 0;
-    while k < seconds.len() {
-        if 3600 < seconds[k] {
-            return true;
-        }
-        k += 1;
-    }
-    false
+    seconds.iter().any(|s| 3600 < *s)
 }
 
 // Some road has metres above 0 in 0 seconds.
@@ -109,48 +83,39 @@ fn without_time(metres: &[u16], seconds: &[u16]) -> bool
     requires { length metres.now ≡ length seconds.now }
     ensures { result ≡ no_time metres.now seconds.now }
 {
-    let mut k = 0;
-    while k < seconds.len() {
-        if (0 < metres[k]) & (seconds[k] == 0) {
-            return true;
-        }
-        k += 1;
-    }
-    false
+    metres.iter().zip(seconds).any(|(m, s)| 0 < *m && *s == 0)
 }
 
 // The road of the smallest estimate, among those that are not passed over.
-fn fastest_road(lengths: &[u16], metres: &[u16], seconds: &[u16]) -> Fastest
+#[tactic(auto, unfolding(crate::specs::Choice::chosen_below))]
+fn fastest_road(lengths: &[u16], metres: &[u16], seconds: &[u16]) -> Option<Fastest>
     requires { (length metres.now ≡ length lengths.now) × (length seconds.now ≡ length lengths.now) × (length lengths.now ≤ 16) }
     ensures { result ≡ chosen_below (estimate_at lengths.now metres.now seconds.now) (length lengths.now) }
 {
-    let mut best = Fastest::NoRoad;
-    let mut k = 0;
-    while k < lengths.len() {
-        let leg = leg_of(lengths[k], metres[k], seconds[k]);
+    let mut best = None;
+    for (k, length) in lengths.iter().enumerate() {
+        let leg = leg_of(*length, metres[k], seconds[k]);
         best = better(best, k as u8, estimate_of(leg));
-        k += 1;
     }
     best
 }
 
 // The crusher that a truck opens with, from the lengths, metres and seconds of its roads. Each check goes over all roads before
 // the next one starts.
-pub fn opening_crusher(lengths: &[u16], metres: &[u16], seconds: &[u16]) -> Opening
+pub fn opening_crusher(lengths: &[u16], metres: &[u16], seconds: &[u16]) -> Result<u8, Refusal>
     ensures { result ≡ opening_of lengths.now metres.now seconds.now }
 {
     if bad_lists(lengths, metres, seconds) {
-        return Opening::Refused(Refusal::RoadLists);
+        return Err(Refusal::RoadLists);
     }
     if above_limit(seconds) {
-        return Opening::Refused(Refusal::Seconds);
+        return Err(Refusal::Seconds);
     }
     if without_time(metres, seconds) {
-        return Opening::Refused(Refusal::NoTime);
+        return Err(Refusal::NoTime);
     }
-    let best = fastest_road(lengths, metres, seconds);
-    match best {
-        Fastest::NoRoad => Opening::Refused(Refusal::AllIdle),
-        Fastest::Road(k, _) => Opening::Crusher(k),
+    match fastest_road(lengths, metres, seconds) {
+        None => Err(Refusal::AllIdle),
+        Some(fastest) => Ok(fastest.road),
     }
 }

@@ -18,7 +18,7 @@ use Rattle.basics.specs.Lists.{filled}
 use Rattle.basics.proofs.Laws.{and_left, length-filled, get_or-filled, get_or-filled_past, filled_ext, filled-same}
 use Rattle.basics.proofs.Bits.{bit-and, bit-or, bit-xor, one_of}
 use Rattle.sets.proofs.Words.{bit-without, bit_power, bit_high, bit-zero, bit-removed, removed-lt}
-use Rattle.sets.specs.Sets.{Members, rest_of, lowest_only}
+use Rattle.sets.specs.Sets.{Members, IsNext, rest_of}
 
 pub set_below : (set n : ℕ) → set < 2 ^ n → (j : ℕ) → bit set j ≡ true → j < n
 set_below set n below j h = go (dec_lt j n)
@@ -40,10 +40,9 @@ taken_out {left} {p} {left'} some (lowest, is) e =
     let r : left' ≡ bit_xor left (2 ^ p) = e ∙ ap₂ (λ (b : Bool) (i : ℕ). cond b 0 (bit_xor left (2 ^ i))) (ne_eqb left 0 some) (sym lowest) in
     record { below = (is some).0; held = (is some).1; rest = r; less = rw r (removed-lt left p (is some).1) }
 
--- its set
-pub own_out : {left p own : ℕ} → (left ≡ 0 → ⊥) → p ≡ count_trailing_zeros 32 left → own ≡ lowest_only left → own ≡ 2 ^ p
-unfolding lowest_only
-own_out {left} {p} some lowest e = e ∙ ap₂ (λ (b : Bool) (i : ℕ). cond b 0 (2 ^ i)) (ne_eqb left 0 some) (sym lowest)
+-- so it is where an iterator gives it
+pub next_out : {left p left' : ℕ} → IsNext left p left' → TakenOut left p left'
+next_out n = taken_out n.some (n.lowest, λ some. (n.below, n.held)) n.rest
 
 -- the set of one truck
 pub only_is : (i : ℕ) → i < 32 → 2 ^ i % 2 ^ 32 ≡ 2 ^ i

@@ -12,8 +12,8 @@ use lib.Count.{ones, ones_cat}
 use lib.Pow.{pow_pos, pow-lt}
 use Rattle.basics.specs.Bits.{digit, bit}
 use Rattle.basics.proofs.Bits.{bit-and, bit-or, bit-xor, one_of}
-use Rattle.bitreader.specs.Bits.{mirrored, row_at}
-use Rattle.bitreader.proofs.Digits.{mirrored-lt, mirrored-digit, mirrored-add, same_digits}
+use Rattle.bitreader.specs.Bits.{mirrored}
+use Rattle.bitreader.proofs.Digits.{mirrored-lt, mirrored-digit, mirrored-add, same_digits, mirrored_one}
 use Rattle.sets.proofs.Words.{bit_power, bit-zero, same_bits, no_bits}
 
 pub mirror_bit : (k v j : ℕ) → j < k → bit (mirrored k v) j ≡ bit v (k - suc j)
@@ -71,10 +71,6 @@ mirror_zero k v h = ap (eqb (mirrored k v)) (sym none) ∙ mirror_eq k v 0 h (po
     none : mirrored k 0 ≡ 0
     none = no_bits (mirrored k 0) k (mirrored-lt k 0) (λ j l. mirror_bit k 0 j l ∙ bit-zero (k - suc j))
 
-mirrored-one : (d : ℕ) → mirrored 1 d ≡ d % 2
-unfolding mirrored row_at
-mirrored-one d = omega arith
-
 -- the lowest bit becomes the highest, and is counted with the rest
 pub mirror_ones : (k v : ℕ) → v < 2 ^ k → ones (mirrored k v) ≡ ones v
 mirror_ones zero v h = ap ones (let e : mirrored 0 v ≡ v = omega (arith, mirrored-lt 0 v) in e)
@@ -82,7 +78,7 @@ mirror_ones (suc k) v h =
     ap (λ (n : ℕ). ones (mirrored n v)) (let e : suc k ≡ k + 1 = omega arith in e)
     ∙ ap ones (mirrored-add k 1 v ∙ add_comm (mirrored k (v / 2)) (mirrored 1 (v % 2) * 2 ^ k))
     ∙ ones_cat k (mirrored 1 (v % 2)) (mirrored k (v / 2)) (mirrored-lt k (v / 2))
-    ∙ ap₂ (λ (a b : ℕ). ones a + b) (mirrored-one (v % 2)) (mirror_ones k (v / 2) (omega (arith, pow-suc 2 k)))
+    ∙ ap₂ (λ (a b : ℕ). ones a + b) (mirrored_one (v % 2)) (mirror_ones k (v / 2) (omega (arith, pow-suc 2 k)))
     ∙ add_comm (ones (v % 2 % 2)) (ones (v / 2))
     ∙ sym (ones_cat 1 (v / 2) (v % 2 % 2) (omega arith))
     ∙ ap ones (let e : v / 2 * 2 + v % 2 % 2 ≡ v = omega arith in e)

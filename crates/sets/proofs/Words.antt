@@ -8,15 +8,17 @@ use native.Mathlib.Decide.{dec_lt, ℕ_discrete}
 use native.Mathlib.Omega.{arith}
 use borrow.Author.Tests.{eq-eqb, ne_eqb}
 use lib.Dec.{eqb, lit<}
-use lib.Bits.{bit_and, bit_xor, differ, and_step, xor_step, xor_add_and, and_le_r, and_self, xor_zero_r}
+use lib.Bits.{bit_and, bit_xor, differ, and_step, xor_step, xor_add_and, and_le_r, and_comm, and_self, xor_zero_r}
 use lib.Count.{ones, ones_cat, ones-ones, count_trailing_zeros, under}
 use lib.Pow.{pow_pos, pow_mono, pow-lt, pow-add, shl-shr, shr-shr, split, high, low}
 use lib.ListN.{length, length-append}
+use Rattle.std.proofs.lemmas.Nat.{and_assoc, and-not}
 use Rattle.basics.specs.Bits.{digit, bit}
 use Rattle.basics.specs.Lists.{who}
 use Rattle.basics.proofs.Bits.{digits, bit-and, one_of, bit-xor}
 use Rattle.basics.proofs.Laws.{who_ext}
 use Rattle.bitreader.proofs.Digits.{digit_lt, digit-mod, same_digits}
+use Rattle.sets.specs.Sets.{without, rest_of}
 
 pub positive : (n : ℕ) → (n ≡ 0 → ⊥) → 0 < n
 positive zero h = absurd (h refl)
@@ -66,6 +68,12 @@ bit-zero j = bit_high 0 0 j (lit< tt) (omega arith)
 pub no_bits : (w k : ℕ) → w < 2 ^ k → ((j : ℕ) → j < k → bit w j ≡ false) → w ≡ 0
 no_bits w k p h = same_bits w 0 k p (pow_pos k) (λ j l. h j l ∙ sym (bit-zero j))
 
+-- a word of 32 bits and the bits that another lacks
+pub and_not : (a b : ℕ) → a < 2 ^ 32 → b < 2 ^ 32 → bit_and a (2 ^ 32 - 1 - b) ≡ without a b
+and_not a b h l =
+    omega
+    (arith, and_comm a (2 ^ 32 - 1 - b), and-not 32 b a l h, and_comm b a, xor_add_and a (bit_and a b), sym (and_assoc b a a) ∙ ap (λ (x : ℕ). bit_and x b) (and_self a))
+
 -- a word that is not 0 has a member, and this is one
 pub trailing_bit : (k w : ℕ) → 0 < w → w < 2 ^ k → (count_trailing_zeros k w < k) × (bit w (count_trailing_zeros k w) ≡ true)
 unfolding count_trailing_zeros
@@ -111,6 +119,14 @@ trailing_rest (suc k) w p h = go (w % 2) refl (trailing_rest k (w / 2))
         (ap (bit_and (w / 2)) (let s : (w - 1) / 2 ≡ w / 2 = omega arith in s) ∙ and_self (w / 2))
         (let s : min (w % 2) ((w - 1) % 2) ≡ 0 = omega arith in s)
         ∙ sym (xor_step w 1 ∙ ap₂ (λ (x y : ℕ). x * 2 + y) (xor_zero_r (w / 2)) (ap₂ differ one refl))
+
+-- the same where the number below it wraps at 0
+pub rest_wrapped : (w : ℕ) → w < 2 ^ 32 → bit_and w ((w + (2 ^ 32 - 1)) % 2 ^ 32) ≡ rest_of w
+unfolding rest_of
+rest_wrapped zero h = refl
+rest_wrapped (suc w) h =
+    rw (ne_eqb (suc w) 0 (λ z. omega arith))
+    (ap (bit_and (suc w)) (let e : (suc w + (2 ^ 32 - 1)) % 2 ^ 32 ≡ suc w - 1 = omega arith in e) ∙ trailing_rest 32 (suc w) (omega arith) h)
 
 -- a member is taken out
 pub bit-removed : (w i j : ℕ) → bit w i ≡ true → bit (bit_xor w (2 ^ i)) j ≡ (bit w j && not (eqb i j))

@@ -1,5 +1,5 @@
 -- Words as sets of trucks: bit j says whether truck j is in the set.
-use Rattle.std.specs.Prelude.{ℕ, ◌<◌, ◌^◌, ◌≡◌, Bool, cond, eqb}
+use Rattle.std.specs.Prelude.{ℕ, ◌<◌, ◌^◌, ◌≡◌, Bool, true, cond, eqb}
 use Rattle.std.specs.Int.Bits.{bit_and, bit_xor}
 use Rattle.std.specs.Int.Count.{count_trailing_zeros}
 use Rattle.basics.specs.Bits.{bit}
@@ -20,3 +20,11 @@ rest_of set = cond (eqb set 0) 0 (bit_xor set (2 ^ count_trailing_zeros 32 set))
 -- the set of the lowest truck of a set
 unfoldable pub lowest_only : ℕ → ℕ
 lowest_only set = cond (eqb set 0) 0 (2 ^ count_trailing_zeros 32 set)
+
+-- p is the lowest truck of the set left, and left' holds the others
+pub record IsNext (left p left' : ℕ) : Type 0 where
+  pub some : left ≡ 0 → ⊥
+  pub lowest : p ≡ count_trailing_zeros 32 left
+  pub below : p < 32
+  pub held : bit left p ≡ true
+  pub rest : left' ≡ rest_of left

@@ -2,7 +2,7 @@
 #![tactic(auto)]
 
 ghost use Rattle.std.specs.Prelude.{cond, ◌≡◌, min};
-ghost use Rattle.protocol.specs.Rules.{runs, vetoes, is_one, is_several, counted, stops, proposed, vetoed, decides};
+ghost use Rattle.protocol.specs.Rules.{runs, vetoes, counted, stops, proposed, vetoed, decides};
 ghost use Rattle.protocol.specs.Six.{stops_six, after_prepare, after_bit, accepts, after_accept};
 ghost use Rattle.truck.specs.Events.{adds, happened, turned, updated_first};
 
@@ -48,32 +48,17 @@ pub enum Event {
 pub fn runs(t: Truck) -> bool
     ensures { result ≡ runs t }
 {
-    let state = t.state;
-    match state {
-        State::Running => true,
-        State::Stopped(_) => false,
-        State::Decided(_) => false,
-    }
-}
-
-fn is_several(heard: Heard) -> bool
-    ensures { result ≡ is_several heard }
-{
-    match heard {
-        Heard::Nothing => false,
-        Heard::One => false,
-        Heard::Several => true,
-    }
+    matches!(t.state, State::Running)
 }
 
 // What it heard in a proposal round makes the truck veto in the next.
 pub fn vetoes(t: Truck) -> bool
     ensures { result ≡ vetoes t }
 {
-    let heard = t.heard;
-    t.mark | is_several(heard)
+    t.mark | (t.heard == Heard::Several)
 }
 
+// A stop forgets other things in the two cycles, so each has a function of its own.
 fn after_stop(t: Truck, round: u16) -> Truck
     ensures { result ≡ stops round t }
 {
@@ -89,7 +74,7 @@ fn after_stop(t: Truck, round: u16) -> Truck
 fn count(sends: bool, c: u8) -> u8
     ensures { result ≡ counted (adds sends c) c }
 {
-    if sends & (c < 255) { c + 1 } else { c }
+    if sends { c.saturating_add(1) } else { c }
 }
 
 // The estimate after a round for proposals: with a mark the truck keeps its own.
@@ -104,7 +89,7 @@ fn after_proposals(t: Truck, sends: bool, mark: bool, heard: Heard, least: u8) -
 {
     let sent = Sent {
         proposals: count(sends, t.sent.proposals),
-        vetoes: t.sent.vetoes,
+        ..t.sent
     };
     Truck {
         estimate: estimate_after(t, mark, least),
@@ -115,46 +100,31 @@ fn after_proposals(t: Truck, sends: bool, mark: bool, heard: Heard, least: u8) -
     }
 }
 
-fn is_one(heard: Heard) -> bool
-    ensures { result ≡ is_one heard }
-{
-    match heard {
-        Heard::Nothing => false,
-        Heard::One => true,
-        Heard::Several => false,
-    }
-}
-
 // Whether a truck decides after a veto round.
 fn decides(t: Truck, mark: bool, veto: bool) -> bool
     ensures { result ≡ decides mark veto t }
 {
-    let heard = t.heard;
-    !veto & !mark & is_one(heard)
+    !veto & !mark & (t.heard == Heard::One)
 }
 
 fn after_vetoes(t: Truck, round: u16, sends: bool, mark: bool, veto: bool) -> Truck
     ensures { result ≡ vetoed round (adds sends t.sent.vetoes) mark veto t }
 {
-    let sent = Sent {
-        proposals: t.sent.proposals,
-        vetoes: count(sends, t.sent.vetoes),
-    };
-    if decides(t, mark, veto) {
-        Truck {
-            mark: false,
-            heard: Heard::Nothing,
-            state: State::Decided(round),
-            sent,
-            ..t
-        }
+    let state = if decides(t, mark, veto) {
+        State::Decided(round)
     } else {
-        Truck {
-            mark: false,
-            heard: Heard::Nothing,
-            sent,
-            ..t
-        }
+        t.state
+    };
+    let sent = Sent {
+        vetoes: count(sends, t.sent.vetoes),
+        ..t.sent
+    };
+    Truck {
+        mark: false,
+        heard: Heard::Nothing,
+        state,
+        sent,
+        ..t
     }
 }
 
@@ -230,11 +200,9 @@ fn after_event(t: Truck, round: u16, event: Event) -> Truck
 pub fn updated(t: Truck, round: u16, event: Event) -> Truck
     ensures { result ≡ turned round event t }
 {
-    let state = t.state;
-    match state {
+    match t.state {
         State::Running => after_event(t, round, event),
-        State::Stopped(_) => t,
-        State::Decided(_) => t,
+        State::Stopped(_) | State::Decided(_) => t,
     }
 }
 
@@ -250,11 +218,8 @@ pub fn update(t: &mut Truck, round: u16, event: Event)
 pub fn update_first(mut f: Fleet, n: usize, round: u16, events: [Event; 32]) -> Fleet
     ensures { result ≡ updated_first f (min n 32) round events }
 {
-    let end = if n < 32 { n } else { 32 };
-    let mut i = 0;
-    while i < end {
+    for i in 0..n.min(32) {
         update(&mut f.trucks[i], round, events[i]);
-        i += 1;
     }
     f
 }

@@ -15,9 +15,6 @@ returns-then-s-b c =
     let place : ℕ = 7 - a.at % 8 in
     sym (ap (λ (x : ℕ). x / 2 ^ place % 2) (get_or-eq_default a.s.now 0 c.if-s-b.true) ∙ ap (λ (x : ℕ). x % 2) (zero-div (2 ^ place)))
 
-pub overflow_cast-result : goal.overflow_cast-result
-overflow_cast-result c = omega (arith, c.type_inv.s (c.args.at / 8))
-
 pub returns : goal.returns
 returns c =
     let a = c.args in

@@ -11,19 +11,19 @@ pub returns-then-w-eq1 : goal.returns-then-w-eq1
 returns-then-w-eq1 c =
     let a = c.args in
     let f : ℕ → ℕ = bit_at a.s.now in
-    c.bit_at.ensures ∙ sym (num_at-one f a.at) ∙ ap (num_at f a.at) (let o : 1 ≡ c.bits_read-w.result = omega arith in o) ∙ ap (num_at f a.at) c.bits_read-w.ensures
+    c.bit_at.ensures ∙ sym (num_at-one f a.at) ∙ ap (num_at f a.at) (let o : 1 ≡ c.min-w.result = omega arith in o) ∙ ap (num_at f a.at) c.min-w.ensures
 
 pub overflow_cast-result : goal.overflow_cast-result
 overflow_cast-result c =
     let a = c.args in
     let all = c.bits_32 in
-    omega (arith, all.ensures, div-le_self all.result (2 ^ (32 - c.bits_read-w.result)), num_at-lt (bit_at a.s.now) (bit_at_lt a.s.now) a.at 32)
+    omega (arith, all.ensures, div-le_self all.result (2 ^ (32 - c.min-w.result)), num_at-lt (bit_at a.s.now) (bit_at_lt a.s.now) a.at 32)
 
 pub returns : goal.returns
 returns c =
     let a = c.args in
     let f : ℕ → ℕ = bit_at a.s.now in
-    let w = c.bits_read-w in
+    let w = c.min-w in
     ap (λ (x : ℕ). x / 2 ^ (32 - w.result)) c.bits_32.ensures
     ∙ num_at-first f (bit_at_lt a.s.now) a.at w.result 32 (omega (arith, w.ensures))
     ∙ ap (num_at f a.at) w.ensures

@@ -1,10 +1,12 @@
--- `eight_at` meets its contract: the two halves joined are the number that the eight bytes make.
-use Rattle.bitreader.proofs.Ways.{bytes_from_eight}
+-- `eight_at` meets its contract: the library's sum of the bytes is the number that they make.
+use mathlib.Core.Path.{ap}
+use Prim.Native.Nat.{ℕ}
+use native.Mathlib.Nat.{add-zero}
+use native.Mathlib.Omega.{arith}
+use lib.ListN.{get_or}
+use Rattle.bitreader.specs.Ways.{bytes_from}
 use Rattle.bitreader.proofs.eight_at.Goals as goal
 
 pub returns : goal.returns
-returns c =
-    let a = c.args in
-    let x = c.four-high in
-    let y = c.four-low in
-    bytes_from_eight a.s.now a.b x.result y.result x.ensures y.ensures
+unfolding bytes_from
+returns c = omega (arith, ap (λ (i : ℕ). get_or c.args.s.now i 0) (add-zero c.args.b))

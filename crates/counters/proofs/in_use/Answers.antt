@@ -1,52 +1,16 @@
--- `in_use` meets its contract: the words passed so far are 0.
-use mathlib.Core.Path.{◌≡◌, refl, ap, sym, ◌∙◌}
-use mathlib.Core.Bool.{Bool, cond}
-use mathlib.Core.List.{List}
-use Prim.Native.Nat.{ℕ, zero, suc, ◌-◌, ◌<◌}
-use native.Mathlib.Omega.{arith}
-use borrow.Author.Rules.{rules}
-use borrow.Author.Tests.{eq-eqb, ne_eqb}
-use lib.ListN.{get_or}
+-- `in_use` meets its contract: the words past the last that isn't 0 are 0.
+use Rattle.std.proofs.Common.{◌≡◌, ◌≢◌, ℕ, ◌+◌, ◌<◌, Option, Some, None, MatchOption, List, get_or, sym, ◌∙◌, rules, add-one}
+use Rattle.std.proofs.lemmas.Grind.{common_steps}
 use Rattle.counters.specs.Counters.{in_use}
+use Rattle.counters.proofs.Counts.{in_use-last, in_use-none}
 use Rattle.counters.proofs.in_use.Goals as goal
 
--- by the last of the first m words
-used : (words : List ℕ) (m : ℕ) → 0 < m → (get_or words (m - 1) 0 ≡ 0 → ⊥) → m ≡ in_use words m
-unfolding in_use
-used words zero l h = absurd (omega arith)
-used words (suc m) l h =
-    sym (ap (λ (b : Bool). cond b (in_use words m) (suc m)) (ne_eqb (get_or words m 0) 0 (λ e. h (ap (λ (i : ℕ). get_or words i 0) (let z : suc m - 1 ≡ m = omega arith in z) ∙ e))))
-
-unused : (words : List ℕ) (m : ℕ) → 0 < m → get_or words (m - 1) 0 ≡ 0 → in_use words (m - 1) ≡ in_use words m
-unfolding in_use
-unused words zero l h = absurd (omega arith)
-unused words (suc m) l h =
-    let z : suc m - 1 ≡ m = omega arith in
-    ap (in_use words) z
-    ∙ sym (ap (λ (b : Bool). cond b (in_use words m) (suc m)) (eq-eqb (get_or words m 0) 0 (sym (ap (λ (i : ℕ). get_or words i 0) z) ∙ h)))
-
-pub loop-m-init : goal.loop-m-init
-loop-m-init c = (search rules, refl)
-
-pub returns-then-words-m-ne0 : goal.returns-then-words-m-ne0
-returns-then-words-m-ne0 c =
-    let l = c.loop-m in
-    used c.args.words.now l.m c.loop-m-test.true c.if-words-m-ne0.true ∙ l.invariant.1
-
-pub loop-m-preserved : goal.loop-m-preserved
-loop-m-preserved c =
-    let l = c.loop-m in
-    (omega (arith, l.invariant.0), unused c.args.words.now l.m c.loop-m-test.true c.if-words-m-ne0.false ∙ l.invariant.1)
+-- one more than the place of that word, or 0 where there is none
+counted : (words : List ℕ) (n : ℕ) (r : Option ℕ)
+    → MatchOption r ((k : ℕ) → k < 8 → get_or words k 0 ≡ 0) (λ i. (i < 8) × (get_or words i 0 ≢ 0) × ((k : ℕ) → i < k → k < 8 → get_or words k 0 ≡ 0))
+    → MatchOption r (n ≡ 0) (λ i. n ≡ i + 1) → n ≡ in_use words 8
+counted words n None h e = e ∙ sym (in_use-none words 8 h)
+counted words n (Some i) h e = e ∙ add-one i ∙ sym (in_use-last words i 8 h.0 h.1 h.2)
 
 pub returns : goal.returns
-unfolding in_use
-returns c =
-    let l = c.loop-m in
-    let a = c.args in
-    ap (in_use a.words.now) (let z : 0 ≡ l.m = omega (arith, c.loop-m-test.false) in z) ∙ l.invariant.1
-
-pub bounds-words-m : goal.bounds-words-m
-bounds-words-m c = omega (arith, c.loop-m.invariant.0, c.loop-m-test.true)
-
-pub loop-m-smaller : goal.loop-m-smaller
-loop-m-smaller c = omega (arith, c.loop-m-test.true)
+returns c = counted c.args.words.now c.map_or.result c.rposition.result (search (rules, common_steps)) (search rules)

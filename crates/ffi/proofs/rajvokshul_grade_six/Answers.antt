@@ -3,4 +3,4 @@ use Rattle.ffi.proofs.Answers.{grade_put}
 use Rattle.ffi.proofs.rajvokshul_grade_six.Goals as goal
 
 pub returns : goal.returns
-returns c = search grade_put
+returns c = rw c.outcome_number.ensures (search grade_put)

@@ -2,8 +2,8 @@
 use Rattle.ffi.proofs.Answers.{read_call_0, read_call_refused}
 use Rattle.ffi.proofs.rajvokshul_read.Goals as goal
 
-pub returns-in-Plain : goal.returns-in-Plain
-returns-in-Plain c = search read_call_0
+pub returns-in-Ok : goal.returns-in-Ok
+returns-in-Ok c = search read_call_0
 
-pub returns-in-Refused : goal.returns-in-Refused
-returns-in-Refused c = search read_call_refused
+pub returns-in-Err : goal.returns-in-Err
+returns-in-Err c = search read_call_refused

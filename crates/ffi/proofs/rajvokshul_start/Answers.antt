@@ -3,7 +3,7 @@ use Rattle.ffi.proofs.Records.{start_range, start_stored}
 use Rattle.ffi.proofs.rajvokshul_start.Goals as goal
 
 pub returns : goal.returns
-returns c = search start_stored
+returns c = rw c.outcome_number.ensures (search start_stored)
 
 pub store-requires : goal.store-requires
 store-requires c = search start_range

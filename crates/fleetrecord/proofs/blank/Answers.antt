@@ -6,4 +6,4 @@ use Rattle.fleetrecord.proofs.blank.Goals as goal
 
 pub returns : goal.returns
 unfolding blank opened_in tab tab_from
-returns c = rw c.opened-t.ensures
+returns c = rw c.opened.ensures

@@ -1,81 +1,79 @@
 -- `check_own` meets its contract: no own bit of the rounds that the loop has passed is 1.
-use mathlib.Core.Path.{◌≡◌, refl, sym, ◌∙◌}
-use Prim.Native.Nat.{◌≤◌, ◌+◌}
-use native.Mathlib.Omega.{arith}
-use lib.ListN.{length, get_or}
+use Rattle.std.proofs.Common.{◌≡◌, true, false, ◌+◌, ◌*◌, ◌/◌, ℕ, List, length, drop, get_or, sym, ap, subst, ◌∙◌, arith, rules}
+use Rattle.std.specs.Slice.Iter.{chunks_exact_rest, chunks_exact_size}
+use Rattle.std.specs.Iterator.Adapters.{enumerate_source, enumerate_count}
 use Rattle.basics.proofs.Laws.{first-le}
-use Rattle.recording.specs.Checks.{own_in}
+use Rattle.recording.specs.Checks.{own_round}
 use Rattle.recording.proofs.OwnLoss.{own_begins, own_passes, own_found, own-ends}
-use Rattle.plain.proofs.Outcomes.{base_fits}
-use Rattle.plain.proofs.Tests.{own_plain, plain_looked, plain_searched, words_small}
+use Rattle.plain.proofs.Chunks.{Taken, rows, rows_count, rest-there, round_fits, round_counted, rounds_passed}
+use Rattle.plain.specs.Steps.{own_in_rows}
+use Rattle.plain.proofs.Tests.{plain_looked, plain_searched}
 use Rattle.plain.proofs.check_own.Goals as goal
-use Rattle.plain.proofs.check_own.Goals.{After-own_any}
+use Rattle.plain.proofs.check_own.Goals.{After-own_truck}
 
--- what the look at a round says
-looked : (c : After-own_any)
-    → own_in (λ w. get_or c.args.words.now w 0) c.args.n c.loop-r.r ≡ c.own_any.result
-looked c =
-    let k = c in
-    let a = k.args in
-    let l = c.loop-r in
-    let held = c.trucks_held-held in
-    plain_looked a.words.now a.n held.result l.r l.base (λ i. omega (arith, k.type_inv.words i)) held.ensures l.invariant.1 c.own_any.result c.own_any.ensures
+-- the round that the turn took off the words
+taken : (c : After-own_truck) → Taken c.args.words.now c.args.n (enumerate_count c.loop-r.r-iterator) c.in-Some.round.now (chunks_exact_rest (enumerate_source c.next.new.self))
+taken c =
+    let step = c.in-Some.ensures.steps in
+    let i = c.loop-r.invariant in
+    record { front = sym i.3 ∙ step.0.1.0; whole = step.0.1.1 ∙ i.2 }
 
 pub loop-r-init : goal.loop-r-init
 loop-r-init c =
-    let a = c.args in
-    (omega arith, omega arith, own_begins (λ w. get_or a.words.now w 0) a.n)
+    let n : ℕ = c.args.n in
+    let made = c.into_iter-r-iterator.ensures.into_iter_gives in
+    let source = ap enumerate_source made ∙ c.enumerate-r-items.ensures.source in
+    let count = ap enumerate_count made ∙ c.enumerate-r-items.ensures.count in
+    let none : enumerate_count c.into_iter-r-iterator.result * (3 + n) ≡ 0 = omega (arith, ap (λ (k : ℕ). k * (3 + n)) count) in (
+      search rules,
+      search rules,
+      ap chunks_exact_size source ∙ c.chunks_exact.ensures.size,
+      ap chunks_exact_rest source ∙ c.chunks_exact.ensures.rest ∙ ap (λ (k : ℕ). drop k c.args.words.now) (sym none),
+      omega (arith, none),
+      subst (λ (q : ℕ). own_round (λ (w : ℕ). get_or c.args.words.now w 0) n q ≡ q) (sym count) (own_begins (λ (w : ℕ). get_or c.args.words.now w 0) n),
+    )
 
-pub own_any-requires : goal.own_any-requires
-own_any-requires c =
-    let s = c in
-    let l = c.loop-r in
-    let f : l.base + (3 + s.args.n) ≤ length s.args.words.now
-    = base_fits s.args.n s.args.rounds l.r l.base (length s.args.words.now) c.loop-r-test.true l.invariant.1 s.requires.0 in
-    (omega (arith, c.trucks_held-held.ensures), (omega (arith, s.requires.0, words_small s.args.n s.args.rounds s.ranges.n.fits s.ranges.rounds.fits), omega (arith, c.trucks_held-held.ensures)))
+pub overflow_cast-result-in-Some-own_truck : goal.overflow_cast-result-in-Some-own_truck
+overflow_cast-result-in-Some-own_truck c =
+    let t = taken (goal.at.overflow_cast-result-in-Some-own_truck c).After-own_truck in
+    let part : List ℕ = rows c.in-Some.round.now c.min-held.result in
+    omega (arith, c.min-held.ensures, c.in-Some-own_truck.ensures.1, first-le (own_in_rows part) (length part), rows_count t c.min-held.result (omega (arith, c.min-held.ensures)))
 
-pub own_truck-requires : goal.own_truck-requires
-own_truck-requires c =
-    let s = c in
-    let l = c.loop-r in
-    let f : l.base + (3 + s.args.n) ≤ length s.args.words.now
-    = base_fits s.args.n s.args.rounds l.r l.base (length s.args.words.now) c.loop-r-test.true l.invariant.1 s.requires.0 in
-    let held = c.trucks_held-held.ensures in
-    (omega (arith, held), (omega (arith, s.requires.0, words_small s.args.n s.args.rounds s.ranges.n.fits s.ranges.rounds.fits), omega (arith, held)))
-
-pub overflow_cast-result : goal.overflow_cast-result
-overflow_cast-result c =
-    let a = c.args in
-    let l = c.loop-r in
-    let held = c.trucks_held-held in
-    omega (arith, c.own_truck.ensures, held.ensures, first-le (own_plain a.words.now l.base) held.result)
-
-pub returns-then-own_any : goal.returns-then-own_any
-returns-then-own_any c =
-    let s = c in
-    let k = c in
-    let l = c.loop-r in
-    let a = s.args in
-    let held = c.trucks_held-held in
-    own_found (λ w. get_or a.words.now w 0) a.n a.k a.rounds l.r (a.k + l.r) c.own_truck.result (omega arith) l.invariant.2 (looked (goal.at.returns-then-own_any c).After-own_any ∙ c.if-own_any.true)
-    (plain_searched a.words.now a.n held.result l.r l.base (λ i. omega (arith, k.type_inv.words i)) held.ensures l.invariant.1 c.own_truck.result
-    (sym c.own_any.ensures ∙ c.if-own_any.true) c.own_truck.ensures)
-    refl
-
-pub overflow_add-base-in-loop-r : goal.overflow_add-base-in-loop-r
-overflow_add-base-in-loop-r c =
-    let s = c in
-    let l = c.loop-r in
-    omega
-    (arith, s.requires.0, words_small s.args.n s.args.rounds s.ranges.n.fits s.ranges.rounds.fits, base_fits s.args.n s.args.rounds l.r l.base (length s.args.words.now) c.loop-r-test.true l.invariant.1 s.requires.0)
+pub returns-in-Some-own_truck : goal.returns-in-Some-own_truck
+returns-in-Some-own_truck c =
+    let t = taken (goal.at.returns-in-Some-own_truck c).After-own_truck in
+    let i = c.loop-r.invariant in
+    let words : List ℕ = c.args.words.now in
+    let q : ℕ = enumerate_count c.loop-r.r-iterator in
+    let truck = c.in-Some-own_truck.ensures in
+    own_found (λ (w : ℕ). get_or words w 0) c.args.n c.args.k (length words / (3 + c.args.n)) q (c.args.k + c.in-Some.r) c.in-Some-own_truck.truck
+    (round_counted t) i.5
+    (plain_looked t c.min-held.result (λ k. omega (arith, c.type_inv.words k)) c.min-held.ensures true truck.0)
+    (plain_searched t c.min-held.result (λ k. omega (arith, c.type_inv.words k)) c.min-held.ensures c.in-Some-own_truck.truck truck.0 truck.1)
+    (omega (arith, c.in-Some.ensures.steps.1))
 
 pub loop-r-preserved : goal.loop-r-preserved
 loop-r-preserved c =
-    let a = c.args in
-    let l = c.loop-r in
-    (omega arith, omega (arith, l.invariant.1), own_passes (λ w. get_or a.words.now w 0) a.n l.r l.invariant.2 (looked (goal.at.loop-r-preserved c).After-own_any ∙ c.if-own_any.false))
+    let t = taken (goal.at.loop-r-preserved c).After-own_truck in
+    let step = c.in-Some.ensures.steps in
+    let i = c.loop-r.invariant in
+    let n : ℕ = c.args.n in
+    let word : ℕ → ℕ = λ (w : ℕ). get_or c.args.words.now w 0 in
+    let next = step.2 in (
+      search rules,
+      search rules,
+      step.0.0 ∙ i.2,
+      rest-there t ∙ ap (λ (k : ℕ). drop (k * (3 + n)) c.args.words.now) (sym next),
+      omega (arith, round_fits t, ap (λ (k : ℕ). k * (3 + n)) next),
+      subst (λ (q : ℕ). own_round word n q ≡ q) (sym next)
+          (own_passes word n (enumerate_count c.loop-r.r-iterator) i.5 (plain_looked t c.min-held.result (λ k. omega (arith, c.type_inv.words k)) c.min-held.ensures false c.in_default.ensures)),
+    )
 
 pub returns : goal.returns
 returns c =
-    let a = c.args in
-    own-ends (λ w. get_or a.words.now w 0) a.n a.k a.rounds c.loop-r.r (omega arith) c.loop-r.invariant.2
+    let step = c.in-None.ensures.steps in
+    let i = c.loop-r.invariant in
+    let words : List ℕ = c.args.words.now in
+    let q : ℕ = enumerate_count c.loop-r.r-iterator in
+    own-ends (λ (w : ℕ). get_or words w 0) c.args.n c.args.k (length words / (3 + c.args.n)) q
+    (rounds_passed words c.args.n q i.4 (omega (arith, step.0.1.0, i.2, ap length i.3))) i.5

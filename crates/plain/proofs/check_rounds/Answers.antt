@@ -1,6 +1,6 @@
 -- `check_rounds` meets its contract: one law for each return.
-use borrow.Author.Rules.{rules}
-use Rattle.plain.proofs.Outcomes.{rounds_8, words-counted, rounds_rest}
+use Rattle.std.proofs.Common.{arith}
+use Rattle.plain.proofs.Outcomes.{rounds_8, rounds-counted, rounds_rest}
 use Rattle.plain.proofs.check_rounds.Goals as goal
 
 pub returns-then-bad_words : goal.returns-then-bad_words
@@ -10,4 +10,6 @@ pub returns : goal.returns
 returns c = search rounds_rest
 
 pub check_own-requires : goal.check_own-requires
-check_own-requires c = search (words-counted, rules)
+check_own-requires c =
+    let a = c.args in
+    omega (arith, rounds-counted a.n a.k a.rounds a.words.now c.bad_words.result c.bad_words.ensures c.if-bad_words.false, c.requires)

@@ -4,8 +4,5 @@ use Rattle.plain.proofs.fill_words.Goals as goal
 
 pub returns : goal.returns
 returns c =
-    let start = c in
-    let a = start.args in
-    let f = c.gather_words in
-    let g = c.turn_words in
-    turned-all a.s.now a.trucks start.requires.0 start.requires.1.0 a.words.now f.new.words g.new.words a.count f.ensures g.ensures
+    let a = c.args in
+    turned-all a.s.now a.trucks c.requires.0 c.requires.1.0 a.words.now c.gather_words.new.words c.turn_words.new.words c.gather_words.ensures c.turn_words.ensures

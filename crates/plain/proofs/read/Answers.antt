@@ -1,21 +1,21 @@
 -- `read` meets its contract: one law for each return.
-use native.Mathlib.Omega.{arith}
+use mathlib.Core.Path.{◌≡◌}
+use borrow.Author.Rules.{rules}
+use Rattle.std.specs.Prelude.{Ok, Err}
 use Rattle.recording.proofs.Fronts.{counts-trucks, counts_rounds}
-use Rattle.plain.proofs.Answers.{read-refused, read-most, read_9, words-room, read_0}
-use Rattle.plain.proofs.Tests.{words_small}
+use Rattle.plain.proofs.Answers.{read-refused, read-most, read_9, lent-fits, read_0}
 use Rattle.plain.proofs.read.Goals as goal
 
-pub overflow_mul-count : goal.overflow_mul-count
-overflow_mul-count c = omega (arith, words_small c.read_counts-counts.result.trucks c.read_counts-counts.result.rounds (omega arith) (omega arith))
+pub returns-in_err-check : goal.returns-in_err-check
+returns-in_err-check c =
+    let e : c.from_residual.result ≡ Err c.in_err-check.field-0.0 = search rules in
+    rw e (search (read-refused, c.in_err-check.was))
 
 pub returns-then-openings-n : goal.returns-then-openings-n
-returns-then-openings-n c = search (read_9, counts-trucks, counts_rounds)
+returns-then-openings-n c = let h : c.check.result ≡ Ok tt = c.in_ok-check.was in search (read_9, counts-trucks, counts_rounds)
 
-pub returns-in-Refused : goal.returns-in-Refused
-returns-in-Refused c = search read-refused
-
-pub returns-else-openings-n : goal.returns-else-openings-n
-returns-else-openings-n c = search (read_0, counts-trucks, counts_rounds)
+pub returns : goal.returns
+returns c = let h : c.check.result ≡ Ok tt = c.in_ok-check.was in search (read_0, counts-trucks, counts_rounds)
 
 pub fill_words-requires : goal.fill_words-requires
-fill_words-requires c = search (counts-trucks, counts_rounds, read-most, words-room, words_small)
+fill_words-requires c = let h : c.check.result ≡ Ok tt = c.in_ok-check.was in search (counts-trucks, counts_rounds, read-most, lent-fits)

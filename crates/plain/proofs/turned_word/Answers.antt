@@ -1,13 +1,8 @@
 -- `turned_word` meets its contract.
 use mathlib.Core.Path.{ap, ◌∙◌}
 use Prim.Native.Nat.{ℕ, ◌%◌, ◌^◌}
-use native.Mathlib.Nat.{mod-le}
-use native.Mathlib.Omega.{arith}
 use Rattle.bitreader.specs.Bits.{mirrored}
 use Rattle.plain.proofs.turned_word.Goals as goal
-
-pub overflow_cast-result : goal.overflow_cast-result
-overflow_cast-result c = omega (arith, c.low_bits.ensures, mod-le c.mirror-all.result (2 ^ c.args.n))
 
 pub returns : goal.returns
 returns c = c.low_bits.ensures ∙ ap (λ (x : ℕ). x % 2 ^ c.args.n) (c.mirror-all.ensures ∙ ap (mirrored 32) c.swap_bytes.ensures)

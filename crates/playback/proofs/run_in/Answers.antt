@@ -5,16 +5,16 @@ use Rattle.refusals.proofs.Outcomes.{then-first}
 use Rattle.protocol.specs.Fleets.{ran_in}
 use Rattle.playback.proofs.run_in.Goals as goal
 
-pub ran-fleet-requires : goal.ran-fleet-requires
+pub invariant_of-frame : goal.invariant_of-frame
 unfolding check_of
-ran-fleet-requires c =
+invariant_of-frame c =
     let s = c.args.s.now in
-    then-first (frame_check s) (own_check s) (sym c.check-outcome.ensures ∙ c.in-Accepted.is)
+    record { good = then-first (frame_check s) (own_check s) (sym c.check.ensures ∙ c.in-Ok.is) }
 
-pub returns-in-Accepted : goal.returns-in-Accepted
+pub returns-in-Ok : goal.returns-in-Ok
 unfolding ran_in
-returns-in-Accepted c = rw (sym c.check-outcome.ensures ∙ c.in-Accepted.is, c.ran-fleet.ensures)
+returns-in-Ok c = rw (sym c.check.ensures ∙ c.in-Ok.is, c.ran.ensures)
 
-pub returns-in-Refused : goal.returns-in-Refused
+pub returns-in-Err : goal.returns-in-Err
 unfolding ran_in
-returns-in-Refused c = c.refused.ensures ∙ rw (sym c.check-outcome.ensures ∙ c.in-Refused.is)
+returns-in-Err c = c.refused.ensures ∙ rw (sym c.check.ensures ∙ c.in-Err.is)

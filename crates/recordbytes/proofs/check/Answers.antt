@@ -5,8 +5,8 @@ use Rattle.recordbytes.proofs.check.Goals as goal
 pub returns-then-bad_trucks : goal.returns-then-bad_trucks
 returns-then-bad_trucks c = search pack_7
 
-pub returns-then-room-lt323 : goal.returns-then-room-lt323
-returns-then-room-lt323 c = search pack_9
+pub returns-then-room-lt-RECORD : goal.returns-then-room-lt-RECORD
+returns-then-room-lt-RECORD c = search pack_9
 
 pub returns : goal.returns
 returns c = search pack_0

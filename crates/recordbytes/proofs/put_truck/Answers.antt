@@ -1,38 +1,18 @@
--- `put_truck` meets its contract.
+-- `put_truck` meets its contract: the loop holds that the bytes passed are in the buffer.
+use mathlib.Core.Path.{◌≡◌, ap, ap₂, ◌∙◌}
+use mathlib.Core.List.{List}
+use Prim.Native.Nat.{ℕ, suc, ◌+◌}
 use native.Mathlib.Omega.{arith}
-use lib.ListN.{length-set}
-use Rattle.recordbytes.proofs.Laws.{truck-put}
+use lib.ListN.{get_or, set, take}
+use Rattle.std.proofs.lemmas.List.Edits.{sets}
+use Rattle.recordbytes.specs.Layout.{truck_bytes}
+use Rattle.recordbytes.proofs.Laws.{sets_more}
 use Rattle.recordbytes.proofs.put_truck.Goals as goal
 
-pub bounds-d-at-2 : goal.bounds-d-at-2
-bounds-d-at-2 c = simp length-set (omega arith)
-
-pub bounds-d-at-3 : goal.bounds-d-at-3
-bounds-d-at-3 c = simp length-set (omega arith)
-
-pub bounds-d-at-4 : goal.bounds-d-at-4
-bounds-d-at-4 c = simp length-set (omega arith)
-
-pub bounds-d-at-5 : goal.bounds-d-at-5
-bounds-d-at-5 c = simp length-set (omega arith)
-
-pub bounds-d-at-6 : goal.bounds-d-at-6
-bounds-d-at-6 c = simp length-set (omega arith)
-
-pub bounds-d-at-7 : goal.bounds-d-at-7
-bounds-d-at-7 c = simp length-set (omega arith)
-
-pub bounds-d-at-8 : goal.bounds-d-at-8
-bounds-d-at-8 c = simp length-set (omega arith)
-
-pub bounds-d-at-9 : goal.bounds-d-at-9
-bounds-d-at-9 c = simp length-set (omega arith)
-
-pub bounds-d-at-10 : goal.bounds-d-at-10
-bounds-d-at-10 c = simp length-set (omega arith)
-
-pub shape_of-d : goal.shape_of-d
-shape_of-d c = simp length-set
-
-pub returns : goal.returns
-returns c = search truck-put
+pub loop-i-preserved : goal.loop-i-preserved
+loop-i-preserved c =
+    let a = c.args in
+    let i = c.loop-i.i in
+    ap₂ (λ (x y : List ℕ). set x (a.at + i) (get_or y i 0)) c.loop-i.invariant c.truck_bytes.ensures
+    ∙ sets_more (truck_bytes a.t) a.d.now a.at i (omega arith)
+    ∙ ap (λ (k : ℕ). sets a.d.now a.at (take k (truck_bytes a.t))) (let e : suc i ≡ i + 1 = omega arith in e)

@@ -1,6 +1,7 @@
 -- `record_of` meets its contract.
-use Rattle.recordbytes.proofs.Laws.{record_is}
+use Rattle.recordbytes.specs.Layout.{record_of_parts}
 use Rattle.recordbytes.proofs.record_of.Goals as goal
 
 pub returns : goal.returns
-returns c = search record_is
+unfolding record_of_parts
+returns c = rw (c.pair.ensures, c.with_trucks.ensures)

@@ -3,4 +3,4 @@ use Rattle.recordcalls.proofs.Records.{copy_put}
 use Rattle.recordcalls.proofs.recordcalls_copy.Goals as goal
 
 pub returns : goal.returns
-returns c = search copy_put
+returns c = rw c.outcome_number.ensures (search copy_put)

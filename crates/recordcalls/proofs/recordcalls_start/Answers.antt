@@ -2,8 +2,8 @@
 use Rattle.recordcalls.proofs.Records.{start-refused, start_0}
 use Rattle.recordcalls.proofs.recordcalls_start.Goals as goal
 
-pub returns-in-Refused : goal.returns-in-Refused
-returns-in-Refused c = search start-refused
+pub returns-in-Err : goal.returns-in-Err
+returns-in-Err c = search start-refused
 
-pub returns-in-Accepted : goal.returns-in-Accepted
-returns-in-Accepted c = search start_0
+pub returns-in-Ok : goal.returns-in-Ok
+returns-in-Ok c = search start_0

@@ -1,86 +1,68 @@
 -- `check_own` meets its contract, by the earliest round in which an own bit is 1.
-use mathlib.Core.Path.{◌≡◌, ◌∙◌}
-use mathlib.Core.Bool.{◌&&◌}
-use Prim.Native.Nat.{ℕ, ◌<◌, ◌+◌, ◌*◌, ◌%◌}
+use mathlib.Core.Path.{◌≡◌, refl, sym, subst}
+use mathlib.Core.Bool.{true, ◌&&◌}
+use Prim.Native.Nat.{ℕ, ◌+◌, ◌%◌, ◌<◌}
+use borrow.Author.Rules.{rules}
 use native.Mathlib.Omega.{arith}
 use borrow.Author.Tests.{eqb-true}
 use lib.Dec.{leb, ltb, eqb}
-use Rattle.basics.proofs.Laws.{and_right, first-le}
-use Rattle.recording.specs.Packed.{bit_at, round_place, word_in, word_place}
-use Rattle.recording.specs.Checks.{own_round}
-use Rattle.recording.proofs.OwnLoss.{own_searched, own_on, own_there, own_found, own-ends}
-use Rattle.recording.proofs.Searches.{own_packed, own-packed}
-use Rattle.recording.proofs.Sizes.{square_small, rounds_within}
+use Rattle.basics.proofs.Laws.{and_right}
+use Rattle.std.specs.Prelude.{Option, Some, None, IsSome, Err}
+use Rattle.recording.specs.Packed.{bit_at, word_in}
+use Rattle.refusals.specs.declared.Refusal.TheVariants.{OwnLoss}
+use Rattle.recording.specs.Checks.{Found, own_in, own_round, own_truck, own_loss_check}
+use Rattle.recording.proofs.OwnLoss.{own_on, own_there, own_found, own-ends, truck_there}
 use Rattle.recording.proofs.check_own.Goals as goal
-use Rattle.recording.proofs.check_own.Goals.{Joined-n-rounds, then-n-rounds, else-n-rounds}
+use Rattle.recording.proofs.check_own.Goals.{Joined-trucks-rounds, then-trucks-rounds, else-trucks-rounds}
 
--- the round that either search came to
-found : (c : Joined-n-rounds)
-    → c.if-n-rounds.r ≡ own_round (word_in (bit_at c.args.s.now) c.args.trucks) c.args.trucks c.args.rounds
-found c = elim c.if-n-rounds.branch [ then-n-rounds w ↦ w.r-is ∙ w.own_round_masked-r.ensures | else-n-rounds w ↦ w.r-is ∙ w.own_round-r.ensures ]
+-- what either search came to
+found : (c : Joined-trucks-rounds)
+    → Found c.if-trucks-rounds.found (own_round (word_in (bit_at c.args.s.now) c.args.trucks) c.args.trucks c.args.rounds) c.args.rounds
+found c =
+    let P : Option ℕ → Type 0 = λ o. Found o (own_round (word_in (bit_at c.args.s.now) c.args.trucks) c.args.trucks c.args.rounds) c.args.rounds in
+    elim c.if-trucks-rounds.branch [
+      | then-trucks-rounds w ↦ subst P (sym w.found-is) w.own_round_masked-found.ensures
+      | else-trucks-rounds w ↦ subst P (sym w.found-is) w.own_round-found.ensures
+    ]
 
--- where it is one of the rounds
-within : (word : ℕ → ℕ) (n rounds r : ℕ) → r ≡ own_round word n rounds → (r ≡ rounds → ⊥) → r < rounds
-within word n rounds r e other = let h = (own_on word n rounds r e).0 in omega arith
+-- a search for a number below m finds it
+is-found : (o : Option ℕ) (k m : ℕ) → Found o k m → k < m → IsSome o
+is-found None k m e l = absurd (omega arith)
+is-found (Some i) k m e l = search rules
 
--- where the first own bit of that round stands
-placed : (n r at : ℕ) → at ≡ word_place n 3 → at + r * (3 * n + n * n) ≡ round_place n r + 3 * n
-placed n r at e = omega arith
+-- in the round that was found a truck has an own bit that is 1
+module _ (word : ℕ → ℕ) (n R r : ℕ) (h : Found (Some r) (own_round word n R) R) where
+  in_round : own_in word n r ≡ true
+  in_round = own_there word n R r (sym h.1) h.0
 
-pub overflow_mul-size-2 : goal.overflow_mul-size-2
-overflow_mul-size-2 c = omega (arith, square_small c.args.trucks (omega arith))
+  named : (round truck : ℕ) → own_truck word n r ≡ truck → round ≡ 1 + r → Err (OwnLoss round truck) ≡ own_loss_check word n 1 R
+  named round truck t e = own_found word n 1 R r round truck h.0 (own_on word n R r (sym h.1)).1 in_round t e
 
-pub overflow_add-size : goal.overflow_add-size
-overflow_add-size c = omega (arith, square_small c.args.trucks (omega arith))
+pub own_round_masked-found-requires : goal.own_round_masked-found-requires
+own_round_masked-found-requires c =
+    let a = c.args in
+    let bits = c.round_bits.result in
+    omega (arith, eqb-true (bits % 8) 0 (and_right (leb 16 a.trucks && ltb 1 a.rounds) (eqb (bits % 8) 0) c.if-trucks-rounds.true))
 
-pub own_round_masked-r-requires : goal.own_round_masked-r-requires
-own_round_masked-r-requires c =
-    let s = c in
-    let n = s.args.trucks in
-    let whole : (3 * n + n * n) % 8 ≡ 0 = eqb-true ((3 * n + n * n) % 8) 0 (and_right (leb 16 n && ltb 1 s.args.rounds) (eqb ((3 * n + n * n) % 8) 0) c.if-n-rounds.true) in
-    (s.requires.0, s.requires.1, c.word_place-place.ensures, whole, s.requires.2)
+pub returns-in_default : goal.returns-in_default
+returns-in_default c =
+    let a = c.args in
+    let h = found (goal.at.returns-in_default c).Joined-trucks-rounds in
+    own-ends (word_in (bit_at a.s.now) a.trucks) a.trucks 1 a.rounds a.rounds refl (subst (λ (o : Option ℕ). Found o (own_round (word_in (bit_at a.s.now) a.trucks) a.trucks a.rounds) a.rounds) c.in_default.is h)
 
-pub own_round-r-requires : goal.own_round-r-requires
-own_round-r-requires c = let s = c in (s.requires.0, s.requires.1, c.word_place-place.ensures, s.requires.2)
-
-pub returns-then-r-rounds : goal.returns-then-r-rounds
-returns-then-r-rounds c =
+pub unwrap-requires : goal.unwrap-requires
+unwrap-requires c =
     let a = c.args in
     let word = word_in (bit_at a.s.now) a.trucks in
-    own-ends word a.trucks 1 a.rounds c.if-n-rounds.r c.if-r-rounds.true (own_on word a.trucks a.rounds c.if-n-rounds.r (found (goal.at.returns-then-r-rounds c).Joined-n-rounds)).1
-
-pub overflow_add-result : goal.overflow_add-result
-overflow_add-result c = omega (arith, within (word_in (bit_at c.args.s.now) c.args.trucks) c.args.trucks c.args.rounds c.if-n-rounds.r (found (goal.at.overflow_add-result c).Joined-n-rounds) c.if-r-rounds.false)
-
-pub overflow_mul-r : goal.overflow_mul-r
-overflow_mul-r c =
-    let a = c.args in
-    omega (arith, rounds_within a.trucks c.if-n-rounds.r (omega arith) (omega (arith, within (word_in (bit_at c.args.s.now) c.args.trucks) c.args.trucks c.args.rounds c.if-n-rounds.r (found (goal.at.overflow_mul-r c).Joined-n-rounds) c.if-r-rounds.false)))
-
-pub overflow_add-place : goal.overflow_add-place
-overflow_add-place c =
-    let a = c.args in
-    omega (arith, c.word_place-place.ensures, rounds_within a.trucks c.if-n-rounds.r (omega arith) (omega (arith, within (word_in (bit_at c.args.s.now) c.args.trucks) c.args.trucks c.args.rounds c.if-n-rounds.r (found (goal.at.overflow_add-place c).Joined-n-rounds) c.if-r-rounds.false)))
-
-pub own_truck-requires : goal.own_truck-requires
-own_truck-requires c =
-    let a = c.args in
-    omega (arith, placed a.trucks c.if-n-rounds.r c.word_place-place.result c.word_place-place.ensures, rounds_within a.trucks c.if-n-rounds.r (omega arith) (omega (arith, within (word_in (bit_at c.args.s.now) c.args.trucks) c.args.trucks c.args.rounds c.if-n-rounds.r (found (goal.at.own_truck-requires c).Joined-n-rounds) c.if-r-rounds.false)))
-
-pub overflow_cast-result : goal.overflow_cast-result
-overflow_cast-result c =
-    let a = c.args in
-    let at = c.word_place-place.result + c.if-n-rounds.r * (3 * a.trucks + a.trucks * a.trucks) in
-    omega (arith, c.own_truck.ensures, first-le (own_packed a.s.now at a.trucks) a.trucks)
+    let h = found (goal.at.unwrap-requires c).Joined-trucks-rounds in
+    let there : Found (Some c.in-Some.r) (own_round word a.trucks a.rounds) a.rounds = rw c.in-Some.is at h in
+    is-found c.own_truck.result _ _ c.own_truck.ensures (truck_there word a.trucks c.in-Some.r (in_round word a.trucks a.rounds c.in-Some.r there))
 
 pub returns : goal.returns
 returns c =
     let a = c.args in
     let word = word_in (bit_at a.s.now) a.trucks in
-    let j = c in
-    let r = j.if-n-rounds.r in
-    let at = c.word_place-place.result + r * (3 * a.trucks + a.trucks * a.trucks) in
-    let l = within word a.trucks a.rounds r (found (goal.at.returns c).Joined-n-rounds) j.if-r-rounds.false in
-    own_found word a.trucks 1 a.rounds r (r + 1) c.own_truck.result l (own_on word a.trucks a.rounds r (found (goal.at.returns c).Joined-n-rounds)).1 (own_there word a.trucks a.rounds r (found (goal.at.returns c).Joined-n-rounds) l)
-    (own_searched word a.trucks r (own_packed a.s.now at a.trucks) (own-packed a.s.now a.trucks r at (placed a.trucks c.if-n-rounds.r c.word_place-place.result c.word_place-place.ensures)) c.own_truck.result c.own_truck.ensures)
-    (omega arith)
+    let h = found (goal.at.returns c).Joined-trucks-rounds in
+    let there : Found (Some c.in-Some.r) (own_round word a.trucks a.rounds) a.rounds = rw c.in-Some.is at h in
+    let truck = subst (λ (o : Option ℕ). Found o (own_truck word a.trucks c.in-Some.r) a.trucks) c.unwrap.ensures c.own_truck.ensures in
+    named word a.trucks a.rounds c.in-Some.r there (c.in-Some.r + 1) c.unwrap.result truck.1 (omega arith)

@@ -7,5 +7,5 @@ use Rattle.refusals.proofs.location_of.Goals as goal
 pub returns-in_default : goal.returns-in_default
 returns-in_default c = unnamed_by c.args.r c.in_default.not-OwnLoss
 
-pub returns : goal.returns
-returns c = ap location_of (sym c.in-OwnLoss.is)
+pub returns-in-OwnLoss : goal.returns-in-OwnLoss
+returns-in-OwnLoss c = ap location_of (sym c.in-OwnLoss.is)

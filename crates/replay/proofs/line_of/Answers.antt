@@ -6,14 +6,14 @@ use Rattle.replay.proofs.line_of.Goals as goal
 
 pub unreachable-requires : goal.unreachable-requires
 unreachable-requires c =
-    let l = c.refusal_line-listed in
-    line_refused c.args.r _ l.new.buf l.result l.ensures _ c.in-Refused.is (search rules)
+    let l = c.refusal_line in
+    line_refused c.args.r _ l.new.buf l.result l.ensures _ c.in-Err.is (search rules)
 
 pub returns : goal.returns
 returns c =
-    let l = c.refusal_line-listed in
+    let l = c.refusal_line in
     let r = c.args.r in
     record {
-      within = rw l.auto.buf (refusal_fits r _ l.new.buf l.result _ l.ensures c.in-Text.is);
-      line = line_text r _ l.new.buf l.result l.ensures _ c.in-Text.is;
+      within = rw l.auto.buf (refusal_fits r _ l.new.buf l.result _ l.ensures c.in-Ok.is);
+      line = line_text r _ l.new.buf l.result l.ensures _ c.in-Ok.is;
     }

@@ -5,4 +5,4 @@ use Rattle.replay.specs.Input.{bytes_read}
 use Rattle.replay.proofs.main.Goals as goal
 
 pub slice_bounds-buf-end : goal.slice_bounds-buf-end
-slice_bounds-buf-end c = omega (arith, ap bytes_read c.in-Bytes.is, c.read_input-input.ensures)
+slice_bounds-buf-end c = omega (arith, ap bytes_read c.in-Ok.is, c.read_input-input.ensures)

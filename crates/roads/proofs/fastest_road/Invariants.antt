@@ -1,12 +1,7 @@
 -- `fastest_road` meets its contract: the loop holds that the road chosen so far is that of the roads passed.
 use mathlib.Core.Path.{◌≡◌}
-use Prim.Native.Nat.{◌-◌, ◌≤◌}
-use lib.ListN.{length}
 use Rattle.roads.specs.Choice.{chosen_below, estimate_at}
 use Rattle.roads.proofs.fastest_road.Given as goal
 
 abbrev pub invariant-loop-k : goal.invariant-loop-k
-invariant-loop-k l = (l.k ≤ length l.lengths) × (l.best ≡ chosen_below (estimate_at l.lengths l.metres l.seconds) l.k)
-
-abbrev pub decreases-loop-k : goal.decreases-loop-k
-decreases-loop-k l = length l.lengths - l.k
+invariant-loop-k l = l.best ≡ chosen_below (estimate_at l.lengths l.metres l.seconds) l.k

@@ -1,7 +1,5 @@
 -- `opening_crusher` meets its contract: each return cites the law of its answer, with what the tests before it left.
 use mathlib.Core.Path.{sym, ◌∙◌}
-use mathlib.Core.Bool.{false}
-use Rattle.roads.specs.Opening.{bad_lists}
 use Rattle.roads.proofs.Answers.{right, opening_10, opening_11, opening_12, opening_13, opening-road}
 use Rattle.roads.proofs.opening_crusher.Goals as goal
 
@@ -22,19 +20,19 @@ returns-then-without_time c =
     opening_12 _ _ _ (sym c.bad_lists.ensures ∙ c.if-bad_lists.false) (sym c.above_limit.ensures ∙ c.if-above_limit.false)
     (sym c.without_time.ensures ∙ c.if-without_time.true)
 
-pub fastest_road-best-requires : goal.fastest_road-best-requires
-fastest_road-best-requires c =
+pub fastest_road-requires : goal.fastest_road-requires
+fastest_road-requires c =
     let e = right c.args.lengths.now c.args.metres.now c.args.seconds.now (sym c.bad_lists.ensures ∙ c.if-bad_lists.false) in
     (e.as_metres, e.as_seconds, e.few)
 
-pub returns-in-NoRoad : goal.returns-in-NoRoad
-returns-in-NoRoad c =
+pub returns-in-None : goal.returns-in-None
+returns-in-None c =
     opening_13 c.args.lengths.now c.args.metres.now c.args.seconds.now (sym c.bad_lists.ensures ∙ c.if-bad_lists.false) (sym c.above_limit.ensures ∙ c.if-above_limit.false)
     (sym c.without_time.ensures ∙ c.if-without_time.false) (λ k. (c.type_inv.lengths k).fits) (λ k. (c.type_inv.metres k).fits) (λ k. (c.type_inv.seconds k).fits)
-    c.fastest_road-best.result c.fastest_road-best.ensures c.in-NoRoad.is
+    c.fastest_road.result c.fastest_road.ensures c.in-None.is
 
-pub returns-in-Road : goal.returns-in-Road
-returns-in-Road c =
+pub returns-in-Some : goal.returns-in-Some
+returns-in-Some c =
     opening-road c.args.lengths.now c.args.metres.now c.args.seconds.now (sym c.bad_lists.ensures ∙ c.if-bad_lists.false) (sym c.above_limit.ensures ∙ c.if-above_limit.false)
     (sym c.without_time.ensures ∙ c.if-without_time.false) (λ k. (c.type_inv.lengths k).fits) (λ k. (c.type_inv.metres k).fits) (λ k. (c.type_inv.seconds k).fits)
-    c.fastest_road-best.result c.fastest_road-best.ensures _ _ c.in-Road.is
+    c.fastest_road.result c.fastest_road.ensures _ c.in-Some.is

@@ -22,10 +22,10 @@ updated_more f k es g i t e l h =
     turns j = turned k (get_or es j Stop) (truck f.trucks j)
 
 pub loop-i-init : goal.loop-i-init
-loop-i-init c = (omega arith, rw filled_none)
+loop-i-init c = rw filled_none
 
 pub loop-i-preserved : goal.loop-i-preserved
 loop-i-preserved c =
     let a = c.args in
     let l = c.loop-i in
-    (omega arith, updated_more a.f a.round a.events l.f l.i c.update.new.t l.invariant.1 (omega arith) c.update.ensures)
+    updated_more a.f a.round a.events l.f l.i c.update.new.t l.invariant (omega arith) c.update.ensures

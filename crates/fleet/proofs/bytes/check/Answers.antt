@@ -6,7 +6,7 @@ use Rattle.recording.specs.Checks.{round_check}
 use Rattle.protocol.specs.Fleets.{chosen}
 use Rattle.protocol.proofs.Good.{record_parts}
 use Rattle.recordbytes.specs.Layout.{record_of}
-use Rattle.recordbytes.proofs.Places.{bytes_whole, bytes-n, bytes-done}
+use Rattle.recordbytes.proofs.Places.{bytes-n}
 use Rattle.fleet.proofs.Steps.{step_7, step_14, step_rest}
 use Rattle.fleet.proofs.ByPlaces.{check_damaged, check_is}
 use Rattle.fleet.proofs.bytes.check.Goals as goal
@@ -28,7 +28,7 @@ returns-then-done-eq400 c =
     let a = c.args in
     let d = a.d.now in
     let sound = sym c.damaged.ensures ∙ c.if-damaged.false in
-    let full : (record_of d).done ≡ 400 = sym (c.pair-done.ensures ∙ bytes-done d sound) ∙ c.if-done-eq400.true in
+    let full : (record_of d).done ≡ 400 = sym c.done-done.ensures ∙ c.if-done-eq400.true in
     step_14 (chosen a.cycle) (record_of d) a.words.now (sym c.good_record.ensures ∙ c.if-not-good_record.false) full
     ∙ check_is (chosen a.cycle) d a.words.now sound
 
@@ -36,10 +36,8 @@ returns-then-done-eq400 c =
 pub overflow_add-done : goal.overflow_add-done
 overflow_add-done c =
     let a = c.args in
-    let d = a.d.now in
-    let sound = sym c.damaged.ensures ∙ c.if-damaged.false in
-    let good = record_parts (chosen a.cycle) (record_of d) (sym c.good_record.ensures ∙ c.if-not-good_record.false) in
-    record { fits = omega (arith, good.done, c.pair-done.ensures, bytes-done d sound) }
+    let good = record_parts (chosen a.cycle) (record_of a.d.now) (sym c.good_record.ensures ∙ c.if-not-good_record.false) in
+    record { fits = omega (arith, good.done, c.done-done.ensures) }
 
 pub returns : goal.returns
 returns c =
@@ -47,20 +45,8 @@ returns c =
     let d = a.d.now in
     let w = a.words.now in
     let sound = sym c.damaged.ensures ∙ c.if-damaged.false in
-    let done : c.pair-done.result ≡ (record_of d).done = c.pair-done.ensures ∙ bytes-done d sound in
+    let done : c.done-done.result ≡ (record_of d).done = c.done-done.ensures in
     c.check_round.ensures
     ∙ ap₂ (λ (n k : ℕ). round_check n (k + 1) w) (bytes-n d sound) done
     ∙ step_rest (chosen a.cycle) (record_of d) w (sym c.good_record.ensures ∙ c.if-not-good_record.false) (λ e. c.if-done-eq400.false (done ∙ e))
     ∙ check_is (chosen a.cycle) d w sound
-
-pub good_record-requires : goal.good_record-requires
-good_record-requires c = sym c.damaged.ensures ∙ c.if-damaged.false
-
-pub bounds-d-1 : goal.bounds-d-1
-bounds-d-1 c = omega (arith, bytes_whole c.args.d.now (sym c.damaged.ensures ∙ c.if-damaged.false))
-
-pub bounds-d-2 : goal.bounds-d-2
-bounds-d-2 c = omega (arith, bytes_whole c.args.d.now (sym c.damaged.ensures ∙ c.if-damaged.false))
-
-pub bounds-d-0 : goal.bounds-d-0
-bounds-d-0 c = omega (arith, bytes_whole c.args.d.now (sym c.damaged.ensures ∙ c.if-damaged.false))

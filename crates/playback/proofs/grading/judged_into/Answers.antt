@@ -19,5 +19,5 @@ returns c =
     let c3 = c.carry-3 in
     let x4 = c.without-5 in
     let c4 = c.carry-4 in
-    judged-four a.s.now a.at a.n a.going a.senders a.mark a.found.now z.requires.1.1 m.result a.k u.result f.result l.result w.result x1.result x2.result x3.result x4.result c1.result c2.result c3.result c4.result
+    judged-four a.s.now a.at a.n a.going a.senders a.mark a.found.now z.told-found m.result a.k u.result f.result l.result w.result x1.result x2.result x3.result x4.result c1.result c2.result c3.result c4.result
     u.ensures f.ensures l.ensures w.ensures m.ensures x1.ensures c1.ensures x2.ensures c2.ensures x3.ensures c3.ensures x4.ensures c4.ensures

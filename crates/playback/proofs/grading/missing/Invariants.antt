@@ -10,10 +10,9 @@ use Rattle.playback.proofs.grading.missing.Given as goal
 abbrev pub asked : (ℕ → Bool) → List ℕ → ℕ → ℕ → ℕ → ℕ → Bool
 asked f s at n senders p = f (heard_at s at n senders p)
 
-abbrev pub invariant-loop-left : goal.invariant-loop-left
-invariant-loop-left l =
-    Asking l.wanted (asked (misses_some l.senders) l.s l.at l.n l.senders) l.left l.m.some
-    × (Asking l.wanted (asked (misses_all l.senders) l.s l.at l.n l.senders) l.left l.m.all × Asking l.wanted (asked (misses_half l.senders) l.s l.at l.n l.senders) l.left l.m.half)
-
-abbrev pub decreases-loop-left : goal.decreases-loop-left
-decreases-loop-left l = l.left
+abbrev pub invariant-loop-p : goal.invariant-loop-p
+invariant-loop-p l =
+    (goal.iterator-loop-p).can_next l.p-iterator × (goal.iterator-loop-p).is_finite l.p-iterator
+    × Asking l.wanted (asked (misses_some l.senders) l.s l.at l.n l.senders) l.p-iterator.left l.m.some
+    × Asking l.wanted (asked (misses_all l.senders) l.s l.at l.n l.senders) l.p-iterator.left l.m.all
+    × Asking l.wanted (asked (misses_half l.senders) l.s l.at l.n l.senders) l.p-iterator.left l.m.half

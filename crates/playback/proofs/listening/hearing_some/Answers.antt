@@ -1,41 +1,39 @@
 -- `hearing_some` meets its contract.
-use mathlib.Core.Path.{ap, ◌∙◌}
-use mathlib.Core.Bool.{not}
-use Prim.Native.Nat.{ℕ}
+use mathlib.Core.Path.{◌≡◌, refl, ap, ◌∙◌}
+use mathlib.Core.Bool.{Bool, true, false, cond, not}
+use Prim.Native.Nat.{ℕ, ◌*◌, ◌%◌, ◌^◌}
+use mir.Val.{bool_byte}
 use native.Mathlib.Omega.{arith}
+use lib.Bits.{bit_or, or_zero_r}
 use lib.Dec.{eqb}
 use Rattle.sets.specs.Sets.{without}
-use Rattle.playback.proofs.Reading.{row-place}
 use Rattle.playback.proofs.Asking.{next_is, asking-starts, asking_more, asking-done}
 use Rattle.playback.proofs.listening.hearing_some.Invariants.{hears_some}
 use Rattle.playback.proofs.listening.hearing_some.Goals as goal
 
-pub loop-left-init : goal.loop-left-init
-loop-left-init c = let a = c.args in asking-starts a.wanted (hears_some a.s.now a.at a.n a.senders)
-
-pub overflow_mul-p : goal.overflow_mul-p
-overflow_mul-p c = let s = c in let e = row-place s.args.at s.args.n c.lowest-p.result s.requires.1 s.requires.0 (c.lowest-p.ensures.1 c.loop-left-test.true).0 in omega (arith, e.0)
-
-pub overflow_add-at : goal.overflow_add-at
-overflow_add-at c = let s = c in let e = row-place s.args.at s.args.n c.lowest-p.result s.requires.1 s.requires.0 (c.lowest-p.ensures.1 c.loop-left-test.true).0 in omega (arith, e.1)
-
-pub overflow_sub-p : goal.overflow_sub-p
-overflow_sub-p c = omega (arith, (c.lowest-p.ensures.1 c.loop-left-test.true).0)
-
-pub loop-left-smaller : goal.loop-left-smaller
-loop-left-smaller c =
-    let i = c in
-    (next_is i.loop-left-test.true i.lowest-p.ensures c.only_lowest.ensures c.rest-left.ensures).taken.less
-
-pub loop-left-preserved : goal.loop-left-preserved
-loop-left-preserved c =
+pub loop-p-init : goal.loop-p-init
+loop-p-init c =
     let a = c.args in
-    let l = c.loop-left in
-    let i = c in
-    let w = c.without in
-    asking_more a.wanted (hears_some a.s.now a.at a.n a.senders)
-    (next_is i.loop-left-test.true i.lowest-p.ensures c.only_lowest.ensures c.rest-left.ensures)
-    (not (eqb w.result 0)) (ap (λ (x : ℕ). not (eqb x 0)) (w.ensures ∙ ap (without a.senders) c.read_at-row.ensures)) c.union_where-out.ensures l.invariant
+    rw (c.into_iter-p-iterator.ensures.into_iter_gives, c.members_of-p-items.ensures) (tt, tt, asking-starts a.wanted (hears_some a.s.now a.at a.n a.senders))
+
+pub row_of-requires : goal.row_of-requires
+row_of-requires c = (c.requires.0, (c.requires.1, c.in-Some.ensures.steps.below))
+
+-- a bit moved to place p joins as the set of p does
+joined : (b : Bool) (out k p : ℕ) → k ≡ bool_byte b → bit_or out (k * 2 ^ p % 2 ^ 32) ≡ cond b (bit_or out (2 ^ p % 2 ^ 32)) out
+joined true out k p e = let one : 1 * 2 ^ p ≡ 2 ^ p = omega arith in rw (e, one) refl
+joined false out k p e = let none : 0 * 2 ^ p % 2 ^ 32 ≡ 0 = omega arith in rw (e, none) (or_zero_r out)
+
+pub loop-p-preserved : goal.loop-p-preserved
+loop-p-preserved c =
+    let a = c.args in
+    let w = c.without-some in
+    let next = next_is c.in-Some.ensures.steps refl in (
+      tt,
+      tt,
+      asking_more a.wanted (hears_some a.s.now a.at a.n a.senders) next (not (eqb w.result 0))
+          (ap (λ (x : ℕ). not (eqb x 0)) (w.ensures ∙ ap (without a.senders) c.row_of.ensures)) (joined _ c.loop-p.out c.from.result c.in-Some.p c.from.ensures) c.loop-p.invariant.2,
+    )
 
 pub returns : goal.returns
-returns c = let a = c.args in asking-done a.wanted (hears_some a.s.now a.at a.n a.senders) c.loop-left.invariant c.loop-left-test.false
+returns c = let a = c.args in asking-done a.wanted (hears_some a.s.now a.at a.n a.senders) c.loop-p.invariant.2 c.in-None.ensures.steps.0

@@ -12,8 +12,7 @@ use Rattle.playback.proofs.listening.hearing_some.Given as goal
 abbrev pub hears_some : List ℕ → ℕ → ℕ → ℕ → ℕ → Bool
 hears_some s at n senders p = not (eqb (without senders (row_from s at n p)) 0)
 
-abbrev pub invariant-loop-left : goal.invariant-loop-left
-invariant-loop-left l = Asking l.wanted (hears_some l.s l.at l.n l.senders) l.left l.out
-
-abbrev pub decreases-loop-left : goal.decreases-loop-left
-decreases-loop-left l = l.left
+abbrev pub invariant-loop-p : goal.invariant-loop-p
+invariant-loop-p l =
+    (goal.iterator-loop-p).can_next l.p-iterator × (goal.iterator-loop-p).is_finite l.p-iterator
+    × Asking l.wanted (hears_some l.s l.at l.n l.senders) l.p-iterator.left l.out

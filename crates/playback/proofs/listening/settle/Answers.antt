@@ -13,22 +13,19 @@ use Rattle.playback.specs.Listens.{settled}
 use Rattle.playback.proofs.listening.settle.Goals as goal
 
 pub loop-c-init : goal.loop-c-init
-loop-c-init c = (omega arith, sym (filled_none _ _))
+loop-c-init c = sym (filled_none _ _)
 
 pub loop-c-preserved : goal.loop-c-preserved
 loop-c-preserved c =
-    let s = c in
-    let a = s.args in
+    let a = c.args in
     let l = c.loop-c in
     let here : get_or l.by l.c 0 ≡ get_or a.by.now l.c 0 =
-    ap (λ (d : List ℕ). get_or d l.c 0) l.invariant.1 ∙ get_or-filled_past (settled a.by.now a.taking.now a.changed) l.c a.by.now l.c 0 (le_refl l.c) in (
-      omega arith,
-      fill_step (settled a.by.now a.taking.now a.changed) a.by.now l.by l.c l.invariant.1 _ (omega (arith, s.requires))
-          (ap (λ (x : ℕ). bit_or x (bit_and (get_or a.taking.now l.c 0) a.changed)) (c.without.ensures ∙ ap (λ (x : ℕ). without x a.changed) here)),
-    )
+    ap (λ (d : List ℕ). get_or d l.c 0) l.invariant ∙ get_or-filled_past (settled a.by.now a.taking.now a.changed) l.c a.by.now l.c 0 (le_refl l.c) in
+    fill_step (settled a.by.now a.taking.now a.changed) a.by.now l.by l.c l.invariant _ (omega (arith, c.told-by))
+    (ap (λ (x : ℕ). bit_or x (bit_and (get_or a.taking.now l.c 0) a.changed)) (c.without.ensures ∙ ap (λ (x : ℕ). without x a.changed) here))
 
 pub returns : goal.returns
 returns c =
     let a = c.args in
     let l = c.loop-c in
-    l.invariant.1 ∙ ap (λ (k : ℕ). filled (settled a.by.now a.taking.now a.changed) k a.by.now) (let e : l.c ≡ 16 = omega (arith, l.invariant.0, c.loop-c-test.false) in e)
+    l.invariant ∙ ap (λ (k : ℕ). filled (settled a.by.now a.taking.now a.changed) k a.by.now) (let e : l.c ≡ 16 = omega (arith, c.loop-c-test.false) in e)

@@ -8,24 +8,24 @@ use Rattle.playback.proofs.replay.begin.Goals as goal
 pub everyone-all-requires : goal.everyone-all-requires
 everyone-all-requires c =
     let z = c in
-    let r = c.read_front-c in
-    (first-few z.args.s.now z.requires.0 r.result.trucks (counts-trucks z.args.s.now r.result r.ensures.0)).0
+    let r = c.read_front-counts in
+    (first-few z.args.frame.now.bytes.now z.args.frame.now.good r.result.trucks (counts-trucks z.args.frame.now.bytes.now r.result r.ensures.0)).0
 
 pub openers-requires : goal.openers-requires
 openers-requires c =
     let z = c in
-    let s = z.args.s.now in
-    let r = c.read_front-c in
-    (openings-small s z.requires.0 r.new.openings (r.ensures.1 ∙ ap (openings_into s) z.requires.1), z.requires.2)
+    let s = z.args.frame.now.bytes.now in
+    let r = c.read_front-counts in
+    (openings-small s z.args.frame.now.good r.new.openings (r.ensures.1 ∙ ap (openings_into s) z.requires.0), z.requires.1)
 
 pub returns : goal.returns
 returns c =
     let z = c in
-    let r = c.read_front-c in
+    let r = c.read_front-counts in
     record {
       counts = r.ensures.0;
-      read = r.ensures.1 ∙ ap (openings_into z.args.s.now) z.requires.1;
-      all = c.everyone-all.ensures;
-      sorted = c.openers.ensures.0;
-      crushers = c.openers.ensures.1;
+      read = r.ensures.1 ∙ ap (openings_into z.args.frame.now.bytes.now) z.requires.0;
+      everyone = c.everyone-all.ensures;
+      sorted = c.openers.ensures;
+      crushers = c.openers.array_long;
     }

@@ -2,8 +2,7 @@
 use Rattle.playback.proofs.Places.{Noting}
 use Rattle.playback.proofs.replay.ended.Given as goal
 
-abbrev pub invariant-loop-left : goal.invariant-loop-left
-invariant-loop-left l = Noting l.initial.ends l.who l.k l.ends l.left
-
-abbrev pub decreases-loop-left : goal.decreases-loop-left
-decreases-loop-left l = l.left
+abbrev pub invariant-loop-p : goal.invariant-loop-p
+invariant-loop-p l =
+    (goal.iterator-loop-p).can_next l.p-iterator × (goal.iterator-loop-p).is_finite l.p-iterator
+    × Noting l.initial.ends l.who l.k l.ends l.p-iterator.left

@@ -8,8 +8,7 @@ use Rattle.playback.proofs.replay.openers.Given as goal
 abbrev pub opens : List ℕ → ℕ → ℕ
 opens openings p = get_or openings (31 - p) 0
 
-abbrev pub invariant-loop-left : goal.invariant-loop-left
-invariant-loop-left l = Sorting 32 l.all (opens l.openings) l.by l.left
-
-abbrev pub decreases-loop-left : goal.decreases-loop-left
-decreases-loop-left l = l.left
+abbrev pub invariant-loop-p : goal.invariant-loop-p
+invariant-loop-p l =
+    (goal.iterator-loop-p).can_next l.p-iterator × (goal.iterator-loop-p).is_finite l.p-iterator
+    × Sorting 32 l.all (opens l.openings) l.by l.p-iterator.left

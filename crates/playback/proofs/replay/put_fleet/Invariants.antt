@@ -1,5 +1,5 @@
 -- `put_fleet` meets its contract: the first loop puts the trucks' places, the second the others.
-use Prim.Native.Nat.{ℕ, ◌≤◌, ◌-◌}
+use Prim.Native.Nat.{ℕ}
 use Rattle.protocol.specs.declared.Truck.{Truck}
 use Rattle.protocol.specs.Rules.{opened}
 use Rattle.playback.specs.Standing.{built_by}
@@ -10,13 +10,7 @@ abbrev pub none : ℕ → Truck
 none j = opened 0
 
 abbrev pub invariant-loop-i : goal.invariant-loop-i
-invariant-loop-i l = (l.i ≤ l.n) × (l.n ≤ 32) × Puts (built_by l.openings l.b l.by l.ends l.sent) 0 l.n l.initial.d l.i l.d
-
-abbrev pub decreases-loop-i : goal.decreases-loop-i
-decreases-loop-i l = l.n - l.i
+invariant-loop-i l = Puts (built_by l.t.openings l.b l.t.by l.t.ends l.t.sent) 0 l.n l.initial.d l.i l.d
 
 abbrev pub invariant-loop-i-2 : goal.invariant-loop-i-2
-invariant-loop-i-2 l = (l.initial.i ≤ l.i) × (l.i ≤ 32) × Puts none l.initial.i 32 l.initial.d l.i l.d
-
-abbrev pub decreases-loop-i-2 : goal.decreases-loop-i-2
-decreases-loop-i-2 l = 32 - l.i
+invariant-loop-i-2 l = Puts none l.n 32 l.initial.d l.i l.d

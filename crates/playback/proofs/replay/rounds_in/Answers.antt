@@ -19,22 +19,20 @@ pub proposals-requires : goal.proposals-requires
 proposals-requires c =
     let z = c in
     let s = z.args.s.now in
-    (rw c.in-TwoRound.is at z.requires.0, (refl, found_none two_rules (round_at s) s z.args.judging z.args.found.now z.requires.1.1))
+    (rw c.in-TwoRound.is at z.requires.0, (refl, found_none two_rules (round_at s) s z.args.judging z.args.t.now.found z.requires.1.1))
 
 pub six_rounds-requires : goal.six_rounds-requires
 six_rounds-requires c =
     let z = c in
     let s = z.args.s.now in
-    (rw (c.in-SixRound.is, z.requires.1.0) at z.requires.0, found_none six_rules (round_at s) s z.args.judging z.args.found.now z.requires.1.1)
+    (rw c.in-SixRound.is at z.requires.0, found_none six_rules (round_at s) s z.args.judging z.args.t.now.found z.requires.1.1)
 
 pub returns-in-TwoRound : goal.returns-in-TwoRound
 returns-in-TwoRound c =
     let z = c in
     let p = c.proposals in
     rw c.in-TwoRound.is
-    (ended z.args.s.now z.args.rounds p.new.by p.new.ends p.new.sent p.result p.ensures.0, p.ensures.1)
+    (ended z.args.s.now z.args.rounds p.new.t.by p.new.t.ends p.new.t.sent p.result p.ensures.0, p.ensures.1)
 
 pub returns-in-SixRound : goal.returns-in-SixRound
-returns-in-SixRound c =
-    let z = c in
-    rw (c.in-SixRound.is, z.requires.1.0) c.six_rounds.ensures
+returns-in-SixRound c = rw c.in-SixRound.is c.six_rounds.ensures

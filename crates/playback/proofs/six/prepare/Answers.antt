@@ -11,6 +11,6 @@ returns c =
     let going = c.without-going in
     let unmarked = c.without in
     let wanted = c.listeners-wanted in
-    let h = c.least_heard-h in
+    let h = c.hear-h in
     prepares_by a.s.now a.at a.n a.running a.by.now c.settle.new.by stop.result active.result mark.result going.result unmarked.result wanted.result h.result
-    stop.ensures active.ensures mark.ensures going.ensures unmarked.ensures wanted.ensures h.ensures c.settle.ensures
+    stop.ensures active.ensures mark.ensures going.ensures unmarked.ensures wanted.ensures h.ensures.0 h.ensures.1.1 c.settle.ensures

@@ -3,7 +3,6 @@ use mathlib.Core.Path.{◌≡◌, refl, ap, sym, ◌∙◌}
 use mathlib.Core.Bool.{Bool, true, false, cond, ◌&&◌, ◌||◌}
 use Prim.Native.Nat.{ℕ}
 use native.Mathlib.Omega.{arith}
-use borrow.Author.Rules.{rules}
 use lib.Bits.{bit_or}
 use lib.ListN.{get_or}
 use mathlib.Core.List.{List}
@@ -26,21 +25,19 @@ joined by b out c p false e h = h ∙ plain (some_below (has by b p) c) ∙ ap (
     plain false = refl
 
 pub loop-c-init : goal.loop-c-init
-loop-c-init c = (search rules, λ p l. bit-zero p ∙ sym (some-none (has c.args.by.now c.args.b p)))
+loop-c-init c = λ p l. bit-zero p ∙ sym (some-none (has c.args.by.now c.args.b p))
 
 pub loop-c-preserved : goal.loop-c-preserved
 loop-c-preserved c =
     let a = c.args in
-    let o = c.loop-c in (
-      search rules,
-      λ p l.
-          ap (λ (x : ℕ). bit x p) c.union_where-out.ensures
-          ∙ joined a.by.now a.b o.out o.c p (bit o.c a.b) refl (o.invariant.1 p l)
-          ∙ some_more (has a.by.now a.b p) o.c,
-    )
+    let o = c.loop-c in
+    λ p l.
+    ap (λ (x : ℕ). bit x p) c.union_where-out.ensures
+    ∙ joined a.by.now a.b o.out o.c p (bit o.c a.b) refl (o.invariant p l)
+    ∙ some_more (has a.by.now a.b p) o.c
 
 pub returns : goal.returns
 returns c =
     let o = c.loop-c in
-    let e : o.c ≡ 16 = omega (arith, o.invariant.0, c.loop-c-test.false) in
-    λ p l. o.invariant.1 p l ∙ ap (some_below (has c.args.by.now c.args.b p)) e
+    let e : o.c ≡ 16 = omega (arith, o.auto.c-end, c.loop-c-test.false) in
+    λ p l. o.invariant p l ∙ ap (some_below (has c.args.by.now c.args.b p)) e

@@ -1,7 +1,7 @@
 -- `with_bit` meets its contract: the loop holds the trucks of the crushers so far.
 use mathlib.Core.Path.{◌≡◌}
 use mathlib.Core.Bool.{Bool, ◌&&◌}
-use Prim.Native.Nat.{ℕ, ◌-◌, ◌≤◌, ◌<◌}
+use Prim.Native.Nat.{ℕ, ◌<◌}
 use lib.ListN.{get_or}
 use mathlib.Core.List.{List}
 use Rattle.basics.specs.Bits.{bit}
@@ -12,7 +12,4 @@ abbrev pub has : List ℕ → ℕ → ℕ → ℕ → Bool
 has by b p c = bit c b && bit (get_or by c 0) p
 
 abbrev pub invariant-loop-c : goal.invariant-loop-c
-invariant-loop-c l = (l.c ≤ 16) × ((p : ℕ) → p < 32 → bit l.out p ≡ some_below (has l.by l.b p) l.c)
-
-abbrev pub decreases-loop-c : goal.decreases-loop-c
-decreases-loop-c l = 16 - l.c
+invariant-loop-c l = (p : ℕ) → p < 32 → bit l.out p ≡ some_below (has l.by l.b p) l.c

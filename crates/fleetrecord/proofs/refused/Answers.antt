@@ -1,5 +1,0 @@
--- `refused` meets its contract.
-use Rattle.fleetrecord.proofs.refused.Goals as goal
-
-pub returns : goal.returns
-returns c = rw c.blank.ensures

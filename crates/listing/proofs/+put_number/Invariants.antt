@@ -1,5 +1,0 @@
--- It calls itself for the digits before the last, of a smaller number.
-use Rattle.listing.proofs.+put_number.Given as goal
-
-abbrev pub decreases-put_number : goal.decreases-put_number
-decreases-put_number l = l.k

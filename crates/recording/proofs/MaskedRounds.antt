@@ -1,0 +1,67 @@
+-- The bytes of a round and-ed with the mask where they stand in a recording: one is not 0 exactly where an own bit of the round is 1.
+use mathlib.Core.Path.{◌≡◌, refl, ap, ap₂, sym, ◌∙◌}
+use mathlib.Core.Bool.{Bool, true, not, ◌&&◌}
+use mathlib.Core.List.{List}
+use Prim.Native.Nat.{ℕ, suc, ◌+◌, ◌*◌, ◌-◌, ◌/◌, ◌%◌, ◌≤◌, ◌<◌}
+use native.Mathlib.Nat.{mod-lt}
+use native.Mathlib.Omega.{arith}
+use borrow.Author.Tests.{eqb-true, eq-eqb}
+use lib.Bits.{bit_and, and_le_l}
+use lib.Dec.{eqb, lit<}
+use lib.ListN.{get_or}
+use Rattle.basics.specs.Bits.{bit}
+use Rattle.basics.specs.Lists.{some_below}
+use Rattle.basics.proofs.Laws.{and_left, and_right, and_both, some_below-at, some_below_by}
+use Rattle.basics.proofs.Bits.{bit-and}
+use Rattle.bitreader.proofs.Digits.{bit_at_byte}
+use Rattle.recording.specs.Packed.{bit_at}
+use Rattle.recording.proofs.Searches.{own_packed, within_rows}
+use Rattle.recording.proofs.Masks.{OwnMask, byte_tests, tests_same}
+
+abbrev pub masked_at : List ℕ → ℕ → List ℕ → ℕ → Bool
+masked_at s b mask j = not (eqb (bit_and (get_or s (b + j) 0) (get_or mask j 0)) 0)
+
+-- m bytes from byte b on, whose first own bit is bit d of them
+module _ (s mask : List ℕ) (b m d n : ℕ) (bytes : (q : ℕ) → get_or s q 0 < 256) (marked : OwnMask mask d n n) (covers : d + n * n ≤ 8 * m) where
+  shared : ℕ → ℕ
+  shared j = bit_and (get_or s (b + j) 0) (get_or mask j 0)
+
+  shared_bit : (j k : ℕ) → k < 8 → bit (shared j) (8 - suc k) ≡ (eqb (bit_at s (8 * b + (8 * j + k))) 1 && eqb (bit_at mask (8 * j + k)) 1)
+  unfolding shared
+  shared_bit j k l =
+      bit-and (get_or s (b + j) 0) (get_or mask j 0) (8 - suc k)
+      ∙ ap₂ (λ (x y : ℕ). eqb x 1 && eqb y 1) (sym (bit_at_byte s (b + j) k l) ∙ ap (bit_at s) (omega arith)) (sym (bit_at_byte mask j k l))
+
+  shared_some : (j : ℕ) → masked_at s b mask j ≡ some_below (λ k. bit (shared j) (8 - suc k)) 8
+  unfolding shared
+  shared_some j = byte_tests (shared j) (omega (arith, and_le_l (get_or s (b + j) 0) (get_or mask j 0), bytes (b + j)))
+
+  to-own : (j : ℕ) → masked_at s b mask j ≡ true → some_below (own_packed s (8 * b + d) n) n ≡ true
+  to-own j h =
+      let (k, l, e) = some_below-at (λ k. bit (shared j) (8 - suc k)) 8 (sym (shared_some j) ∙ h) in
+      let q : ℕ = 8 * j + k in
+      let f = sym (shared_bit j k l) ∙ e in
+      let (i, u, g) = some_below-at (λ i. eqb q (d + i * (n + 1))) n (sym (marked q) ∙ and_right (eqb (bit_at s (8 * b + q)) 1) (eqb (bit_at mask q) 1) f) in
+      some_below_by (own_packed s (8 * b + d) n) n i u
+      (ap (λ (x : ℕ). eqb (bit_at s x) 1) (omega (arith, eqb-true q (d + i * (n + 1)) g)) ∙ and_left (eqb (bit_at s (8 * b + q)) 1) (eqb (bit_at mask q) 1) f)
+
+  from-own : (i : ℕ) → i < n → own_packed s (8 * b + d) n i ≡ true → some_below (masked_at s b mask) m ≡ true
+  from-own i l h =
+      let q : ℕ = d + i * (n + 1) in
+      let j : ℕ = q / 8 in
+      let k : ℕ = q % 8 in
+      let e : 8 * j + k ≡ q = omega arith in
+      let u : k < 8 = mod-lt q (lit< tt) in
+      some_below_by (masked_at s b mask) m j (let o : q / 8 < m = omega (arith, within_rows n i l) in o)
+      (shared_some j
+      ∙ some_below_by (λ k. bit (shared j) (8 - suc k)) 8 k u
+      (shared_bit j k u
+      ∙ and_both (eqb (bit_at s (8 * b + (8 * j + k))) 1) (eqb (bit_at mask (8 * j + k)) 1)
+      (ap (λ (x : ℕ). eqb (bit_at s x) 1) (omega arith) ∙ h)
+      (ap (λ (x : ℕ). eqb (bit_at mask x) 1) e ∙ marked q ∙ some_below_by (λ k. eqb q (d + k * (n + 1))) n i l (eq-eqb q q refl))))
+
+  pub masked-own : some_below (masked_at s b mask) m ≡ some_below (own_packed s (8 * b + d) n) n
+  masked-own =
+      tests_same (some_below (masked_at s b mask) m) (some_below (own_packed s (8 * b + d) n) n)
+      (λ h. let t = some_below-at (masked_at s b mask) m h in to-own t.0 t.2)
+      (λ h. let t = some_below-at (own_packed s (8 * b + d) n) n h in from-own t.0 t.1 t.2)

@@ -4,19 +4,22 @@ use mathlib.Core.Bool.{Bool, true, not, ◌&&◌}
 use mathlib.Core.List.{List}
 use Prim.Native.Nat.{ℕ, suc, ◌+◌, ◌*◌, ◌-◌, ◌/◌, ◌%◌, ◌≤◌, ◌<◌}
 use native.Mathlib.Nat.{mod-lt}
+use native.Mathlib.Decide.{dec_lt}
 use native.Mathlib.Omega.{arith}
 use borrow.Author.Tests.{eqb-true, eq-eqb}
 use lib.Bits.{bit_and, and_le_l}
 use lib.Dec.{eqb, lit<}
-use lib.ListN.{get_or}
+use lib.ListN.{length, get_or, take, drop, length-take, length-drop}
 use Rattle.basics.specs.Bits.{bit}
 use Rattle.basics.specs.Lists.{some_below}
-use Rattle.basics.proofs.Laws.{and_left, and_right, and_both, some_below-at, some_below_by}
+use Rattle.std.proofs.lemmas.List.{get_or-take, get_or_past}
+use Rattle.std.proofs.Common.{get_or-drop}
+use Rattle.basics.proofs.Laws.{and_left, and_right, and_both, some_below-at, some_below_by, some_ext}
 use Rattle.basics.proofs.Bits.{bit-and}
 use Rattle.bitreader.proofs.Digits.{bit_at_byte}
 use Rattle.recording.specs.Packed.{bit_at}
 use Rattle.recording.proofs.Searches.{own_packed, within_rows}
-use Rattle.recording.proofs.Masks.{OwnMask, byte_tests, tests_same}
+use Rattle.recording.proofs.Masks.{OwnMask, masked, both, masked-bits, byte_tests, tests_same}
 
 abbrev pub masked_at : List ℕ → ℕ → List ℕ → ℕ → Bool
 masked_at s b mask j = not (eqb (bit_and (get_or s (b + j) 0) (get_or mask j 0)) 0)
@@ -65,3 +68,28 @@ module _ (s mask : List ℕ) (b m d n : ℕ) (bytes : (q : ℕ) → get_or s q 0
       tests_same (some_below (masked_at s b mask) m) (some_below (own_packed s (8 * b + d) n) n)
       (λ h. let t = some_below-at (masked_at s b mask) m h in to-own t.0 t.2)
       (λ h. let t = some_below-at (own_packed s (8 * b + d) n) n h in from-own t.0 t.1 t.2)
+
+-- what is cut out, where it stood
+cut_at : (s : List ℕ) (b m j : ℕ) → j < m → get_or (take m (drop b s)) j 0 ≡ get_or s (b + j) 0
+cut_at s b m j l = rw (get_or-take, get_or-drop)
+
+-- bytes that are cut out are bytes
+cut_bytes : (s : List ℕ) (b m : ℕ) → ((q : ℕ) → get_or s q 0 < 256) → (q : ℕ) → get_or (take m (drop b s)) q 0 < 256
+cut_bytes s b m bytes q = go (dec_lt q (length (take m (drop b s))))
+  where
+    go : Dec (q < length (take m (drop b s))) → get_or (take m (drop b s)) q 0 < 256
+    go (yes l) =
+        let h : q < m = omega (arith, length-take m (drop b s)) in
+        rw (cut_at s b m q h) (bytes (b + q))
+    go (no h) = rw (get_or_past (take m (drop b s)) q 0 (omega (arith, h))) (lit< tt)
+
+-- such bytes, cut out of a recording, have a bit of the mask exactly where an own bit of the round is 1
+pub slice-own : (s mask : List ℕ) (b m d n : ℕ) → ((q : ℕ) → get_or s q 0 < 256) → OwnMask mask d n n → d + n * n ≤ 8 * m → b + m ≤ length s
+    → some_below (both (take m (drop b s)) mask) (8 * length (take m (drop b s))) ≡ some_below (own_packed s (8 * b + d) n) n
+slice-own s mask b m d n bytes marked covers there =
+    let all : length (take m (drop b s)) ≡ m = omega (arith, length-take m (drop b s), length-drop b s) in
+    sym (masked-bits (take m (drop b s)) mask (length (take m (drop b s))) (cut_bytes s b m bytes))
+    ∙ ap (some_below (masked (take m (drop b s)) mask)) all
+    ∙ some_ext (masked (take m (drop b s)) mask) (masked_at s b mask) m
+    (λ j l. ap (λ (x : ℕ). not (eqb (bit_and x (get_or mask j 0)) 0)) (cut_at s b m j l))
+    ∙ masked-own s mask b m d n bytes marked covers

@@ -2,23 +2,22 @@
 use mathlib.Core.Path.{◌≡◌, refl, ap, ap₂, sym, ◌∙◌}
 use mathlib.Core.Bool.{Bool, true, false, cond, not, ◌&&◌, ◌||◌, or-false}
 use mathlib.Core.List.{List}
-use Prim.Native.Nat.{ℕ, suc, ◌+◌, ◌*◌, ◌-◌, ◌/◌, ◌%◌, ◌^◌, ◌≤◌, ◌<◌}
+use Prim.Native.Nat.{ℕ, suc, ◌+◌, ◌*◌, ◌-◌, ◌/◌, ◌%◌, ◌^◌, ◌<◌}
 use native.Mathlib.Nat.{mod-lt, zero-add, zero-div}
 use native.Mathlib.Decide.{ℕ_discrete}
 use native.Mathlib.Omega.{arith}
 use borrow.Author.Tests.{eqb-true, eq-eqb, ne_eqb}
 use lib.Bits.{bit_and, bit_or, and_le_l, and_le_r, or_add_and}
 use lib.Dec.{eqb, lit<}
-use lib.ListN.{length, get_or, set, replicate, take, drop, length-take}
-use Rattle.std.proofs.Common.{get_or-take, get_or-drop}
+use lib.ListN.{length, get_or, set, replicate}
 use lib.Seq.{get_or-set_same, get_or-set_other}
 use Rattle.basics.specs.Bits.{digit, bit}
 use Rattle.basics.specs.Lists.{all_below, some_below}
-use Rattle.basics.proofs.Laws.{zeros, and_left, and_right, and_both, all_below-at, some_below-at, some_below_by, some-none, some_more, some_ext}
+use Rattle.basics.proofs.Laws.{zeros, all_below-at, some_below-at, some_below_by, some-none, some_more, some_ext}
 use Rattle.basics.proofs.Bits.{bit-and, bit-or}
 use Rattle.bitreader.proofs.Digits.{digit_lt, num_at_is, bit_at_byte}
 use Rattle.recording.specs.Packed.{bit_at, round_place}
-use Rattle.recording.proofs.Searches.{number_tests, own_packed, within_rows}
+use Rattle.recording.proofs.Searches.{number_tests}
 
 -- ---- the mask
 -- bit e of a byte, counted from the left, in which bit d alone is 1
@@ -148,45 +147,6 @@ module _ (part mask : List ℕ) (m : ℕ) (bytes : (q : ℕ) → get_or part q 0
       tests_same (some_below (masked part mask) m) (some_below (both part mask) (8 * m))
       (λ h. let t = some_below-at (masked part mask) m h in to-bits t.0 t.1 t.2)
       (λ h. let t = some_below-at (both part mask) (8 * m) h in from-bits t.0 t.1 t.2)
-
--- the bits of m bytes from byte b on
-taken_bit : (s : List ℕ) (b m q : ℕ) → q < 8 * length (take m (drop b s)) → bit_at (take m (drop b s)) q ≡ bit_at s (8 * b + q)
-unfolding bit_at
-taken_bit s b m q h =
-    let l : q / 8 < m = omega (arith, length-take m (drop b s)) in
-    ap (λ (x : ℕ). digit x (7 - q % 8)) (rw (get_or-take, get_or-drop))
-    ∙ ap₂ (λ (j k : ℕ). digit (get_or s j 0) (7 - k)) (let e : b + q / 8 ≡ (8 * b + q) / 8 = omega arith in e) (let e : q % 8 ≡ (8 * b + q) % 8 = omega arith in e)
-
--- such bytes, whose first own bit is bit d of them and which hold each other one, have a bit of the mask exactly where an own bit is 1
-module _ (s mask : List ℕ) (b m d n : ℕ) (marked : OwnMask mask d n n) (covers : d + n * n ≤ 8 * length (take m (drop b s))) where
-  part : List ℕ
-  part = take m (drop b s)
-
-  to-own : (q : ℕ) → q < 8 * length part → both part mask q ≡ true → some_below (own_packed s (8 * b + d) n) n ≡ true
-  unfolding part
-  to-own q l h =
-      let (i, u, e) = some_below-at (λ i. eqb q (d + i * (n + 1))) n (sym (marked q) ∙ and_right (eqb (bit_at part q) 1) (eqb (bit_at mask q) 1) h) in
-      some_below_by (own_packed s (8 * b + d) n) n i u
-      (ap (λ (x : ℕ). eqb (bit_at s x) 1) (omega (arith, eqb-true q (d + i * (n + 1)) e))
-      ∙ ap (λ (x : ℕ). eqb x 1) (sym (taken_bit s b m q l))
-      ∙ and_left (eqb (bit_at part q) 1) (eqb (bit_at mask q) 1) h)
-
-  from-own : (i : ℕ) → i < n → own_packed s (8 * b + d) n i ≡ true → some_below (both part mask) (8 * length part) ≡ true
-  unfolding part
-  from-own i l h =
-      let q : ℕ = d + i * (n + 1) in
-      let o : q < 8 * length part = omega (arith, within_rows n i l) in
-      some_below_by (both part mask) (8 * length part) q o
-      (and_both (eqb (bit_at part q) 1) (eqb (bit_at mask q) 1)
-      (ap (λ (x : ℕ). eqb x 1) (taken_bit s b m q o) ∙ ap (λ (x : ℕ). eqb (bit_at s x) 1) (omega arith) ∙ h)
-      (marked q ∙ some_below_by (λ k. eqb q (d + k * (n + 1))) n i l (eq-eqb q q refl)))
-
-  pub slice-own : some_below (both (take m (drop b s)) mask) (8 * length (take m (drop b s))) ≡ some_below (own_packed s (8 * b + d) n) n
-  unfolding part
-  slice-own =
-      tests_same (some_below (both part mask) (8 * length part)) (some_below (own_packed s (8 * b + d) n) n)
-      (λ h. let t = some_below-at (both part mask) (8 * length part) h in to-own t.0 t.1 t.2)
-      (λ h. let t = some_below-at (own_packed s (8 * b + d) n) n h in from-own t.0 t.1 t.2)
 
 -- the place of round r's first own bit, where the bits of a round fill whole bytes
 pub whole-bytes : (n r at b size : ℕ) → at ≡ round_place n 0 + 3 * n → 3 * n + n * n ≡ 8 * size → b ≡ at / 8 + r * size → 8 * b + at % 8 ≡ round_place n r + 3 * n

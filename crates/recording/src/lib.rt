@@ -1,7 +1,7 @@
 // A packed recording: the counts of its header, its openings, and the check 1 to 6 that reading, running and grading share.
 #![tactic(auto)]
 
-ghost use Rattle.std.specs.Prelude.{◌≡◌, ◌&&◌, ℕ, ◌+◌, ◌*◌, ◌-◌, ◌%◌, ◌<◌, ◌≤◌, ◌^◌, eqb, length};
+ghost use Rattle.std.specs.Prelude.{◌≡◌, ◌&&◌, ℕ, ◌+◌, ◌*◌, ◌-◌, ◌%◌, ◌<◌, ◌≤◌, ◌^◌, eqb, length, get_or};
 ghost use Rattle.basics.specs.Lists.{some_below};
 ghost use Rattle.recording.specs.Packed.{bit_at, counts_of, opening_place, openings_into, word_place, round_place, word_in, bits_for, bytes_for};
 ghost use Rattle.recording.specs.Checks.{bad_trucks, own_in, own_truck, own_round, Found, own_loss_check, counted_check, check_of};
@@ -118,6 +118,7 @@ struct OwnBits<'a> {
     bytes: &'a [u8],
     trucks: u8,
     rounds: u16,
+    ghost each_fits: { (q : ℕ) → get_or bytes.now q 0 < 256 },
     ghost few_trucks: { trucks ≤ 32 },
     ghost few_rounds: { rounds ≤ 400 },
     ghost all_there: { bits_for trucks rounds ≤ 8 * length bytes.now },

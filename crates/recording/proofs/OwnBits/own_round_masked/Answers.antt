@@ -2,11 +2,12 @@
 use mathlib.Core.Path.{◌≡◌, ap, sym, subst, ◌∙◌}
 use Prim.Native.Nat.{ℕ, min, ◌+◌, ◌-◌, ◌*◌, ◌/◌, ◌%◌, ◌≤◌, ◌<◌}
 use native.Mathlib.Omega.{arith}
-use lib.ListN.{length, drop, length-take, length-drop}
+use lib.ListN.{length}
 use Rattle.recording.specs.Packed.{bit_at, round_place, word_in}
 use Rattle.recording.specs.declared.OwnBits.{OwnBits}
 use Rattle.recording.specs.Checks.{own_in}
-use Rattle.recording.proofs.Masks.{OwnMask, slice-own, whole-bytes}
+use Rattle.recording.proofs.Masks.{OwnMask, whole-bytes}
+use Rattle.recording.proofs.MaskedRounds.{slice-own}
 use Rattle.recording.proofs.Searches.{own_packed, own-packed}
 use Rattle.recording.proofs.Sizes.{rows_within}
 use Rattle.recording.proofs.OwnLoss.{own_looked, own_begins, own_passes, own_at}
@@ -42,13 +43,14 @@ looked c =
     (placed own c.loop-round.round at c.from-n.result c.from.result c.round_bits-size.result c.div_ceil-m.result c.place-at.ensures c.from-n.ensures c.from.ensures c.round_bits-size.ensures c.requires c.loop-round-test.true c.div_ceil-m.ensures))
     c.any_masked.result
     (c.any_masked.ensures
-    ∙ slice-own own.bytes.now c.own_mask-mask.result b (b + m - b) (at % 8) own.trucks
+    ∙ slice-own own.bytes.now c.own_mask-mask.result b (b + m - b) (at % 8) own.trucks own.each_fits
     (subst (λ (n : ℕ). OwnMask c.own_mask-mask.result (at % 8) n n) c.from-n.ensures c.own_mask-mask.ensures)
     (omega (
       arith,
-      length-take (b + m - b) (drop b own.bytes.now),
-      length-drop b own.bytes.now,
       covered own c.loop-round.round at c.from-n.result c.from.result c.round_bits-size.result c.div_ceil-m.result c.place-at.ensures c.from-n.ensures c.from.ensures c.round_bits-size.ensures c.requires c.loop-round-test.true c.div_ceil-m.ensures,
+    ))
+    (omega (
+      arith,
       inside own c.loop-round.round at c.from-n.result c.from.result c.round_bits-size.result c.div_ceil-m.result c.place-at.ensures c.from-n.ensures c.from.ensures c.round_bits-size.ensures c.requires c.loop-round-test.true c.div_ceil-m.ensures,
     )))
 

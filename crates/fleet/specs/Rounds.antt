@@ -62,6 +62,10 @@ event_of phase stop sends mark heard values e = cond stop (stop_event phase) (pl
 abbrev pub event_by : Phase → List ℕ → ℕ → List ℕ → ℕ → ℕ → Event
 event_by phase w senders values e i = event_of phase (stop_bit w i) (bit senders i) (mark_bit w i) (heard_set senders (get_or w (3 + i) 0) i) values e
 
+-- the same, by the estimates that are held
+abbrev pub event_at : Phase → List ℕ → ℕ → List ℕ → List ℕ → ℕ → Event
+event_at phase w senders values held i = event_by phase w senders values (get_or held i 0) i
+
 -- the record of which each truck is brought up to date by what round k is to it
 abbrev pub turned_fleet : Phase → List ℕ → ℕ → List ℕ → ℕ → Fleet → Fleet
 turned_fleet phase w senders values k f =

@@ -89,7 +89,9 @@ pub(crate) fn next_bytes(cycle: Cycle, d: &mut [u8], words: &[u32])
     let done = sound.done();
     let phase = phase_of(cycle, done);
     let mut values = [0u32; 16];
-    let senders = senders_of(phase, words, &sound, &mut values);
+    // nothing asks for these, since a truck in bytes is read again where it is put
+    let mut held = [0u8; 32];
+    let senders = senders_of(phase, words, &sound, &mut values, &mut held);
     let round = Round {
         phase,
         words,

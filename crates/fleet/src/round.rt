@@ -4,7 +4,7 @@ ghost use Rattle.basics.specs.Lists.{filled};
 ghost use Rattle.protocol.specs.Rules.{runs};
 ghost use Rattle.protocol.specs.Fleets.{chosen, step_check_in, next_fleet_in};
 ghost use Rattle.sets.specs.Sets.{Members};
-ghost use Rattle.fleet.specs.Rounds.{six_phase, phase_of, message_in, sends_in, stop_event, event_of, event_by, no_events};
+ghost use Rattle.fleet.specs.Rounds.{six_phase, phase_of, message_in, sends_in, stop_event, event_of, event_by, event_at, no_events};
 ghost use Rattle.playback.specs.Sets.{Sorted, estimates};
 
 use crate::trucks::Trucks;
@@ -71,18 +71,20 @@ fn sends(phase: Phase, t: Truck, stop: bool, active: bool) -> bool
     truck::runs(t) & !stop & has
 }
 
-// The senders of the next round, in one pass with the senders of each crusher. Nobody asks for the crushers' senders but in rounds in which estimates are sent.
-// The caller lends the array of them: a round that is made here with the array in it is copied whole.
+// The senders of the next round, in one pass with the senders of each crusher and the estimate that each truck holds, so that a record is looked at once. Nobody asks
+// for the crushers' senders but in rounds in which estimates are sent. The caller lends the arrays: a round that is made here with an array in it is copied whole.
 pub(crate) fn senders_of<R: Trucks>(
     phase: Phase,
     words: &[u32],
     trucks: &R,
     values: &mut [u32; 16],
+    held: &mut [u8; 32],
 ) -> u32
     requires { ((R.fleet trucks.now).n ≤ 32) × (length words.now ≡ 3 + (R.fleet trucks.now).n)
         × ((j : ℕ) → j < (R.fleet trucks.now).n → estimates (R.fleet trucks.now).trucks j < 16) × (values.old ≡ replicate 16 0) }
     ensures senders { Members result (R.fleet trucks.now).n (sends_in phase words.now (R.fleet trucks.now).trucks) }
     ensures sorted { Sorted values.new (R.fleet trucks.now).n result (estimates (R.fleet trucks.now).trucks) }
+    ensures kept { held.new ≡ filled (estimates (R.fleet trucks.now).trucks) (R.fleet trucks.now).n held.old }
 {
     let stop = words[0];
     let active = words[1];
@@ -91,6 +93,7 @@ pub(crate) fn senders_of<R: Trucks>(
         let t = trucks.truck(i);
         let joins = sends(phase, t, sets::holds(stop, i), sets::holds(active, i));
         let c = t.estimate as usize;
+        held[i] = t.estimate;
         senders = sets::union_where(senders, sets::only(i), joins);
         values[c] = sets::union_where(values[c], sets::only(i), joins);
     }
@@ -166,15 +169,14 @@ impl<'a> Round<'a> {
         )
     }
 
-    // What the round is to each truck of a fleet.
-    fn events_of(&self, f: &Fleet) -> [Event; 32]
-        requires { (f.now.n ≤ 32) × (length self.now.words.now ≡ 3 + f.now.n) }
-        ensures { result
-            ≡ filled (λ i. event_by self.now.phase self.now.words.now self.now.senders self.now.values.now (estimates f.now.trucks i) i) f.now.n no_events }
+    // What the round is to each of n trucks, by the estimates that they hold.
+    fn events_of(&self, n: u8, held: &[u8; 32]) -> [Event; 32]
+        requires { (n ≤ 32) × (length self.now.words.now ≡ 3 + n) }
+        ensures { result ≡ filled (event_at self.now.phase self.now.words.now self.now.senders self.now.values.now held.now) n no_events }
     {
         let mut events = [Event::Stop; 32];
-        for i in 0..fleetrecord::places(f.n) {
-            events[i] = self.event_by(f.trucks[i].estimate, i);
+        for i in 0..fleetrecord::places(n) {
+            events[i] = self.event_by(held[i], i);
         }
         events
     }
@@ -188,14 +190,15 @@ pub(crate) fn next_fleet(cycle: Cycle, f: Fleet, words: &[u32]) -> Fleet
 {
     let phase = phase_of(cycle, f.done);
     let mut values = [0u32; 16];
-    let senders = senders_of(phase, words, &f, &mut values);
+    let mut held = [0u8; 32];
+    let senders = senders_of(phase, words, &f, &mut values, &mut held);
     let round = Round {
         phase,
         words,
         senders,
         values: &values,
     };
-    let events = round.events_of(&f);
+    let events = round.events_of(f.n, &held);
     let done = f.done + 1;
     let mut fleet = truck::update_first(f, f.n as usize, done, events);
     fleet.done = done;

@@ -4,12 +4,20 @@
 ghost use Rattle.std.specs.Prelude.{◌&&◌, ◌≡◌, ◌≤◌, length, Err, min};
 ghost use Rattle.basics.specs.Bits.{odd};
 ghost use Rattle.basics.specs.Lists.{all_below};
+ghost use Rattle.protocol.specs.declared.State.TheVariants.{Running};
 ghost use Rattle.protocol.specs.Rules.{opened, truck};
 ghost use Rattle.protocol.specs.Fleets.{blank, started, is_empty, two_memory, six_memory, two_counts, chosen, good_state_in, good_truck_in, good_fleet_in};
 ghost use Rattle.fleetrecord.specs.Opens.{open_fleet};
 
 use protocol::{Answer, Cycle, Fleet, Heard, Sent, State, Truck};
 use refusals::Refusal;
+
+// Running, by a function: by it a truck's state is copied whole, its unused number with it, and the array of `blank` is one fill of zeros.
+fn running() -> State
+    ensures { result ≡ Running }
+{
+    State::Running
+}
 
 // A truck of a fleet that starts.
 pub fn opened(v: u8) -> Truck
@@ -21,7 +29,7 @@ pub fn opened(v: u8) -> Truck
         mark: false,
         heard: Heard::Nothing,
         unwilling: false,
-        state: State::Running,
+        state: running(),
         sent: Sent {
             proposals: 0,
             vetoes: 0,

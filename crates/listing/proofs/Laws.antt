@@ -2,14 +2,14 @@
 use mathlib.Core.Path.{◌≡◌, refl, ap, sym, ◌∙◌}
 use mathlib.Core.Bool.{Bool, true, false, cond}
 use mathlib.Core.List.{List, [], ◌∷◌, ◌++◌, append_assoc}
-use Prim.Native.Nat.{ℕ, ◌+◌, ◌/◌, ◌%◌, ◌^◌, ◌≤◌, ◌<◌}
+use Prim.Native.Nat.{ℕ, zero, suc, ◌+◌, ◌/◌, ◌%◌, ◌^◌, ◌≤◌, ◌<◌}
 use native.Mathlib.Omega.{arith}
 use borrow.Author.Tests.{lt-ltb, le-ltb, leb-true}
-use lib.Dec.{leb}
+use lib.Dec.{leb, ltb}
 use Rattle.std.specs.Prelude.{Result, Ok, Err}
 use Rattle.std.specs.Fmt as fmt
 use Rattle.std.proofs.lemmas.Fmt.{decimal_from_appends, decimal_digit, decimal_step, length-decimal-le}
-use lib.ListN.{length, drop}
+use lib.ListN.{length, drop, length-append}
 use Rattle.protocol.specs.declared.Truck.{Truck}
 use Rattle.listing.specs.Text.{text, decimal_in, decimal, state_text, sent_text, truck_line, listing_of, refusal_text}
 use Rattle.refusals.specs.declared.Refusal.TheVariants.{ShortBuffer}
@@ -38,9 +38,20 @@ pub decimal_more : (k : ℕ) → 10 ≤ k → k < 2 ^ 16 → decimal k ≡ decim
 decimal_more k h l =
     decimal_is k l ∙ decimal_step k h (omega arith) ∙ ap (λ (x : List ℕ). x ++ ((48 + k % 10) ∷ [])) (sym (decimal_is (k / 10) (omega arith)))
 
--- no number of 16 bits takes more than five places, and none more than four before its last digit
-pub length_decimal : (k : ℕ) → k < 2 ^ 16 → length (decimal k) ≤ 5
-length_decimal k h = rw (decimal_is k h) (length-decimal-le 5 k (omega arith) (omega arith) (omega arith))
+-- no number takes more than five places, and none of 16 bits more than four before its last digit
+length_in : (f k : ℕ) → length (decimal_in f k) ≤ f
+unfolding decimal_in
+length_in zero k = omega arith
+length_in (suc f) k = go (ltb k 10) (length_in f (k / 10))
+  where
+    go : (b : Bool) → length (decimal_in f (k / 10)) ≤ f
+        → length (cond b ((48 + k) ∷ []) (decimal_in f (k / 10) ++ ((48 + k % 10) ∷ []))) ≤ suc f
+    go true h = omega arith
+    go false h = omega (arith, length-append (decimal_in f (k / 10)) ((48 + k % 10) ∷ []))
+
+pub length_decimal : (k : ℕ) → length (decimal k) ≤ 5
+unfolding decimal
+length_decimal k = length_in 5 k
 
 pub length_tenth : (k : ℕ) → k < 2 ^ 16 → length (decimal (k / 10)) ≤ 4
 length_tenth k h = rw (decimal_is (k / 10) (omega arith)) (length-decimal-le 4 (k / 10) (omega arith) (omega arith) (omega arith))

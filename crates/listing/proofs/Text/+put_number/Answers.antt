@@ -22,4 +22,4 @@ pub returns : goal.returns
 returns g t c = let e : c.put.new.self ≡ c.args.self.now ++ decimal c.args.k = elim c.if-k-ge10.branch [
   | then-k-ge10 w ↦ rw (c.put.ensures, w.self-is, w.put_number.ensures.placed, append_assoc, decimal_more c.args.k w.if-k-ge10.true c.ranges.k.fits)
   | else-k-ge10 w ↦ rw (c.put.ensures, w.self-is, decimal_small c.args.k w.if-k-ge10.false)
-] in record { placed = e; within = rw (e, length-append) (omega (arith, length_decimal c.args.k c.ranges.k.fits)) }
+] in record { placed = e; within = rw (e, length-append) (omega (arith, length_decimal c.args.k)) }

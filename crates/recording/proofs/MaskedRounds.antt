@@ -9,7 +9,7 @@ use native.Mathlib.Omega.{arith}
 use borrow.Author.Tests.{eqb-true, eq-eqb}
 use lib.Bits.{bit_and, and_le_l}
 use lib.Dec.{eqb, lit<}
-use lib.ListN.{length, get_or, take, drop, length-take, length-drop}
+use lib.ListN.{length, get_or, take, drop, length-take}
 use Rattle.basics.specs.Bits.{bit}
 use Rattle.basics.specs.Lists.{some_below}
 use Rattle.std.proofs.lemmas.List.{get_or-take, get_or_past}
@@ -84,12 +84,10 @@ cut_bytes s b m bytes q = go (dec_lt q (length (take m (drop b s))))
     go (no h) = rw (get_or_past (take m (drop b s)) q 0 (omega (arith, h))) (lit< tt)
 
 -- such bytes, cut out of a recording, have a bit of the mask exactly where an own bit of the round is 1
-pub slice-own : (s mask : List ℕ) (b m d n : ℕ) → ((q : ℕ) → get_or s q 0 < 256) → OwnMask mask d n n → d + n * n ≤ 8 * m → b + m ≤ length s
+pub slice-own : (s mask : List ℕ) (b m d n : ℕ) → ((q : ℕ) → get_or s q 0 < 256) → OwnMask mask d n n → d + n * n ≤ 8 * length (take m (drop b s))
     → some_below (both (take m (drop b s)) mask) (8 * length (take m (drop b s))) ≡ some_below (own_packed s (8 * b + d) n) n
-slice-own s mask b m d n bytes marked covers there =
-    let all : length (take m (drop b s)) ≡ m = omega (arith, length-take m (drop b s), length-drop b s) in
+slice-own s mask b m d n bytes marked covers =
     sym (masked-bits (take m (drop b s)) mask (length (take m (drop b s))) (cut_bytes s b m bytes))
-    ∙ ap (some_below (masked (take m (drop b s)) mask)) all
-    ∙ some_ext (masked (take m (drop b s)) mask) (masked_at s b mask) m
-    (λ j l. ap (λ (x : ℕ). not (eqb (bit_and x (get_or mask j 0)) 0)) (cut_at s b m j l))
-    ∙ masked-own s mask b m d n bytes marked covers
+    ∙ some_ext (masked (take m (drop b s)) mask) (masked_at s b mask) (length (take m (drop b s)))
+    (λ j l. ap (λ (x : ℕ). not (eqb (bit_and x (get_or mask j 0)) 0)) (cut_at s b m j (omega (arith, l, length-take m (drop b s)))))
+    ∙ masked-own s mask b (length (take m (drop b s))) d n bytes marked covers

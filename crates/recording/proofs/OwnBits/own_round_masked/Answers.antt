@@ -2,7 +2,7 @@
 use mathlib.Core.Path.{◌≡◌, ap, sym, subst, ◌∙◌}
 use Prim.Native.Nat.{ℕ, min, ◌+◌, ◌-◌, ◌*◌, ◌/◌, ◌%◌, ◌≤◌, ◌<◌}
 use native.Mathlib.Omega.{arith}
-use lib.ListN.{length}
+use lib.ListN.{length, drop, length-take, length-drop}
 use Rattle.recording.specs.Packed.{bit_at, round_place, word_in}
 use Rattle.recording.specs.declared.OwnBits.{OwnBits}
 use Rattle.recording.specs.Checks.{own_in}
@@ -47,10 +47,9 @@ looked c =
     (subst (λ (n : ℕ). OwnMask c.own_mask-mask.result (at % 8) n n) c.from-n.ensures c.own_mask-mask.ensures)
     (omega (
       arith,
+      length-take (b + m - b) (drop b own.bytes.now),
+      length-drop b own.bytes.now,
       covered own c.loop-round.round at c.from-n.result c.from.result c.round_bits-size.result c.div_ceil-m.result c.place-at.ensures c.from-n.ensures c.from.ensures c.round_bits-size.ensures c.requires c.loop-round-test.true c.div_ceil-m.ensures,
-    ))
-    (omega (
-      arith,
       inside own c.loop-round.round at c.from-n.result c.from.result c.round_bits-size.result c.div_ceil-m.result c.place-at.ensures c.from-n.ensures c.from.ensures c.round_bits-size.ensures c.requires c.loop-round-test.true c.div_ceil-m.ensures,
     )))
 
